@@ -1,1 +1,10 @@
 pub mod Word
+pub mod Formula
+pub mod WordLaws
+pub mod Rotation
+pub mod Tab
+pub mod Iterate
+pub mod Fill
+pub mod Table
+pub mod Bounded
+pub mod Numeral

@@ -1,0 +1,51 @@
+-- Positional numerals to any base, the lowest digit first: bits are to base 2, bytes to base 256.
+use mathlib.Core.Path.{_≡_, refl, sym, ap, ap₂, _∙_}
+use mathlib.Core.List.{List, [], _∷_, _++_}
+use Prim.Native.Nat.{ℕ, zero, suc, _+_, _*_, _/_, _%_, _^_, _<_}
+use native.Mathlib.Nat.{mod-one, pow-zero, pow-suc, one-le-pow}
+use native.Mathlib.Omega.{arith}
+use lib.Arith.{digits-div, digits-mod, digits-lt, mod-mul}
+use lib.ListN.{length, getD}
+use Rattle.words.specs.Bounded.{Below, below-head, below-tail}
+
+-- the number with these digits
+unfoldable pub value : ℕ → List ℕ → ℕ
+value b [] = 0
+value b (x ∷ l) = x + value b l * b
+
+-- the n lowest digits of x
+unfoldable pub digits : ℕ → ℕ → ℕ → List ℕ
+digits b zero x = []
+digits b (suc n) x = x % b ∷ digits b n (x / b)
+
+pub length-digits : (b n x : ℕ) → length (digits b n x) ≡ n
+unfolding digits
+length-digits b zero x = refl
+length-digits b (suc n) x = ap suc (length-digits b n (x / b))
+
+swap : {b x : ℕ} (v : ℕ) → x < b → (x + v * b) / b ≡ v
+swap {b} {x} v h = ap (λ (n : ℕ). n / b) (omega arith) ∙ digits-div v h
+
+swap-mod : {b x : ℕ} (v : ℕ) → x < b → (x + v * b) % b ≡ x
+swap-mod {b} {x} v h = ap (λ (n : ℕ). n % b) (omega arith) ∙ digits-mod v h
+
+pub digits-value : (b : ℕ) (l : List ℕ) → Below b l → digits b (length l) (value b l) ≡ l
+unfolding digits value
+digits-value b [] h = refl
+digits-value b (x ∷ l) h =
+    rw (swap (value b l) (below-head h), swap-mod (value b l) (below-head h)) (ap (λ (m : List ℕ). x ∷ m) (digits-value b l (below-tail h)))
+
+pub value-digits : (b n x : ℕ) → 0 < b → value b (digits b n x) ≡ x % b ^ n
+unfolding digits value
+value-digits b zero x h = rw pow-zero (sym (mod-one x))
+value-digits b (suc n) x h =
+    ap (λ (v : ℕ). x % b + v * b) (value-digits b n (x / b) h)
+    ∙ (let e = mod-mul x (one-le-pow n b h) h in omega arith)
+    ∙ ap (λ (m : ℕ). x % m) (sym (pow-suc b n))
+
+pub value-lt : (b : ℕ) (l : List ℕ) → Below b l → value b l < b ^ length l
+unfolding value
+value-lt b [] h = rw pow-zero (omega arith)
+value-lt b (x ∷ l) h =
+    rw (pow-suc b (length l))
+    (let e = digits-lt (value-lt b l (below-tail h)) (below-head h) in omega arith)

@@ -1,0 +1,51 @@
+-- The list f 0, f 1, .., f (n - 1).
+use mathlib.Core.Path.{_≡_, refl, sym, ap, ap₂, _∙_}
+use mathlib.Core.List.{List, [], _∷_, _++_, map}
+use Prim.Native.Nat.{ℕ, zero, suc, _+_, _-_, _<_, _≤_}
+use native.Mathlib.Decide.{decLt}
+use native.Mathlib.Omega.{arith}
+use lib.ListN.{length, getD, take, drop, length-append, length-take, length-drop, List·getD-append}
+use lib.Seq.{getD-at, getD-take, getD-drop, ext-getD}
+
+module _ {A : Type 0} where
+  unfoldable pub tab : ℕ → (ℕ → A) → List A
+  tab zero f = []
+  tab (suc n) f = tab n f ++ f n ∷ []
+
+  pub length-tab : (n : ℕ) (f : ℕ → A) → length (tab n f) ≡ n
+  unfolding tab
+  length-tab zero f = refl
+  length-tab (suc n) f = length-append (tab n f) (f n ∷ []) ∙ omega (arith, length-tab n f)
+
+  pub getD-tab : (n : ℕ) (f : ℕ → A) (i : ℕ) (d : A) → i < n → getD (tab n f) i d ≡ f i
+  unfolding tab
+  getD-tab zero f i d h = absurd (omega arith)
+  getD-tab (suc n) f i d h = go (decLt i n) (getD-tab n f i d)
+    where
+      go : Dec (i < n) → (i < n → getD (tab n f) i d ≡ f i) → getD (tab n f ++ f n ∷ []) i d ≡ f i
+      go (yes p) r = List·getD-append (tab n f) (f n ∷ []) d i (rw (length-tab n f) p) ∙ r p
+      go (no p) r = let e : i ≡ n = omega arith in rw e (getD-at (tab n f) (f n) [] d n (length-tab n f))
+
+  pub tab-cong : (n : ℕ) {f g : ℕ → A} → ((i : ℕ) → i < n → f i ≡ g i) → tab n f ≡ tab n g
+  unfolding tab
+  tab-cong zero e = refl
+  tab-cong (suc n) e =
+      ap₂ (λ (l : List A) (x : A). l ++ x ∷ []) (tab-cong n (λ i h. e i (omega arith))) (e n (omega arith))
+
+  -- a list is tabulated by its elements
+  pub tab-of : (d : A) (l : List A) (n : ℕ) {f : ℕ → A} → length l ≡ n → ((i : ℕ) → i < n → getD l i d ≡ f i) → l ≡ tab n f
+  tab-of d l n {f} e h =
+      ext-getD d l (tab n f) (e ∙ sym (length-tab n f))
+      (λ i g. let k : i < n = omega arith in h i k ∙ sym (getD-tab n f i d k))
+
+  -- n elements from a on
+  pub part-tab : (a n m : ℕ) (f : ℕ → A) → a + n ≤ m → take n (drop a (tab m f)) ≡ tab n (λ i. f (a + i))
+  part-tab a n m f h =
+      tab-of (f 0) _ n
+      (length-take n (drop a (tab m f)) ∙ omega (arith, length-drop a (tab m f), length-tab m f))
+      (λ i g. getD-take n (drop a (tab m f)) i (f 0) g ∙ getD-drop a (tab m f) i (f 0) ∙ getD-tab m f (a + i) (f 0) (omega arith))
+
+pub map-tab : {A B : Type 0} (g : A → B) (n : ℕ) (f : ℕ → A) → map g (tab n f) ≡ tab n (λ i. g (f i))
+map-tab {A} {B} g n f =
+    tab-of (g (f 0)) _ n (lib.ListN.length-map (tab n f) g ∙ length-tab n f)
+    (λ i h. lib.ListN.List·getD-map g (tab n f) i (f 0) ∙ ap g (getD-tab n f i (f 0) h))
