@@ -1,6 +1,6 @@
 -- Identities of xor and and, for every width at once. A formula stands for a word made of other words; two formulas that agree on
 -- all zeros and ones of their words, which is computed, agree on all words.
-use mathlib.Core.Path.{_≡_, refl, sym, ap, ap₂, _∙_}
+use mathlib.Core.Path.{_≡_, refl, sym, ap₂, _∙_}
 use mathlib.Core.List.{List, [], _∷_, map}
 use mathlib.Core.Bool.{Bool, true, false, _&&_}
 use mathlib.Core.Logic.{_⊎_, inl, inr}

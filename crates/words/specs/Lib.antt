@@ -8,3 +8,6 @@ pub mod Fill
 pub mod Table
 pub mod Bounded
 pub mod Numeral
+pub mod Digit
+pub mod Plane
+pub mod Residue

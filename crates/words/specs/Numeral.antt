@@ -1,11 +1,12 @@
 -- Positional numerals to any base, the lowest digit first: bits are to base 2, bytes to base 256.
-use mathlib.Core.Path.{_≡_, refl, sym, ap, ap₂, _∙_}
-use mathlib.Core.List.{List, [], _∷_, _++_}
+use mathlib.Core.Path.{_≡_, refl, sym, ap, _∙_}
+use mathlib.Core.List.{List, [], _∷_}
 use Prim.Native.Nat.{ℕ, zero, suc, _+_, _*_, _/_, _%_, _^_, _<_}
-use native.Mathlib.Nat.{mod-one, pow-zero, pow-suc, one-le-pow}
+use native.Mathlib.Nat.{mod-one, div-one, pow-zero, pow-suc, pow-succ', one-le-pow, div-div-eq-div-mul}
 use native.Mathlib.Omega.{arith}
 use lib.Arith.{digits-div, digits-mod, digits-lt, mod-mul}
 use lib.ListN.{length, getD}
+use Rattle.words.specs.Tab.{tab, tab-of}
 use Rattle.words.specs.Bounded.{Below, below-head, below-tail}
 
 -- the number with these digits
@@ -23,17 +24,18 @@ unfolding digits
 length-digits b zero x = refl
 length-digits b (suc n) x = ap suc (length-digits b n (x / b))
 
-swap : {b x : ℕ} (v : ℕ) → x < b → (x + v * b) / b ≡ v
-swap {b} {x} v h = ap (λ (n : ℕ). n / b) (omega arith) ∙ digits-div v h
+-- the lowest digit, and the number above it
+pub value-tail : {b x : ℕ} (v : ℕ) → x < b → (x + v * b) / b ≡ v
+value-tail {b} {x} v h = ap (λ (n : ℕ). n / b) (omega arith) ∙ digits-div v h
 
-swap-mod : {b x : ℕ} (v : ℕ) → x < b → (x + v * b) % b ≡ x
-swap-mod {b} {x} v h = ap (λ (n : ℕ). n % b) (omega arith) ∙ digits-mod v h
+pub value-head : {b x : ℕ} (v : ℕ) → x < b → (x + v * b) % b ≡ x
+value-head {b} {x} v h = ap (λ (n : ℕ). n % b) (omega arith) ∙ digits-mod v h
 
 pub digits-value : (b : ℕ) (l : List ℕ) → Below b l → digits b (length l) (value b l) ≡ l
 unfolding digits value
 digits-value b [] h = refl
 digits-value b (x ∷ l) h =
-    rw (swap (value b l) (below-head h), swap-mod (value b l) (below-head h)) (ap (λ (m : List ℕ). x ∷ m) (digits-value b l (below-tail h)))
+    rw (value-tail (value b l) (below-head h), value-head (value b l) (below-head h)) (ap (λ (m : List ℕ). x ∷ m) (digits-value b l (below-tail h)))
 
 pub value-digits : (b n x : ℕ) → 0 < b → value b (digits b n x) ≡ x % b ^ n
 unfolding digits value
@@ -49,3 +51,13 @@ value-lt b [] h = rw pow-zero (omega arith)
 value-lt b (x ∷ l) h =
     rw (pow-suc b (length l))
     (let e = digits-lt (value-lt b l (below-tail h)) (below-head h) in omega arith)
+
+pub getD-digits : (b n x i : ℕ) → i < n → getD (digits b n x) i 0 ≡ x / b ^ i % b
+unfolding digits
+getD-digits b zero x i h = absurd (omega arith)
+getD-digits b (suc n) x zero h = rw (pow-zero, div-one)
+getD-digits b (suc n) x (suc i) h =
+    getD-digits b n (x / b) i (omega arith) ∙ ap (λ (y : ℕ). y % b) (div-div-eq-div-mul x b (b ^ i) ∙ ap (λ (m : ℕ). x / m) (sym (pow-succ' b i)))
+
+pub digits-tab : (b n x : ℕ) → digits b n x ≡ tab n (λ i. x / b ^ i % b)
+digits-tab b n x = tab-of 0 (digits b n x) n (length-digits b n x) (λ i h. getD-digits b n x i h)

@@ -1,13 +1,13 @@
 -- The laws of xor, and and complement: identities, widths, and what stands for the language's own operators.
-use mathlib.Core.Path.{_≡_, sym, ap, ap₂, _∙_, subst}
-use mathlib.Core.List.{List, [], _∷_}
-use Prim.Native.Nat.{ℕ, _+_, _-_, _*_, _/_, _%_, _^_, _<_, _≤_}
+use mathlib.Core.Path.{_≡_, _∙_, subst}
+use mathlib.Core.List.{[], _∷_}
+use Prim.Native.Nat.{ℕ, _+_, _-_, _*_, _/_, _^_, _≤_}
 use native.Mathlib.Nat.{mod-eq-of-lt, mod-lt, lt-of-lt-of-le}
 use native.Mathlib.Omega.{arith}
 use lib.Pow.{pow-pos, pow-mono, ones-lt, shr-lt}
-use lib.Bits.{bitXor, bitAnd, xor-lt, and-lt, xor-self, xor-zero-r, xor-zero-l, xor-add-and, and-mask, xor-mod, xor-shr}
+use lib.Bits.{bitXor, bitAnd, xor-lt, and-lt, xor-self, xor-zero-r, xor-zero-l, xor-add-and, and-mask, xor-mod, xor-shr, and-shr}
 use Rattle.words.specs.Word.{Bits, xor, and, ones, complement, low}
-use Rattle.words.specs.Formula.{boole, Formula, at, _⊕_, _⊗_}
+use Rattle.words.specs.Formula.{boole, at, _⊕_, _⊗_}
 
 -- ---- identities
 
@@ -105,6 +105,10 @@ low-xor n x y = xor-mod x y n
 pub xor-shift : (n x y : ℕ) → xor x y / 2 ^ n ≡ xor (x / 2 ^ n) (y / 2 ^ n)
 unfolding xor
 xor-shift n x y = xor-shr x y n
+
+pub and-shift : (n x y : ℕ) → and x y / 2 ^ n ≡ and (x / 2 ^ n) (y / 2 ^ n)
+unfolding and
+and-shift n x y = and-shr x y n
 
 pub and-ones : {n x : ℕ} → Bits n x → and x (ones n) ≡ x
 unfolding and ones
