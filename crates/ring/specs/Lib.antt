@@ -1,0 +1,5 @@
+pub mod Bytes
+pub mod Compress
+pub mod Polynomial
+pub mod Transform
+pub mod Sample

@@ -1,0 +1,1 @@
+// FIPS 203's arithmetic.
