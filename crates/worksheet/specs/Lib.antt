@@ -1,0 +1,5 @@
+pub mod Prog
+pub mod Run
+pub mod Recording
+pub mod Ran
+pub mod RanLoops

@@ -1,0 +1,54 @@
+-- Programs that draw masks and enter values.
+-- A strip is a list of masks, lent in advance and drawn strictly in order: one strip of words, one of coefficients.
+-- An entry, or step, is a value that is written down; the worksheet is the list of all entries, and steps count from 0.
+use Prim.Native.Nat.{ℕ, zero, suc, _^_}
+use mathlib.Core.Path.{_≡_, refl, ap, fun-ext}
+use mathlib.Core.List.{List, [], _∷_, _++_}
+use lib.ListN.{getD}
+
+pub data Mask : Type 0 where
+  word coeff : Mask
+
+-- a mask of each kind is a number below this
+abbrev pub bound : Mask → ℕ
+bound word = 2 ^ 64
+bound coeff = 3329
+
+pub data Prog (A : Type 0) : Type 0 where
+  ret : A → Prog A
+  draw : Mask → (ℕ → Prog A) → Prog A
+  enter : ℕ → Prog A → Prog A
+
+infixl 10 _>>=_
+
+unfoldable pub _>>=_ : {A B : Type 0} → Prog A → (A → Prog B) → Prog B
+_>>=_ (ret a) f = f a
+_>>=_ (draw m k) f = draw m (λ x. k x >>= f)
+_>>=_ (enter v p) f = enter v (p >>= f)
+
+-- draws the next mask and hands it back
+unfoldable pub mask : Mask → Prog ℕ
+mask m = draw m ret
+
+-- enters v and hands it back
+unfoldable pub entry : ℕ → Prog ℕ
+entry v = enter v (ret v)
+
+-- n turns that hand on a state; f j is turn j
+unfoldable pub loop : {S : Type 0} → ℕ → (ℕ → S → Prog S) → S → Prog S
+loop zero f s = ret s
+loop (suc n) f s = loop n f s >>= f n
+
+-- the results of turns 0, 1, .. n - 1
+unfoldable pub times : {A : Type 0} → ℕ → (ℕ → Prog A) → Prog (List A)
+times n f = loop n (λ j ys. f j >>= λ y. ret (ys ++ y ∷ [])) []
+
+-- n turns that hand on a state, and all states, the first and the last with them
+unfoldable pub chain : {S : Type 0} → ℕ → (ℕ → S → Prog S) → S → Prog (List S)
+chain n f s = loop n (λ j ts. f j (getD ts j s) >>= λ t. ret (ts ++ t ∷ [])) (s ∷ [])
+
+pub bind-assoc : {A B C : Type 0} (p : Prog A) (f : A → Prog B) (g : B → Prog C) → p >>= f >>= g ≡ p >>= (λ a. f a >>= g)
+unfolding _>>=_
+bind-assoc (ret a) f g = refl
+bind-assoc (draw m k) f g = ap (draw m) (fun-ext (λ x. bind-assoc (k x) f g))
+bind-assoc (enter v p) f g = ap (enter v) (bind-assoc p f g)
