@@ -20,7 +20,6 @@ pub data Prog (A : Type 0) : Type 0 where
   enter : ℕ → Prog A → Prog A
 
 infixl 10 _>>=_
-
 unfoldable pub _>>=_ : {A B : Type 0} → Prog A → (A → Prog B) → Prog B
 _>>=_ (ret a) f = f a
 _>>=_ (draw m k) f = draw m (λ x. k x >>= f)

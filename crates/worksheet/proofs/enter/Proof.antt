@@ -1,15 +1,9 @@
-use borrow.Author.Needs.{needs}
+use Rattle.worksheet.specs.Ran.{enters}
 use Rattle.worksheet.proofs.enter.Statement.{statement}
 use Rattle.worksheet.proofs.enter.Tie as tie
-use Rattle.worksheet.proofs.enter.Reads as reads
-use Rattle.worksheet.proofs.enter.Lts as lts
-use Rattle.worksheet.proofs.note.Reads as note-reads
-
-note-requires : tie.Need-note-requires
-note-requires c κs = search needs
 
 returns : tie.Need-returns
-returns c = ?
+returns c ws cs = rw (c .note .ensures) enters
 
 pub enter-spec : {M : Type 1} → statement M
-enter-spec = tie.close (tie.spec note-requires returns)
+enter-spec = tie.close (tie.spec (λ c κs. tt) returns)

@@ -1,15 +1,10 @@
 use borrow.Author.Needs.{needs}
+use Rattle.words.specs.WordLaws.{complement-sub}
 use Rattle.worksheet.proofs.enter_complement.Statement.{statement}
 use Rattle.worksheet.proofs.enter_complement.Tie as tie
-use Rattle.worksheet.proofs.enter_complement.Reads as reads
-use Rattle.worksheet.proofs.enter_complement.Lts as lts
-use Rattle.worksheet.proofs.enter.Reads as enter-reads
-
-enter-requires : tie.Need-enter-requires
-enter-requires c κs = search needs
 
 returns : tie.Need-returns
-returns c = ?
+returns c = rw (complement-sub {n = 64} {x = c .before .args .x} (record { lt = search needs })) (c .enter .ensures)
 
 pub enter-complement-spec : {M : Type 1} → statement M
-enter-complement-spec = tie.close (tie.spec enter-requires returns)
+enter-complement-spec = tie.close (tie.spec (λ c κs. tt) returns)
