@@ -1,0 +1,66 @@
+-- Parts of the worksheet, and how they compose.
+use Prim.Native.Nat.{ℕ, zero, suc, _+_, _*_, _<_}
+use native.Mathlib.Nat.{zero-mul, suc-mul}
+use native.Mathlib.Omega.{arith}
+use Rattle.worksheet.specs.Prog.{Prog, ret, _>>=_, loop}
+use Rattle.worksheet.specs.Couple.{Coupled, ret-c, Like, SameAt, coupled-bind, sameAt-left, sameAt-right, coupled-map, sameAt-map}
+use Rattle.worksheet.specs.Places.{cut}
+
+-- f and f′ run on what comes in under the one key and under the other, and make m entries. R e is a choice of how what comes
+-- in is related, S d of how what goes out is.
+pub record Stage {A B C D E F : Type 0} (R : E → A → B → Type 0) (S : F → C → D → Type 0) (m : ℕ) (f : A → Prog C) (f′ : B → Prog D) : Type 0 where
+  -- whatever comes in, they draw and enter alike
+  pub like : (a : A) (b : B) → Like m (f a) (f′ b)
+  -- for each entry there is a choice under which it is equal
+  pub entry : (i : ℕ) → i < m → (e : E) × ((a : A) (b : B) → R e a b → SameAt i (f a) (f′ b))
+  -- for each choice of what goes out there is one of what comes in
+  pub fresh : (d : F) → (e : E) × ((a : A) (b : B) → R e a b → Coupled (S d) m (f a) (f′ b))
+
+module _ {A B C D G H E F K : Type 0} {R : E → A → B → Type 0} {S : F → C → D → Type 0} {Q : K → G → H → Type 0} where
+  pub andThen : {m n : ℕ} {f : A → Prog C} {f′ : B → Prog D} {g : C → Prog G} {g′ : D → Prog H}
+      → Stage R S m f f′ → Stage S Q n g g′ → Stage R Q (m + n) (λ a. f a >>= g) (λ b. f′ b >>= g′)
+  andThen {m} {n} {f} {f′} {g} {g′} s t =
+      record {
+        like = λ a b. coupled-bind (s .like a b) (λ c d u. t .like c d);
+        entry =
+            cut (λ i. (e : E) × ((a : A) (b : B) → R e a b → SameAt i (f a >>= g) (f′ b >>= g′))) m n
+            (λ i h. let x = s .entry i h in (x .0, λ a b r. sameAt-left (x .1 a b r) (t .like)))
+            (λ i h.
+            let y = t .entry i h in
+            let x = s .fresh (y .0) in (x .0, λ a b r. sameAt-right (x .1 a b r) (y .1)));
+        fresh = λ d.
+            let y = t .fresh d in
+            let x = s .fresh (y .0) in (x .0, λ a b r. coupled-bind (x .1 a b r) (y .1));
+      }
+
+-- n turns, where R j e is a choice for the state before turn j
+pub loop-stage : {A B E : Type 0} {R : ℕ → E → A → B → Type 0} {m : ℕ} (n : ℕ) {f : ℕ → A → Prog A} {f′ : ℕ → B → Prog B}
+    → ((j : ℕ) → j < n → Stage (R j) (R (suc j)) m (f j) (f′ j)) → Stage (R 0) (R n) (n * m) (loop n f) (loop n f′)
+unfolding loop
+loop-stage {m = m} zero h =
+    rw (zero-mul m) (record { like = λ a b. ret-c tt; entry = λ i lt. absurd (omega arith); fresh = λ d. (d, λ a b r. ret-c r) })
+loop-stage {m = m} (suc n) h = rw (suc-mul n m) (andThen (loop-stage n (λ j lt. h j (omega arith))) (h n (omega arith)))
+
+-- a choice for what is worked on and one for what is kept beside it
+pub record Beside {A B E G H K : Type 0} (R : E → A → B → Type 0) (Q : K → G → H → Type 0) (e : E × K) (a : A × G) (b : B × H) : Type 0 where
+  pub main : R (e .0) (a .0) (b .0)
+  pub side : Q (e .1) (a .1) (b .1)
+
+abbrev pub beside : {A C G : Type 0} → (A → Prog C) → A × G → Prog (C × G)
+beside f a = f (a .0) >>= λ c. ret (c, a .1)
+
+module _ {A B C D G H E F K : Type 0} {R : E → A → B → Type 0} {S : F → C → D → Type 0} {Q : K → G → H → Type 0} where
+  pub frame : (k : K) {m : ℕ} {f : A → Prog C} {f′ : B → Prog D} → Stage R S m f f′ → Stage (Beside R Q) (Beside S Q) m (beside f) (beside f′)
+  frame k s =
+      record {
+        like = λ a b. coupled-map _ _ (λ c d u. u) (s .like (a .0) (b .0));
+        entry = λ i h. let x = s .entry i h in ((x .0, k), λ a b r. sameAt-map _ _ (x .1 (a .0) (b .0) (r .main)));
+        fresh = λ d.
+            let x = s .fresh (d .0) in
+            ((x .0, d .1), λ a b r. coupled-map _ _ (λ u v t. record { main = t; side = r .side }) (x .1 (a .0) (b .0) (r .main)));
+      }
+
+-- what is live, rearranged: no entries
+pub moves : {A B C D E F : Type 0} {R : E → A → B → Type 0} {S : F → C → D → Type 0} {g : A → C} {g′ : B → D}
+    → ((d : F) → (e : E) × ((a : A) (b : B) → R e a b → S d (g a) (g′ b))) → Stage R S 0 (λ a. ret (g a)) (λ b. ret (g′ b))
+moves h = record { like = λ a b. ret-c tt; entry = λ i l. absurd (omega arith); fresh = λ d. (h d .0, λ a b r. ret-c (h d .1 a b r)) }

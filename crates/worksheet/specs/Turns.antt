@@ -1,0 +1,51 @@
+-- The results of n turns, described turn by turn: of one loop, and of two loops beside each other.
+use Prim.Native.Nat.{ℕ, suc, _<_}
+use mathlib.Core.Path.{_≡_, refl, _∙_}
+use mathlib.Core.List.{List, [], _∷_, _++_}
+use native.Mathlib.Decide.{decLt}
+use native.Mathlib.Omega.{arith}
+use lib.ListN.{length, getD, length-append, List·getD-append}
+use lib.Seq.{getD-at}
+
+-- Q j holds of element j, and there are n
+pub record Each {A : Type 0} (Q : ℕ → A → Type 0) (n : ℕ) (ys : List A) : Type 0 where
+  pub long : length ys ≡ n
+  pub at : (d : A) (j : ℕ) → j < n → Q j (getD ys j d)
+
+pub each-nil : {A : Type 0} {Q : ℕ → A → Type 0} → Each Q 0 []
+each-nil = record { long = refl; at = λ d j h. absurd (omega arith) }
+
+length-snoc : {A : Type 0} {n : ℕ} (ys : List A) (y : A) → length ys ≡ n → length (ys ++ y ∷ []) ≡ suc n
+length-snoc ys y e = length-append ys (y ∷ []) ∙ omega arith
+
+pub each-snoc : {A : Type 0} {Q : ℕ → A → Type 0} {n : ℕ} {ys : List A} {y : A} → Each Q n ys → Q n y → Each Q (suc n) (ys ++ y ∷ [])
+each-snoc {A} {Q} {n} {ys} {y} r q = record { long = length-snoc ys y (r .long); at = λ d j h. go d j h (decLt j n) }
+  where
+    go : (d : A) (j : ℕ) → j < suc n → Dec (j < n) → Q j (getD (ys ++ y ∷ []) j d)
+    go d j h (yes p) = rw (List·getD-append ys (y ∷ []) d j (omega arith)) (r .at d j p)
+    go d j h (no p) = let e : j ≡ n = omega arith in rw (e, getD-at ys y [] d n (r .long)) q
+
+-- the elements j of two lists of n are related by R j
+pub record Turns {A B : Type 0} (R : ℕ → A → B → Type 0) (n : ℕ) (ys : List A) (ys′ : List B) : Type 0 where
+  pub long : length ys ≡ n
+  pub long′ : length ys′ ≡ n
+  pub at : (d : A) (d′ : B) (j : ℕ) → j < n → R j (getD ys j d) (getD ys′ j d′)
+
+pub turns-nil : {A B : Type 0} {R : ℕ → A → B → Type 0} → Turns R 0 [] []
+turns-nil = record { long = refl; long′ = refl; at = λ d d′ j h. absurd (omega arith) }
+
+pub turns-snoc : {A B : Type 0} {R : ℕ → A → B → Type 0} {n : ℕ} {ys : List A} {ys′ : List B} {y : A} {y′ : B}
+    → Turns R n ys ys′ → R n y y′ → Turns R (suc n) (ys ++ y ∷ []) (ys′ ++ y′ ∷ [])
+turns-snoc {A} {B} {R} {n} {ys} {ys′} {y} {y′} r q =
+    record {
+      long = length-snoc ys y (r .long);
+      long′ = length-snoc ys′ y′ (r .long′);
+      at = λ d d′ j h. go d d′ j h (decLt j n);
+    }
+  where
+    go : (d : A) (d′ : B) (j : ℕ) → j < suc n → Dec (j < n) → R j (getD (ys ++ y ∷ []) j d) (getD (ys′ ++ y′ ∷ []) j d′)
+    go d d′ j h (yes p) =
+        rw (List·getD-append ys (y ∷ []) d j (omega arith), List·getD-append ys′ (y′ ∷ []) d′ j (omega arith)) (r .at d d′ j p)
+    go d d′ j h (no p) =
+        let e : j ≡ n = omega arith in
+        rw (e, getD-at ys y [] d n (r .long), getD-at ys′ y′ [] d′ n (r .long′)) q
