@@ -7,7 +7,7 @@ use native.Mathlib.Numerals.{add-one}
 use native.Mathlib.Omega.{arith}
 use lib.Dec.{eqb}
 use lib.ListN.{length, getD, replicate, replicate-append-replicate}
-use Rattle.worksheet.specs.Prog.{Mask, word, coeff, bound, Prog, ret, draw, enter, _>>=_, mask, times, loop, bind-assoc}
+use Rattle.worksheet.specs.Prog.{Mask, word, coeff, bound, Prog, ret, draw, enter, _>>=_, mask, loop, snoc, times, bind-assoc}
 use Rattle.worksheet.specs.Run.{run}
 use Rattle.worksheet.specs.Sum.{sum, sum-cong, sum-swap, sum-zero, when}
 use Rattle.worksheet.specs.Uses.{Uses, ret-u, word-u, coeff-u, enter-u}
@@ -102,8 +102,8 @@ pub hits-drawn : {A : Type 0} (i v : ℕ) (m : Mask) (n : ℕ) (k : List ℕ →
 unfolding times loop hits tally _>>=_ mask
 hits-drawn i v m zero k = refl
 hits-drawn i v m (suc n) k =
-    ap (hits i v) (bind-assoc (times n (λ j. mask m)) (λ ys. mask m >>= λ y. ret (ys ++ y ∷ [])) k)
-    ∙ hits-drawn i v m n (λ ys. (mask m >>= λ y. ret (ys ++ y ∷ [])) >>= k)
+    ap (hits i v) (bind-assoc (times n (λ j. mask m)) (λ ys. snoc (mask m) ys) k)
+    ∙ hits-drawn i v m n (λ ys. snoc (mask m) ys >>= k)
     ∙ sym (tally-snoc (replicate n (bound m)) (bound m) (λ xs. hits i v (k xs)))
     ∙ ap (λ (bs : List ℕ). tally bs (λ xs. hits i v (k xs)))
     (replicate-append-replicate n 1 (bound m) ∙ ap (λ (l : ℕ). replicate l (bound m)) (add-one n))

@@ -48,8 +48,8 @@ gives-chain P n {s = s} h r =
     (each-snoc each-nil r)
 
 -- on strips of masks in range
-pub gives-run : {A : Type 0} {P : A → Type 0} {p : Prog A} → Gives P p → {ws cs : List ℕ} → Below (bound word) ws → Below (bound coeff) cs
-    → P (run p ws cs .value)
+pub gives-run : {A : Type 0} {P : A → Type 0} {p : Prog A} → Gives P p → {ws cs : List ℕ}
+    → Below (bound word) ws → Below (bound coeff) cs → P (run p ws cs .value)
 unfolding run
 gives-run (ret-g r) h g = r
 gives-run (draw-g {m = word} k) {ws} h g = gives-run (k (getD ws 0 0) (h .at 0)) (below-drop 1 h) g

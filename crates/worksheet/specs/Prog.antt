@@ -38,13 +38,17 @@ unfoldable pub loop : {S : Type 0} → ℕ → (ℕ → S → Prog S) → S → 
 loop zero f s = ret s
 loop (suc n) f s = loop n f s >>= f n
 
+-- p, and its result at the end of ys
+abbrev pub snoc : {A : Type 0} → Prog A → List A → Prog (List A)
+snoc p ys = p >>= λ y. ret (ys ++ y ∷ [])
+
 -- the results of turns 0, 1, .. n - 1
 unfoldable pub times : {A : Type 0} → ℕ → (ℕ → Prog A) → Prog (List A)
-times n f = loop n (λ j ys. f j >>= λ y. ret (ys ++ y ∷ [])) []
+times n f = loop n (λ j ys. snoc (f j) ys) []
 
 -- n turns that hand on a state, and all states, the first and the last with them
 unfoldable pub chain : {S : Type 0} → ℕ → (ℕ → S → Prog S) → S → Prog (List S)
-chain n f s = loop n (λ j ts. f j (getD ts j s) >>= λ t. ret (ts ++ t ∷ [])) (s ∷ [])
+chain n f s = loop n (λ j ts. snoc (f j (getD ts j s)) ts) (s ∷ [])
 
 pub bind-assoc : {A B C : Type 0} (p : Prog A) (f : A → Prog B) (g : B → Prog C) → p >>= f >>= g ≡ p >>= (λ a. f a >>= g)
 unfolding _>>=_

@@ -93,9 +93,11 @@ part-coeffs cs i n h = rw (part cs i, drop-drop n i cs) at h
 -- a recorder that is set to entry t ends with entry t
 pub traced : {A : Type 0} {p : Prog A} (t : ℕ) {ws cs ws′ cs′ : List ℕ} {a : A} {r′ : Recorder}
     → Ran p (record { left = t + 1; value = 0 }) ws cs a r′ ws′ cs′ → r′ .value ≡ getD (run p ws cs .entries) t 0
-traced {p = p} t {ws = ws} {cs = cs} h = ap (λ (r : Recorder). r .value) (sym (h .seen)) ∙ rw (add-one t) (noted (run p ws cs .entries) t 0)
+traced {p = p} t {ws = ws} {cs = cs} h =
+    ap (λ (r : Recorder). r .value) (sym (h .seen)) ∙ rw (add-one t) (noted (run p ws cs .entries) t 0)
 
 -- a recorder that is set to none keeps its value
 pub untraced : {A : Type 0} {p : Prog A} {v : ℕ} {ws cs ws′ cs′ : List ℕ} {a : A} {r′ : Recorder}
     → Ran p (record { left = 0; value = v }) ws cs a r′ ws′ cs′ → r′ .value ≡ v
-untraced {p = p} {v = v} {ws = ws} {cs = cs} h = ap (λ (r : Recorder). r .value) (sym (h .seen)) ∙ noted-none (run p ws cs .entries) v
+untraced {p = p} {v = v} {ws = ws} {cs = cs} h =
+    ap (λ (r : Recorder). r .value) (sym (h .seen)) ∙ noted-none (run p ws cs .entries) v

@@ -35,7 +35,8 @@ pub note-one : (l w v : ℕ) → l ≡ 1 → record { left = 0; value = v } ≡ 
 unfolding note
 note-one l w v e = rw e
 
-pub note-more : (l w v : ℕ) → (l ≡ 0 → ⊥) → (l ≡ 1 → ⊥) → record { left = l - 1; value = w } ≡ note (record { left = l; value = w }) v
+pub note-more : (l w v : ℕ) → (l ≡ 0 → ⊥) → (l ≡ 1 → ⊥)
+    → record { left = l - 1; value = w } ≡ note (record { left = l; value = w }) v
 unfolding note
 note-more zero w v h g = absurd (h refl)
 note-more (suc zero) w v h g = absurd (g refl)

@@ -3,12 +3,14 @@ use Prim.Native.Nat.{ℕ, zero, suc, _+_, _*_, _<_}
 use native.Mathlib.Nat.{zero-mul, suc-mul}
 use native.Mathlib.Omega.{arith}
 use Rattle.worksheet.specs.Prog.{Prog, ret, _>>=_, loop}
-use Rattle.worksheet.specs.Couple.{Coupled, ret-c, Like, SameAt, coupled-bind, sameAt-left, sameAt-right, coupled-map, sameAt-map}
+use Rattle.worksheet.specs.Couple.{Coupled, ret-c, Like, SameAt}
+use Rattle.worksheet.specs.Couple.{coupled-bind, coupled-map, sameAt-left, sameAt-right, sameAt-map}
 use Rattle.worksheet.specs.Places.{cut}
 
 -- f and f′ run on what comes in under the one key and under the other, and make m entries. R e is a choice of how what comes
 -- in is related, S d of how what goes out is.
-pub record Stage {A B C D E F : Type 0} (R : E → A → B → Type 0) (S : F → C → D → Type 0) (m : ℕ) (f : A → Prog C) (f′ : B → Prog D) : Type 0 where
+pub record Stage {A B C D E F : Type 0} (R : E → A → B → Type 0) (S : F → C → D → Type 0) (m : ℕ)
+    (f : A → Prog C) (f′ : B → Prog D) : Type 0 where
   -- whatever comes in, they draw and enter alike
   pub like : (a : A) (b : B) → Like m (f a) (f′ b)
   -- for each entry there is a choice under which it is equal
@@ -42,7 +44,8 @@ loop-stage {m = m} zero h =
 loop-stage {m = m} (suc n) h = rw (suc-mul n m) (andThen (loop-stage n (λ j lt. h j (omega arith))) (h n (omega arith)))
 
 -- a choice for what is worked on and one for what is kept beside it
-pub record Beside {A B E G H K : Type 0} (R : E → A → B → Type 0) (Q : K → G → H → Type 0) (e : E × K) (a : A × G) (b : B × H) : Type 0 where
+pub record Beside {A B E G H K : Type 0} (R : E → A → B → Type 0) (Q : K → G → H → Type 0)
+    (e : E × K) (a : A × G) (b : B × H) : Type 0 where
   pub main : R (e .0) (a .0) (b .0)
   pub side : Q (e .1) (a .1) (b .1)
 
@@ -50,7 +53,8 @@ abbrev pub beside : {A C G : Type 0} → (A → Prog C) → A × G → Prog (C �
 beside f a = f (a .0) >>= λ c. ret (c, a .1)
 
 module _ {A B C D G H E F K : Type 0} {R : E → A → B → Type 0} {S : F → C → D → Type 0} {Q : K → G → H → Type 0} where
-  pub frame : (k : K) {m : ℕ} {f : A → Prog C} {f′ : B → Prog D} → Stage R S m f f′ → Stage (Beside R Q) (Beside S Q) m (beside f) (beside f′)
+  pub frame : (k : K) {m : ℕ} {f : A → Prog C} {f′ : B → Prog D}
+      → Stage R S m f f′ → Stage (Beside R Q) (Beside S Q) m (beside f) (beside f′)
   frame k s =
       record {
         like = λ a b. coupled-map _ _ (λ c d u. u) (s .like (a .0) (b .0));
@@ -63,4 +67,9 @@ module _ {A B C D G H E F K : Type 0} {R : E → A → B → Type 0} {S : F → 
 -- what is live, rearranged: no entries
 pub moves : {A B C D E F : Type 0} {R : E → A → B → Type 0} {S : F → C → D → Type 0} {g : A → C} {g′ : B → D}
     → ((d : F) → (e : E) × ((a : A) (b : B) → R e a b → S d (g a) (g′ b))) → Stage R S 0 (λ a. ret (g a)) (λ b. ret (g′ b))
-moves h = record { like = λ a b. ret-c tt; entry = λ i l. absurd (omega arith); fresh = λ d. (h d .0, λ a b r. ret-c (h d .1 a b r)) }
+moves h =
+    record {
+      like = λ a b. ret-c tt;
+      entry = λ i l. absurd (omega arith);
+      fresh = λ d. (h d .0, λ a b r. ret-c (h d .1 a b r));
+    }

@@ -81,4 +81,5 @@ sum-perm n π f =
     sum-cong n (λ x lt. sym (sum-pick n (π .to x) f (π .to-lt x lt)))
     ∙ sum-swap n n (λ x y. when (eqb y (π .to x)) (f y))
     ∙ sum-cong n (λ y ly.
-    sum-cong n (λ x lx. ap (λ (b : Bool). when b (f y)) (perm-eqb π x y lx ly)) ∙ sum-pick n (π .from y) (λ x. f y) (π .from-lt y ly))
+    sum-cong n (λ x lx. ap (λ (b : Bool). when b (f y)) (perm-eqb π x y lx ly))
+    ∙ sum-pick n (π .from y) (λ x. f y) (π .from-lt y ly))

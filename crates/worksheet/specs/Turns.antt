@@ -18,7 +18,8 @@ each-nil = record { long = refl; at = λ d j h. absurd (omega arith) }
 length-snoc : {A : Type 0} {n : ℕ} (ys : List A) (y : A) → length ys ≡ n → length (ys ++ y ∷ []) ≡ suc n
 length-snoc ys y e = length-append ys (y ∷ []) ∙ omega arith
 
-pub each-snoc : {A : Type 0} {Q : ℕ → A → Type 0} {n : ℕ} {ys : List A} {y : A} → Each Q n ys → Q n y → Each Q (suc n) (ys ++ y ∷ [])
+pub each-snoc : {A : Type 0} {Q : ℕ → A → Type 0} {n : ℕ} {ys : List A} {y : A}
+    → Each Q n ys → Q n y → Each Q (suc n) (ys ++ y ∷ [])
 each-snoc {A} {Q} {n} {ys} {y} r q = record { long = length-snoc ys y (r .long); at = λ d j h. go d j h (decLt j n) }
   where
     go : (d : A) (j : ℕ) → j < suc n → Dec (j < n) → Q j (getD (ys ++ y ∷ []) j d)

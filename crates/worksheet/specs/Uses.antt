@@ -27,7 +27,8 @@ uses-bind (word-u k) h = rw suc-add (word-u (λ x. uses-bind (k x) h))
 uses-bind (coeff-u k) h = rw suc-add (coeff-u (λ x. uses-bind (k x) h))
 uses-bind (enter-u u) h = rw suc-add (enter-u (uses-bind u h))
 
-pub uses-loop : {S : Type 0} {e w c : ℕ} (n : ℕ) {f : ℕ → S → Prog S} (s : S) → ((j : ℕ) (t : S) → Uses e w c (f j t)) → Uses (n * e) (n * w) (n * c) (loop n f s)
+pub uses-loop : {S : Type 0} {e w c : ℕ} (n : ℕ) {f : ℕ → S → Prog S} (s : S)
+    → ((j : ℕ) (t : S) → Uses e w c (f j t)) → Uses (n * e) (n * w) (n * c) (loop n f s)
 unfolding loop
 uses-loop {e = e} {w = w} {c = c} zero s h = rw (zero-mul e, zero-mul w, zero-mul c) ret-u
 uses-loop {e = e} {w = w} {c = c} (suc n) s h = rw (suc-mul n e, suc-mul n w, suc-mul n c) (uses-bind (uses-loop n s h) (h n))
@@ -36,11 +37,13 @@ uses-loop {e = e} {w = w} {c = c} (suc n) s h = rw (suc-mul n e, suc-mul n w, su
 pub uses-map : {A B : Type 0} {e w c : ℕ} {p : Prog A} (g : A → B) → Uses e w c p → Uses e w c (p >>= λ a. ret (g a))
 uses-map {e = e} {w = w} {c = c} g u = uses-recount (add-zero e) (add-zero w) (add-zero c) (uses-bind u (λ a. ret-u))
 
-pub uses-times : {A : Type 0} {e w c : ℕ} (n : ℕ) {f : ℕ → Prog A} → ((j : ℕ) → Uses e w c (f j)) → Uses (n * e) (n * w) (n * c) (times n f)
+pub uses-times : {A : Type 0} {e w c : ℕ} (n : ℕ) {f : ℕ → Prog A}
+    → ((j : ℕ) → Uses e w c (f j)) → Uses (n * e) (n * w) (n * c) (times n f)
 unfolding times
 uses-times n h = uses-loop n [] (λ j ys. uses-map _ (h j))
 
-pub uses-chain : {S : Type 0} {e w c : ℕ} (n : ℕ) {f : ℕ → S → Prog S} (s : S) → ((j : ℕ) (t : S) → Uses e w c (f j t)) → Uses (n * e) (n * w) (n * c) (chain n f s)
+pub uses-chain : {S : Type 0} {e w c : ℕ} (n : ℕ) {f : ℕ → S → Prog S} (s : S)
+    → ((j : ℕ) (t : S) → Uses e w c (f j t)) → Uses (n * e) (n * w) (n * c) (chain n f s)
 unfolding chain
 uses-chain n s h = uses-loop n _ (λ j ts. uses-map _ (h j (getD ts j s)))
 
