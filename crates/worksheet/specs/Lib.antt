@@ -13,3 +13,7 @@ pub mod Places
 pub mod CoupleLoops
 pub mod Stage
 pub mod Matching
+pub mod Straight
+pub mod Sharing
+pub mod MaskedAnd
+pub mod MaskedAndSilence

@@ -5,6 +5,7 @@ use Prim.Native.Nat.{ℕ, zero, suc, _^_}
 use mathlib.Core.Path.{_≡_, refl, ap, fun-ext}
 use mathlib.Core.List.{List, [], _∷_, _++_}
 use lib.ListN.{getD}
+use Rattle.words.specs.Word.{low}
 
 pub data Mask : Type 0 where
   word coeff : Mask
@@ -28,6 +29,10 @@ _>>=_ (enter v p) f = enter v (p >>= f)
 -- draws the next mask and hands it back
 unfoldable pub mask : Mask → Prog ℕ
 mask m = draw m ret
+
+-- draws the next mask word and hands back its n lowest bits
+unfoldable pub maskLow : ℕ → Prog ℕ
+maskLow n = mask word >>= λ x. ret (low n x)
 
 -- enters v and hands it back
 unfoldable pub entry : ℕ → Prog ℕ

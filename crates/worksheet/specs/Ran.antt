@@ -7,8 +7,9 @@ use native.Mathlib.Numerals.{add-one}
 use native.Mathlib.Omega.{arith}
 use lib.ListN.{getD, take, drop, length, length-drop}
 use lib.Seq.{getD-drop, drop-drop, take-all}
+use Rattle.words.specs.Word.{low}
 use Rattle.worksheet.specs.declared.Recorder.{Recorder}
-use Rattle.worksheet.specs.Prog.{Mask, word, coeff, Prog, ret, _>>=_, mask, entry}
+use Rattle.worksheet.specs.Prog.{Mask, word, coeff, Prog, ret, _>>=_, mask, maskLow, entry}
 use Rattle.worksheet.specs.Run.{Run, run, run-bind}
 use Rattle.worksheet.specs.Recording.{note, noteAll, noteAll-append, noted, noted-none}
 
@@ -27,6 +28,10 @@ Makes p r a r′ = (ws cs : List ℕ) → Ran p r ws cs a r′ ws cs
 abbrev pub MakesWith : {A : Type 0} → Mask → Prog A → ℕ → Recorder → A → Recorder → Type 0
 MakesWith word p x r a r′ = (ws cs : List ℕ) → getD ws 0 0 ≡ x → Ran p r ws cs a r′ (drop 1 ws) cs
 MakesWith coeff p x r a r′ = (ws cs : List ℕ) → getD cs 0 0 ≡ x → Ran p r ws cs a r′ ws (drop 1 cs)
+
+-- of one that is handed the n lowest bits x of the one mask word that it draws
+abbrev pub MakesWithLow : {A : Type 0} → ℕ → Prog A → ℕ → Recorder → A → Recorder → Type 0
+MakesWithLow n p x r a r′ = (ws cs : List ℕ) → low n (getD ws 0 0) ≡ x → Ran p r ws cs a r′ (drop 1 ws) cs
 
 -- of one that is lent a strip xs and draws its first n masks
 abbrev pub Draws : {A : Type 0} → Mask → ℕ → Prog A → Recorder → List ℕ → A → Recorder → Type 0
@@ -66,14 +71,26 @@ pub draws-coeff : {r : Recorder} {ws cs : List ℕ} {x : ℕ} → getD cs 0 0 �
 unfolding run noteAll mask
 draws-coeff e = record { value = e; seen = refl; words = refl; coeffs = refl }
 
+pub draws-low : (n : ℕ) {r : Recorder} {ws cs : List ℕ} {x : ℕ}
+    → low n (getD ws 0 0) ≡ x → Ran (maskLow n) r ws cs x r (drop 1 ws) cs
+unfolding maskLow
+draws-low n e = bind _ (draws-word refl) (rw e over)
+
 -- the one mask is the next of a strip of which i are drawn
+getD-next : (xs : List ℕ) (i : ℕ) → getD (drop i xs) 0 0 ≡ getD xs i 0
+getD-next xs i = getD-drop i xs 0 0 ∙ rw (add-zero i)
+
 pub next-word : {A : Type 0} {p : Prog A} {r r′ : Recorder} {a : A} (ws : List ℕ) (i : ℕ) {cs : List ℕ}
     → MakesWith word p (getD ws i 0) r a r′ → Ran p r (drop i ws) cs a r′ (drop (i + 1) ws) cs
-next-word ws i {cs} m = rw (drop-drop 1 i ws) at (m (drop i ws) cs (getD-drop i ws 0 0 ∙ rw (add-zero i)))
+next-word ws i {cs} m = rw (drop-drop 1 i ws) at (m (drop i ws) cs (getD-next ws i))
+
+pub next-low : {A : Type 0} (n : ℕ) {p : Prog A} {r r′ : Recorder} {a : A} (ws : List ℕ) (i : ℕ) {cs : List ℕ}
+    → MakesWithLow n p (low n (getD ws i 0)) r a r′ → Ran p r (drop i ws) cs a r′ (drop (i + 1) ws) cs
+next-low n ws i {cs} m = rw (drop-drop 1 i ws) at (m (drop i ws) cs (ap (low n) (getD-next ws i)))
 
 pub next-coeff : {A : Type 0} {p : Prog A} {r r′ : Recorder} {a : A} (cs : List ℕ) (i : ℕ) {ws : List ℕ}
     → MakesWith coeff p (getD cs i 0) r a r′ → Ran p r ws (drop i cs) a r′ ws (drop (i + 1) cs)
-next-coeff cs i {ws} m = rw (drop-drop 1 i cs) at (m ws (drop i cs) (getD-drop i cs 0 0 ∙ rw (add-zero i)))
+next-coeff cs i {ws} m = rw (drop-drop 1 i cs) at (m ws (drop i cs) (getD-next cs i))
 
 -- `&xs[i..]`, the part of a lent strip from i on
 part : (xs : List ℕ) (i : ℕ) → take (length xs - i) (drop i xs) ≡ drop i xs
