@@ -1,1 +1,2 @@
 pub mod KeccakP
+pub mod Rows

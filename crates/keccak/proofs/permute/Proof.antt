@@ -1,0 +1,39 @@
+use mathlib.Core.Path.{_≡_, refl}
+use Prim.Native.Nat.{_-_, _*_}
+use borrow.Author.Needs.{needs}
+use Rattle.words.specs.Iterate.{iterate, Reached, reached-start, reached-turn, reached-end}
+use Rattle.keccak.specs.KeccakP.{register, round, keccak-p}
+use Rattle.keccak.proofs.permute.Statement.{statement}
+use Rattle.keccak.proofs.permute.Tie as tie
+
+abbrev Inv-loop : tie.InvT-loop
+Inv-loop t₀ reg₀ i₀ t reg i = Reached 24 round (t₀ .lanes) i (t .lanes) × (reg ≡ register (7 * i))
+
+abbrev μ-loop : tie.MeasureT-loop
+μ-loop t₀ reg₀ i₀ t reg i = 24 - i
+
+loop-holds : tie.Need-loop-holds Inv-loop μ-loop
+unfolding register iterate
+loop-holds c = (reached-start, refl)
+
+loop-again : tie.Need-loop-again Inv-loop μ-loop
+loop-again c =
+    (reached-turn (c .before .before .before .loop .inv .0) (c .before .before .loop-test .taken) (c .round .ensures), c .before .round-constant .ensures .1)
+
+returns : tie.Need-returns Inv-loop μ-loop
+unfolding keccak-p
+returns c = reached-end (c .before .loop .inv .0) (c .loop-test .left)
+
+pub permute-spec : {M : Type 1} → statement M
+permute-spec =
+    tie.close
+    (tie.spec
+    Inv-loop
+    μ-loop
+    loop-holds
+    (λ c κs. (c .loop-test .taken, c .before .loop .inv .1))
+    (λ c κs. c .round-constant .ensures .0)
+    (λ c. search needs)
+    (λ c. search needs)
+    loop-again
+    returns)
