@@ -27,7 +27,12 @@ module _ (l : List ℕ) {p0 p1 p2 p3 p4 : Row}
   unfolding rho tab offset walk iterate
   rho-rows f0 f1 f2 f3 f4 w = rw (w, f0, f1, f2, f3, f4, e0, e1, e2, e3, e4)
 
-  pub pi-rows : p0 .a ∷ p1 .b ∷ p2 .c ∷ p3 .d ∷ p4 .e ∷ p0 .d ∷ p1 .e ∷ p2 .a ∷ p3 .b ∷ p4 .c ∷ p0 .b ∷ p1 .c ∷ p2 .d ∷ p3 .e ∷ p4 .a ∷ p0 .e ∷ p1 .a ∷ p2 .b ∷ p3 .c ∷ p4 .d ∷ p0 .c ∷ p1 .d ∷ p2 .e ∷ p3 .a ∷ p4 .b ∷ [] ≡ pi l
+  pub pi-rows : p0 .a ∷ p1 .b ∷ p2 .c ∷ p3 .d ∷ p4 .e
+      ∷ p0 .d ∷ p1 .e ∷ p2 .a ∷ p3 .b ∷ p4 .c
+      ∷ p0 .b ∷ p1 .c ∷ p2 .d ∷ p3 .e ∷ p4 .a
+      ∷ p0 .e ∷ p1 .a ∷ p2 .b ∷ p3 .c ∷ p4 .d
+      ∷ p0 .c ∷ p1 .d ∷ p2 .e ∷ p3 .a ∷ p4 .b ∷ []
+      ≡ pi l
   unfolding pi tab
   pi-rows = rw (e0, e1, e2, e3, e4)
 

@@ -11,7 +11,11 @@ rowOf l i = record { a = getD l i 0; b = getD l (i + 1) 0; c = getD l (i + 2) 0;
 
 abbrev pub fromRows : Row → Row → Row → Row → Row → List ℕ
 fromRows p q r s t =
-    p .a ∷ p .b ∷ p .c ∷ p .d ∷ p .e ∷ q .a ∷ q .b ∷ q .c ∷ q .d ∷ q .e ∷ r .a ∷ r .b ∷ r .c ∷ r .d ∷ r .e ∷ s .a ∷ s .b ∷ s .c ∷ s .d ∷ s .e ∷ t .a ∷ t .b ∷ t .c ∷ t .d ∷ t .e ∷ []
+    p .a ∷ p .b ∷ p .c ∷ p .d ∷ p .e
+    ∷ q .a ∷ q .b ∷ q .c ∷ q .d ∷ q .e
+    ∷ r .a ∷ r .b ∷ r .c ∷ r .d ∷ r .e
+    ∷ s .a ∷ s .b ∷ s .c ∷ s .d ∷ s .e
+    ∷ t .a ∷ t .b ∷ t .c ∷ t .d ∷ t .e ∷ []
 
 abbrev pub xorRow : Row → Row → Row
 xorRow p q = record { a = xor (p .a) (q .a); b = xor (p .b) (q .b); c = xor (p .c) (q .c); d = xor (p .d) (q .d); e = xor (p .e) (q .e) }

@@ -21,7 +21,7 @@ fn rotl(x: u64, k: u32) -> u64
     (x << k) | (x >> ((64 - k) % 64))
 }
 
-pub fn xor_row(p: Row, q: Row) -> Row
+pub(crate) fn xor_row(p: Row, q: Row) -> Row
     ensures { λ r. ⌜ r ≡ xorRow p q ⌝ }
 {
     Row {
@@ -34,7 +34,7 @@ pub fn xor_row(p: Row, q: Row) -> Row
 }
 
 // Algorithm 1, step 2: D from C.
-pub fn effect_row(c: Row) -> Row
+pub(crate) fn effect_row(c: Row) -> Row
     ensures { λ r. ⌜ r ≡ effectRow c ⌝ }
 {
     Row {
@@ -47,7 +47,7 @@ pub fn effect_row(c: Row) -> Row
 }
 
 // Algorithm 2 on a row: each lane rotated by its offset.
-pub fn rotl_row(r: Row, a: u32, b: u32, c: u32, d: u32, e: u32) -> Row
+pub(crate) fn rotl_row(r: Row, a: u32, b: u32, c: u32, d: u32, e: u32) -> Row
     requires { ⌜ (a < 64) × (b < 64) × (c < 64) × (d < 64) × (e < 64) ⌝ }
     ensures { λ o. ⌜ o ≡ rotlRow r a b c d e ⌝ }
 {
@@ -61,7 +61,7 @@ pub fn rotl_row(r: Row, a: u32, b: u32, c: u32, d: u32, e: u32) -> Row
 }
 
 // Algorithm 4 on a row.
-pub fn chi_row(r: Row) -> Row
+pub(crate) fn chi_row(r: Row) -> Row
     ensures { λ o. ⌜ o ≡ chiRow r ⌝ }
 {
     Row {

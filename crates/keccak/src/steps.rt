@@ -82,7 +82,7 @@ pub fn pi(s: State) -> State
 }
 
 // Algorithm 4.
-pub fn chi(s: State) -> State
+pub(crate) fn chi(s: State) -> State
     ensures { λ r. ⌜ r .lanes ≡ chiOf (s .lanes) ⌝ }
 {
     whole(
@@ -95,7 +95,7 @@ pub fn chi(s: State) -> State
 }
 
 // Algorithm 6, step 4, with the round's constant k.
-pub fn iota(s: State, k: u64) -> State
+pub(crate) fn iota(s: State, k: u64) -> State
     ensures { λ r. ⌜ r .lanes ≡ iotaOf (s .lanes) k ⌝ }
 {
     let mut t = s;
