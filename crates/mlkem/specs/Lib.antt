@@ -1,0 +1,4 @@
+pub mod Parameters
+pub mod Functions
+pub mod KPke
+pub mod MlKem

@@ -1,0 +1,51 @@
+-- FIPS 203, section 6: ML-KEM's internal algorithms.
+use mathlib.Core.Bool.{Bool, true, false, cond, _&&_}
+use mathlib.Core.List.{List, [], _∷_, _++_}
+use Prim.Native.Nat.{ℕ, _+_, _*_}
+use lib.Dec.{eqb}
+use lib.ListN.{take, drop}
+use Rattle.mlkem.specs.Parameters.{Parameters, vectorBytes, ekBytes}
+use Rattle.mlkem.specs.Functions.{H, J, G₁, G₂}
+use Rattle.mlkem.specs.KPke.{ekPke, dkPke, encrypt, decrypt}
+
+-- two strings are equal
+unfoldable pub same : List ℕ → List ℕ → Bool
+same [] [] = true
+same [] (y ∷ l) = false
+same (x ∷ k) [] = false
+same (x ∷ k) (y ∷ l) = eqb x y && same k l
+
+module _ (p : Parameters) where
+  -- Algorithm 16, ML-KEM.KeyGen_internal(d, z)
+  unfoldable pub keyGenEk : List ℕ → List ℕ
+  keyGenEk d = ekPke p d
+
+  unfoldable pub keyGenDk : List ℕ → List ℕ → List ℕ
+  keyGenDk d z = dkPke p d ++ (keyGenEk d ++ (H (keyGenEk d) ++ z))
+
+  -- Algorithm 17, ML-KEM.Encaps_internal(ek, m)
+  unfoldable pub encapsKey : List ℕ → List ℕ → List ℕ
+  encapsKey ek m = G₁ (m ++ H ek)
+
+  unfoldable pub encapsCt : List ℕ → List ℕ → List ℕ
+  encapsCt ek m = encrypt p ek m (G₂ (m ++ H ek))
+
+  -- Algorithm 18, ML-KEM.Decaps_internal(dk, c), lines 1 to 4: the parts of dk
+  abbrev pub secretPart : List ℕ → List ℕ
+  secretPart dk = take (vectorBytes p) dk
+
+  abbrev pub publicPart : List ℕ → List ℕ
+  publicPart dk = take (ekBytes p) (drop (vectorBytes p) dk)
+
+  abbrev pub hashPart : List ℕ → List ℕ
+  hashPart dk = take 32 (drop (vectorBytes p + ekBytes p) dk)
+
+  abbrev pub zPart : List ℕ → List ℕ
+  zPart dk = take 32 (drop (vectorBytes p + ekBytes p + 32) dk)
+
+  -- lines 5 to 12
+  unfoldable pub decaps : List ℕ → List ℕ → List ℕ
+  decaps dk c =
+      let m = decrypt p (secretPart dk) c in
+      let g = m ++ hashPart dk in
+      cond (same c (encrypt p (publicPart dk) m (G₂ g))) (G₁ g) (J (zPart dk ++ c))
