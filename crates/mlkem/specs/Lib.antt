@@ -2,3 +2,5 @@ pub mod Parameters
 pub mod Functions
 pub mod KPke
 pub mod MlKem
+pub mod Refusals
+pub mod Calls

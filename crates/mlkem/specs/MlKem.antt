@@ -1,7 +1,7 @@
 -- FIPS 203, section 6: ML-KEM's internal algorithms.
 use mathlib.Core.Bool.{Bool, true, false, cond, _&&_}
 use mathlib.Core.List.{List, [], _∷_, _++_}
-use Prim.Native.Nat.{ℕ, _+_, _*_}
+use Prim.Native.Nat.{ℕ, _+_}
 use lib.Dec.{eqb}
 use lib.ListN.{take, drop}
 use Rattle.mlkem.specs.Parameters.{Parameters, vectorBytes, ekBytes}
