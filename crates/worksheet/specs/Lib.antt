@@ -15,5 +15,7 @@ pub mod Stage
 pub mod Matching
 pub mod Straight
 pub mod Sharing
+pub mod SharedList
 pub mod MaskedAnd
+pub mod Gates
 pub mod MaskedAndSilence

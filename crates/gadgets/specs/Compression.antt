@@ -1,0 +1,24 @@
+-- Masked compression (document 01, The gadgets: Fixed point and Adder).
+use mathlib.Core.List.{List}
+use Prim.Native.Nat.{ℕ, _+_, _*_, _/_, _%_, _^_}
+use lib.ListN.{getD, drop}
+use Rattle.words.specs.Plane.{plane}
+use Rattle.words.specs.Residue.{q}
+use Rattle.worksheet.specs.declared.Shares.{Shares}
+use Rattle.worksheet.specs.Prog.{Prog, ret, _>>=_, entry, times}
+use Rattle.gadgets.specs.Adder.{adder}
+
+-- fixed point with 13 fraction bits: share 0, and share 1 with half of the last place added
+unfoldable pub fixedPoint0 : ℕ → ℕ → ℕ
+fixedPoint0 d x = 2 ^ (d + 13) * x / q % 2 ^ (d + 13)
+
+unfoldable pub fixedPoint1 : ℕ → ℕ → ℕ
+fixedPoint1 d x = (2 ^ (d + 13) * x / q + 4096) % 2 ^ (d + 13)
+
+-- 64 coefficients: their values of share 0, those of share 1, the adder; the top d planes are the result
+unfoldable pub maskedCompress : ℕ → (ℕ → Shares) → Prog (List Shares)
+maskedCompress d x = do
+  a ← times 64 (λ i. entry (fixedPoint0 d (x i .s0)))
+  b ← times 64 (λ i. entry (fixedPoint1 d (x i .s1)))
+  s ← adder (d + 13) (plane 64 (λ i. getD a i 0)) (plane 64 (λ i. getD b i 0))
+  ret (drop 13 s)

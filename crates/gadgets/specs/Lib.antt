@@ -1,0 +1,4 @@
+pub mod Adder
+pub mod Compression
+pub mod Coefficient
+pub mod Comparison

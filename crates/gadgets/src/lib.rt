@@ -1,0 +1,1 @@
+// The masked gadgets other than the hash.

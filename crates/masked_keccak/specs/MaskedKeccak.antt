@@ -1,0 +1,43 @@
+-- Keccak-p[1600, 24] on two shares of a state, every result entered (document 01, The gadgets: Hash).
+use mathlib.Core.List.{List}
+use Prim.Native.Nat.{ℕ, _+_, _*_, _/_, _%_}
+use lib.ListN.{getD, set}
+use Rattle.words.specs.Word.{xor}
+use Rattle.keccak.specs.KeccakP.{theta, rho, pi, constant}
+use Rattle.worksheet.specs.declared.Shares.{Shares}
+use Rattle.worksheet.specs.Prog.{Prog, ret, _>>=_, entry, loop, times}
+use Rattle.worksheet.specs.Sharing.{none}
+use Rattle.worksheet.specs.SharedList.{SharedList, sharedList, sharedAt, unzip}
+use Rattle.worksheet.specs.MaskedAnd.{maskedAnd}
+use Rattle.worksheet.specs.Gates.{maskedNot, maskedXor}
+
+-- theta, rho and pi on one share alone: the outcome is entered, lane by lane
+unfoldable pub pass : List ℕ → Prog (List ℕ)
+pass l = times 25 (λ i. entry (getD (pi (rho (theta l))) i 0))
+
+-- chi's lane: w xor (the complement of u, and v)
+unfoldable pub chiLane : Shares → Shares → Shares → Prog Shares
+chiLane w u v = do
+  n ← maskedNot 64 u
+  z ← maskedAnd 64 n v
+  maskedXor w z
+
+-- the lane n places along the row of lane i
+abbrev pub along : ℕ → ℕ → ℕ
+along n i = (i % 5 + n) % 5 + 5 * (i / 5)
+
+-- chi in lane order
+unfoldable pub chi : SharedList → Prog (List Shares)
+chi s = times 25 (λ i. chiLane (sharedAt s i) (sharedAt s (along 1 i)) (sharedAt s (along 2 i)))
+
+-- a round; the constant goes into share 0
+unfoldable pub round : ℕ → SharedList → Prog SharedList
+round i s = do
+  a ← pass (s .s0)
+  b ← pass (s .s1)
+  c ← chi (sharedList a b)
+  k ← entry (xor (getD c 0 none .s0) (constant i))
+  ret (let t = unzip 25 (λ j. getD c j none) in sharedList (set (t .s0) 0 k) (t .s1))
+
+unfoldable pub maskedKeccakP : SharedList → Prog SharedList
+maskedKeccakP s = loop 24 round s

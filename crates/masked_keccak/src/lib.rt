@@ -1,0 +1,1 @@
+// Keccak-p[1600, 24] on two shares of a state.
