@@ -1,2 +1,4 @@
 pub mod KeccakP
 pub mod Rows
+pub mod Pass
+pub mod Aim
