@@ -34,31 +34,40 @@ pub fn note(rec: Recorder, v: u64) -> Recorder
 }
 
 // A value as it stands: the outcome of a pass on one share.
-pub fn enter(rec: Recorder, v: u64) -> Entered
-    ensures { λ r. ⌜ Makes (entry v) rec (r .value) (r .rec) ⌝ }
+pub fn enter(rec: Recorder, v: u64) -> Recorder
+    ensures { λ r. ⌜ Makes (entry v) rec v r ⌝ }
 {
-    Entered {
-        value: v,
-        rec: note(rec, v),
-    }
+    note(rec, v)
 }
 
 pub fn enter_xor(rec: Recorder, x: u64, y: u64) -> Entered
     ensures { λ r. ⌜ Makes (entry (xor x y)) rec (r .value) (r .rec) ⌝ }
 {
-    enter(rec, x ^ y)
+    let v = x ^ y;
+    Entered {
+        value: v,
+        rec: enter(rec, v),
+    }
 }
 
 pub fn enter_and(rec: Recorder, x: u64, y: u64) -> Entered
     ensures { λ r. ⌜ Makes (entry (and x y)) rec (r .value) (r .rec) ⌝ }
 {
-    enter(rec, x & y)
+    let v = x & y;
+    Entered {
+        value: v,
+        rec: enter(rec, v),
+    }
 }
 
 pub fn enter_complement(rec: Recorder, x: u64) -> Entered
     ensures { λ r. ⌜ Makes (entry (complement 64 x)) rec (r .value) (r .rec) ⌝ }
 {
-    enter(rec, !x)
+    let v = !x;
+    Entered {
+        value: v,
+        rec: enter(rec, v),
+    }
 }
 
 pub struct Shares {
