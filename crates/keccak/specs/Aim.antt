@@ -82,35 +82,32 @@ aim-off l m a h g n =
 
 -- ---- both lanes at once
 
--- the lanes that chi reads beside lane i
-abbrev pub next1 : ℕ → ℕ
-next1 i = (i % 5 + 1) % 5 + 5 * (i / 5)
+-- the lane n places along the row of lane i
+abbrev pub along : ℕ → ℕ → ℕ
+along n i = (i % 5 + n) % 5 + 5 * (i / 5)
 
-abbrev pub next2 : ℕ → ℕ
-next2 i = (i % 5 + 2) % 5 + 5 * (i / 5)
-
--- a comes to lane next1 i, b to lane next2 i
+-- a comes to the next lane after lane i, b to the one after that
 pub aimed : ℕ → ℕ → ℕ → ℕ → ℕ
-aimed i a b k = xor (aimAt (next1 i) a k) (aimAt (next2 i) b k)
+aimed i a b k = xor (aimAt (along 1 i) a k) (aimAt (along 2 i) b k)
 
 module _ (i : ℕ) {a b : ℕ} (h : i < 25) (v : Bits 64 a) (w : Bits 64 b) where
   pub aimed-bits : LaneBits (aimed i a b)
   unfolding aimed
-  aimed-bits = record { at = λ k g. xor-bits (aim-bits (next1 i) v .at k g) (aim-bits (next2 i) w .at k g) }
+  aimed-bits = record { at = λ k g. xor-bits (aim-bits (along 1 i) v .at k g) (aim-bits (along 2 i) w .at k g) }
 
-  pub aimed-1 : passAt (aimed i a b) (next1 i) ≡ a
+  pub aimed-1 : passAt (aimed i a b) (along 1 i) ≡ a
   unfolding aimed source
   aimed-1 =
-      pass-xor (aim-bits (next1 i) v) (aim-bits (next2 i) w) (next1 i) (omega arith)
-      ∙ ap₂ xor (aim-on (next1 i) (omega arith) v)
-      (aim-off (next2 i) (next1 i) b (omega arith) (omega arith) (every-at 25 (λ i. not (aims (next2 i) (source (next1 i)))) tt i h))
+      pass-xor (aim-bits (along 1 i) v) (aim-bits (along 2 i) w) (along 1 i) (omega arith)
+      ∙ ap₂ xor (aim-on (along 1 i) (omega arith) v)
+      (aim-off (along 2 i) (along 1 i) b (omega arith) (omega arith) (every-at 25 (λ i. not (aims (along 2 i) (source (along 1 i)))) tt i h))
       ∙ xor-zero a
 
-  pub aimed-2 : passAt (aimed i a b) (next2 i) ≡ b
+  pub aimed-2 : passAt (aimed i a b) (along 2 i) ≡ b
   unfolding aimed source
   aimed-2 =
-      pass-xor (aim-bits (next1 i) v) (aim-bits (next2 i) w) (next2 i) (omega arith)
+      pass-xor (aim-bits (along 1 i) v) (aim-bits (along 2 i) w) (along 2 i) (omega arith)
       ∙ ap₂ xor
-      (aim-off (next1 i) (next2 i) a (omega arith) (omega arith) (every-at 25 (λ i. not (aims (next1 i) (source (next2 i)))) tt i h))
-      (aim-on (next2 i) (omega arith) w)
+      (aim-off (along 1 i) (along 2 i) a (omega arith) (omega arith) (every-at 25 (λ i. not (aims (along 1 i) (source (along 2 i)))) tt i h))
+      (aim-on (along 2 i) (omega arith) w)
       ∙ zero-xor b

@@ -103,7 +103,9 @@ module _ {s t : ℕ → ℕ} (b : LaneBits s) (c : LaneBits t) where
   parity-xor : (x : ℕ) → parity (tab 25 (λ k. xor (s k) (t k))) (x % 5) ≡ xor (parity (tab 25 s) (x % 5)) (parity (tab 25 t) (x % 5))
   parity-xor x =
       let h : x % 5 < 5 = omega arith in
-      parity-tab _ (x % 5) h ∙ sum5-xor (λ y. s (x % 5 + 5 * y)) (λ y. t (x % 5 + 5 * y)) ∙ sym (ap₂ xor (parity-tab s (x % 5) h) (parity-tab t (x % 5) h))
+      parity-tab _ (x % 5) h
+      ∙ sum5-xor (λ y. s (x % 5 + 5 * y)) (λ y. t (x % 5 + 5 * y))
+      ∙ sym (ap₂ xor (parity-tab s (x % 5) h) (parity-tab t (x % 5) h))
 
   effect-xor : (x : ℕ) → effect (tab 25 (λ k. xor (s k) (t k))) x ≡ xor (effect (tab 25 s) x) (effect (tab 25 t) x)
   unfolding effect
@@ -119,10 +121,13 @@ module _ {s t : ℕ → ℕ} (b : LaneBits s) (c : LaneBits t) where
       ∙ sym (ap₂ xor (pass-lane s i h) (pass-lane t i h))
 
 -- a state whose columns are all even passes lane by lane
-pub pass-even : (s : ℕ → ℕ) → ((x : ℕ) → x < 5 → sum5 (λ y. s (x + 5 * y)) ≡ 0) → (i : ℕ) → i < 25 → passAt s i ≡ rotl 64 (s (source i)) (turn i)
-unfolding effect
-pass-even s e i h =
-    let column : (x : ℕ) → parity (tab 25 s) (x % 5) ≡ 0 = λ x. parity-tab s (x % 5) (omega arith) ∙ e (x % 5) (omega arith) in
-    pass-lane s i h
-    ∙ ap (λ (v : ℕ). rotl 64 v (turn i))
-    (ap (xor (s (source i))) (ap₂ xor (column _) (ap (λ (v : ℕ). rotl 64 v 1) (column _) ∙ rotl-zero 1 (omega arith)) ∙ xor-zero 0) ∙ xor-zero _)
+module _ (s : ℕ → ℕ) (e : (x : ℕ) → x < 5 → sum5 (λ y. s (x + 5 * y)) ≡ 0) where
+  parity-even : (x : ℕ) → parity (tab 25 s) (x % 5) ≡ 0
+  parity-even x = parity-tab s (x % 5) (omega arith) ∙ e (x % 5) (omega arith)
+
+  effect-even : (x : ℕ) → effect (tab 25 s) x ≡ 0
+  unfolding effect
+  effect-even x = ap₂ xor (parity-even _) (ap (λ (v : ℕ). rotl 64 v 1) (parity-even _) ∙ rotl-zero 1 (omega arith)) ∙ xor-zero 0
+
+  pub pass-even : (i : ℕ) → i < 25 → passAt s i ≡ rotl 64 (s (source i)) (turn i)
+  pass-even i h = pass-lane s i h ∙ ap (λ (v : ℕ). rotl 64 v (turn i)) (ap (xor (s (source i))) (effect-even _) ∙ xor-zero _)

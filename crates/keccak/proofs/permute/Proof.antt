@@ -18,7 +18,8 @@ loop-holds c = (reached-start, refl)
 
 loop-again : tie.Need-loop-again Inv-loop μ-loop
 loop-again c =
-    (reached-turn (c .before .before .before .loop .inv .0) (c .before .before .loop-test .taken) (c .round .ensures), c .before .round-constant .ensures .1)
+    let c2 = c .before .before in
+    (reached-turn (c2 .before .loop .inv .0) (c2 .loop-test .taken) (c .round .ensures), c .before .round-constant .ensures .1)
 
 returns : tie.Need-returns Inv-loop μ-loop
 unfolding keccak-p
