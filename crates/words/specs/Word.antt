@@ -20,6 +20,10 @@ ones n = 2 ^ n - 1
 unfoldable pub complement : ℕ → ℕ → ℕ
 complement n x = xor x (ones n)
 
+-- x or y, words of n bits, by De Morgan's law
+unfoldable pub or : ℕ → ℕ → ℕ → ℕ
+or n x y = complement n (and (complement n x) (complement n y))
+
 -- the n bits of x, rotated left by k places
 unfoldable pub rotl : ℕ → ℕ → ℕ → ℕ
 rotl n x k = x * 2 ^ k % 2 ^ n + x / 2 ^ (n - k)

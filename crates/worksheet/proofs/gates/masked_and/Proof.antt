@@ -1,7 +1,7 @@
 use Rattle.worksheet.specs.MaskedAnd.{maskedAnd}
 use Rattle.worksheet.specs.Ran.{bind, over, draws-low}
-use Rattle.worksheet.proofs.masked_and.Statement.{statement}
-use Rattle.worksheet.proofs.masked_and.Tie as tie
+use Rattle.worksheet.proofs.gates.masked_and.Statement.{statement}
+use Rattle.worksheet.proofs.gates.masked_and.Tie as tie
 
 returns : tie.Need-returns
 unfolding maskedAnd
