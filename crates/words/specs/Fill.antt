@@ -1,11 +1,11 @@
--- A loop that fills a list of n elements from the front by those of tab n f.
+-- A loop that fills a list of n elements from the front by those of tab n f, and one that replaces the elements of l₀ so.
 use mathlib.Core.Path.{_≡_, refl, sym, _∙_}
 use mathlib.Core.List.{List}
 use Prim.Native.Nat.{ℕ, _+_, _<_, _≤_}
 use native.Mathlib.Numerals.{add-one}
 use native.Mathlib.Omega.{arith}
-use lib.ListN.{length, take, set, length-set}
-use lib.Seq.{take-suc-set, take-all}
+use lib.ListN.{length, getD, take, set, length-set}
+use lib.Seq.{take-suc-set, take-all, getD-set-other}
 use Rattle.words.specs.Tab.{tab}
 
 module _ {A : Type 0} where
@@ -32,3 +32,22 @@ module _ {A : Type 0} where
   filled-end {n} {i = i} {l} a h =
       let e : i ≡ n = omega arith in
       sym (take-all n l (omega arith)) ∙ (rw e at (a .front))
+
+  -- the first i of the n elements are in place, and the others are still those of l₀
+  pub record Replaced (n : ℕ) (f : ℕ → A) (d : A) (l₀ : List A) (i : ℕ) (l : List A) : Type 0 where
+    pub filled : Filled n f i l
+    pub rest : (k : ℕ) → i ≤ k → getD l k d ≡ getD l₀ k d
+
+  pub replaced-start : {n : ℕ} {f : ℕ → A} {d : A} {l : List A} → length l ≡ n → Replaced n f d l 0 l
+  replaced-start h = record { filled = filled-start h; rest = λ k g. refl }
+
+  pub replaced-turn : {n : ℕ} {f : ℕ → A} {d : A} {l₀ : List A} {i : ℕ} {l : List A} {v : A} → Replaced n f d l₀ i l → i < n → v ≡ f i
+      → Replaced n f d l₀ (i + 1) (set l i v)
+  replaced-turn {d = d} {i = i} {l} {v} a h e =
+      record {
+        filled = filled-turn (a .filled) h e;
+        rest = λ k g. getD-set-other l i k v d (omega arith) ∙ a .rest k (omega arith);
+      }
+
+  pub replaced-end : {n : ℕ} {f : ℕ → A} {d : A} {l₀ : List A} {i : ℕ} {l : List A} → Replaced n f d l₀ i l → n ≤ i → l ≡ tab n f
+  replaced-end a h = filled-end (a .filled) h

@@ -1,12 +1,13 @@
 -- A rule for all numbers below n, or for all entries of a table, proved by one test that is computed.
-use mathlib.Core.Path.{_≡_}
+use mathlib.Core.Path.{_≡_, refl}
 use mathlib.Core.Bool.{Bool, true, false, _&&_}
 use mathlib.Core.List.{List}
 use Prim.Native.Nat.{ℕ, zero, suc, _<_}
 use native.Mathlib.Decide.{decLt}
 use native.Mathlib.Omega.{arith}
-use lib.Dec.{T}
+use lib.Dec.{T, eqb, eqb→eq}
 use lib.ListN.{length, getD}
+use Rattle.words.specs.Tab.{tab, tab-of}
 
 -- p holds below n
 abbrev pub every : ℕ → (ℕ → Bool) → Bool
@@ -32,3 +33,7 @@ every-at (suc n) p t i h = go (decLt i n) (every-at n p (left (every n p) (p n) 
 -- entry k of the table passes the test f k
 pub table-at : (f : ℕ → ℕ → Bool) (xs : List ℕ) → T (every (length xs) (λ k. f k (getD xs k 0))) → (k : ℕ) → k < length xs → T (f k (getD xs k 0))
 table-at f xs t k h = every-at (length xs) (λ k. f k (getD xs k 0)) t k h
+
+-- a table of the values of f
+pub table-tab : (f : ℕ → ℕ) (xs : List ℕ) → T (every (length xs) (λ k. eqb (getD xs k 0) (f k))) → xs ≡ tab (length xs) f
+table-tab f xs t = tab-of 0 xs (length xs) refl (λ k h. eqb→eq (getD xs k 0) (f k) (table-at (λ k x. eqb x (f k)) xs t k h))
