@@ -53,16 +53,16 @@ inverseLayer k len f = iterate k (λ b. inverseBlock (zeta (2 * k - 1 - b)) len 
 unfoldable pub inverseNtt : List ℕ → List ℕ
 inverseNtt f = tab 256 (λ i. getD (iterate 7 (λ l. inverseLayer (2 ^ (6 - l)) (2 ^ (l + 1))) f) i 0 * 3303 % q)
 
--- ---- Algorithms 11 and 12, MultiplyNTTs and BaseCaseMultiply
+-- ---- Algorithm 11, MultiplyNTTs, with Algorithm 12, BaseCaseMultiply
 
--- coefficient 2 i + c of f times g: c is 0 or 1
-unfoldable pub multiplyNtts : List ℕ → List ℕ → List ℕ
-multiplyNtts f g =
-    iterate 128
-    (λ i h.
+-- coefficients 2 i and 2 i + 1 of h become those of f times g
+unfoldable pub baseCaseMultiply : List ℕ → List ℕ → ℕ → List ℕ → List ℕ
+baseCaseMultiply f g i h =
     let a0 = getD f (2 * i) 0 in
     let a1 = getD f (2 * i + 1) 0 in
     let b0 = getD g (2 * i) 0 in
     let b1 = getD g (2 * i + 1) 0 in
-    set (set h (2 * i) ((a0 * b0 + a1 * (b1 * gamma i % q)) % q)) (2 * i + 1) ((a0 * b1 + a1 * b0) % q))
-    f
+    set (set h (2 * i) ((a0 * b0 + a1 * (b1 * gamma i % q)) % q)) (2 * i + 1) ((a0 * b1 + a1 * b0) % q)
+
+unfoldable pub multiplyNtts : List ℕ → List ℕ → List ℕ
+multiplyNtts f g = iterate 128 (baseCaseMultiply f g) f

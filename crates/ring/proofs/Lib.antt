@@ -1,0 +1,4 @@
+pub mod Barrett
+pub mod Powers
+pub mod Layers
+pub mod InPlace

@@ -1,0 +1,29 @@
+use Prim.Native.Nat.{_*_, _≤_}
+use native.Mathlib.Nat.{mul-le-mul}
+use native.Mathlib.Omega.{arith}
+use borrow.Author.Needs.{needs}
+use Rattle.ring.proofs.multiply.combination.Statement.{statement}
+use Rattle.ring.proofs.multiply.combination.Tie as tie
+
+second : (c : tie.After-product) → c .before .args .v * c .before .args .y ≤ 65535 * 65535
+second c =
+    let h : c .before .args .v ≤ 65535 = omega arith in
+    let k : c .before .args .y ≤ 65535 = omega arith in
+    mul-le-mul h k
+
+mul-reduce : tie.Need-mul-reduce
+mul-reduce c = omega (arith, second c)
+
+add-reduce : tie.Need-add-reduce
+add-reduce c = omega (arith, second c)
+
+pub combination-spec : {M : Type 1} → statement M
+combination-spec =
+    tie.close
+    (tie.spec
+    (λ c κs. search needs)
+    (λ c. search needs)
+    mul-reduce
+    add-reduce
+    (λ c κs. search needs)
+    (λ c. search needs))

@@ -1,0 +1,24 @@
+// Sums and differences of polynomials, in place.
+use super::residue::difference;
+use super::residue::sum;
+ghost use mathlib.Core.Path.{_≡_};
+ghost use lib.ListN.{length};
+ghost use Rattle.ring.specs.Polynomial.{add, sub};
+
+pub fn add_to(f: &mut [u16], g: &[u16])
+    requires { ⌜ length (now f) ≡ length (now g) ⌝ }
+    ensures { λ _. ⌜ now (f .exit) ≡ add (now (f .entry)) (now (g .entry)) ⌝ }
+{
+    for i in 0..f.len() {
+        f[i] = sum(f[i], g[i]);
+    }
+}
+
+pub fn sub_from(f: &mut [u16], g: &[u16])
+    requires { ⌜ length (now f) ≡ length (now g) ⌝ }
+    ensures { λ _. ⌜ now (f .exit) ≡ sub (now (f .entry)) (now (g .entry)) ⌝ }
+{
+    for i in 0..f.len() {
+        f[i] = difference(f[i], g[i]);
+    }
+}
