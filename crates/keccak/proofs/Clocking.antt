@@ -9,11 +9,7 @@ use lib.Bits.{bitXor}
 use lib.Pow.{shl-exact}
 use Rattle.words.specs.Word.{xor}
 use Rattle.words.specs.Iterate.{iterate, Reached, reached-start, reached-turn, reached-end}
-use Rattle.keccak.specs.KeccakP.{clocked, register, rc, constant}
-
--- bit j of the constant of round i goes into word k
-abbrev pub withBit : ℕ → ℕ → ℕ → ℕ
-withBit i j k = xor k (rc (j + 7 * i) * 2 ^ (2 ^ j - 1))
+use Rattle.keccak.specs.KeccakP.{clocked, register, rc, withBit, constant}
 
 -- before bit j of round i: the word so far, the register, and bit j's place in the word
 pub record Clocking (i j word reg place : ℕ) : Type 0 where

@@ -65,9 +65,13 @@ rc t = register (t % 255) % 2
 
 -- ---- Algorithm 6, iota
 
--- RC of round i: its bit 2^j - 1 is rc(j + 7 i)
+-- bit 2^j - 1 of RC is rc(j + 7 i), in round i
+abbrev pub withBit : ℕ → ℕ → ℕ → ℕ
+withBit i j k = xor k (rc (j + 7 * i) * 2 ^ (2 ^ j - 1))
+
+-- RC of round i
 unfoldable pub constant : ℕ → ℕ
-constant i = iterate 7 (λ j k. xor k (rc (j + 7 * i) * 2 ^ (2 ^ j - 1))) 0
+constant i = iterate 7 (withBit i) 0
 
 unfoldable pub iota : List ℕ → ℕ → List ℕ
 iota s k = set s 0 (xor (lane s 0 0) k)
