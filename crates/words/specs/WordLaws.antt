@@ -6,7 +6,7 @@ use native.Mathlib.Nat.{mod-eq-of-lt, mod-lt, lt-of-lt-of-le}
 use native.Mathlib.Omega.{arith}
 use lib.Pow.{pow-pos, pow-mono, ones-lt, shr-lt}
 use lib.Bits.{bitXor, bitAnd, xor-lt, and-lt, xor-self, xor-zero-r, xor-zero-l, xor-add-and, and-mask, xor-mod, xor-shr, and-shr}
-use Rattle.words.specs.Word.{Bits, xor, and, ones, complement, low}
+use Rattle.words.specs.Word.{Bits, xor, and, ones, complement, or, low}
 use Rattle.words.specs.Formula.{boole, at, _⊕_, _⊗_}
 
 -- ---- identities
@@ -80,6 +80,10 @@ ones-bits {n} = record { lt = ones-lt n }
 pub complement-bits : {n x : ℕ} → Bits n x → Bits n (complement n x)
 unfolding complement
 complement-bits a = xor-bits a ones-bits
+
+pub or-bits : {n x y : ℕ} → Bits n x → Bits n y → Bits n (or n x y)
+unfolding or
+or-bits a b = complement-bits (and-bits (complement-bits a) (complement-bits b))
 
 pub low-bits : {n : ℕ} (x : ℕ) → Bits n (low n x)
 unfolding low

@@ -19,3 +19,4 @@ pub mod SharedList
 pub mod MaskedAnd
 pub mod Gates
 pub mod MaskedAndSilence
+pub mod GatesSilence

@@ -3,8 +3,8 @@ use Prim.Native.Nat.{ℕ}
 use mathlib.Core.Path.{_≡_, refl, sym, ap, ap₂, _∙_, subst}
 use mathlib.Core.Bool.{Bool, true, false}
 use mathlib.Core.List.{[], _∷_}
-use Rattle.words.specs.Word.{Bits, xor}
-use Rattle.words.specs.WordLaws.{xor-bits, zero-bits, xor-same, xor-zero, xor-cancel, xor-swap}
+use Rattle.words.specs.Word.{Bits, xor, complement}
+use Rattle.words.specs.WordLaws.{xor-bits, complement-bits, zero-bits, xor-same, xor-zero, xor-cancel, xor-swap, complement-xor}
 use Rattle.words.specs.Formula.{boole, at, _⊕_}
 use Rattle.worksheet.specs.declared.Shares.{Shares}
 
@@ -98,6 +98,40 @@ apart-xorShares {d = d} {e = e} {a = a} {b = b} s t =
       right = sharing-xorShares (s .right) (t .right);
       by = ap₂ xor (s .by) (t .by) ∙ xor-swap (a .s0) d (b .s0) e;
     }
+
+-- a sum set apart by d, whatever a stands at
+pub apart-xor-add : {n d X Y X′ Y′ : ℕ} {a b a′ b′ : Shares} → Sharing n X a → Sharing n X′ a′
+    → Apart n (xor (xor (a .s0) (a′ .s0)) d) Y Y′ b b′ → Apart n d (xor X Y) (xor X′ Y′) (xorShares a b) (xorShares a′ b′)
+apart-xor-add {d = d} {a = a} {a′ = a′} s t r =
+    apart-cong (xor-cancel (xor (a .s0) (a′ .s0)) d) (apart-xorShares (apart-xor s t) r)
+
+-- ---- complements, in share 0 only
+
+abbrev pub notShares : ℕ → Shares → Shares
+notShares n u = shares (complement n (u .s0)) (u .s1)
+
+pub sharing-notShares : {n X : ℕ} {u : Shares} → Sharing n X u → Sharing n (complement n X) (notShares n u)
+sharing-notShares {n} {u = u} s =
+    record {
+      bits0 = complement-bits (s .bits0);
+      bits1 = s .bits1;
+      joins = complement-xor n (u .s0) (u .s1) ∙ ap (complement n) (s .joins);
+    }
+
+pub apart-notShares : {n d X X′ : ℕ} {u u′ : Shares} → Apart n d X X′ u u′
+    → Apart n d (complement n X) (complement n X′) (notShares n u) (notShares n u′)
+apart-notShares {n} {d} {u = u} a =
+    record {
+      left = sharing-notShares (a .left);
+      right = sharing-notShares (a .right);
+      by = ap (complement n) (a .by) ∙ sym (complement-xor n (u .s0) d);
+    }
+
+pub share-notShares : (n : ℕ) (q : Bool) (u u′ : Shares) → share q u ≡ share q u′ → share q (notShares n u) ≡ share q (notShares n u′)
+share-notShares n false u u′ e = ap (complement n) e
+share-notShares n true u u′ e = e
+
+-- ---- zeros
 
 -- the sharing of 0 by zeros
 abbrev pub none : Shares
