@@ -1,12 +1,13 @@
 -- A loop that fills a list of n elements from the front by those of tab n f, and one that replaces the elements of l₀ so.
-use mathlib.Core.Path.{_≡_, refl, sym, _∙_}
-use mathlib.Core.List.{List}
-use Prim.Native.Nat.{ℕ, _+_, _<_, _≤_}
+use mathlib.Core.Path.{_≡_, refl, sym, ap, _∙_}
+use mathlib.Core.List.{List, _++_, append-assoc}
+use Prim.Native.Nat.{ℕ, _+_, _-_, _<_, _≤_}
+use native.Mathlib.Decide.{decLt}
 use native.Mathlib.Numerals.{add-one}
 use native.Mathlib.Omega.{arith}
-use lib.ListN.{length, getD, take, set, length-set}
-use lib.Seq.{take-suc-set, take-all, getD-set-other}
-use Rattle.words.specs.Tab.{tab}
+use lib.ListN.{length, getD, take, drop, set, length-set, length-append, length-drop}
+use lib.Seq.{take-suc-set, take-all, take-at, getD-take, getD-set-other}
+use Rattle.words.specs.Tab.{tab, length-tab, getD-tab, tab-add, tab-of}
 
 module _ {A : Type 0} where
   -- the first i of the n elements of l are in place
@@ -26,6 +27,21 @@ module _ {A : Type 0} where
         within = omega arith;
         long = length-set l i v ∙ a .long;
         front = let g : i < length l = omega arith in rw (add-one i, take-suc-set l i v g, a .front, e);
+      }
+
+  -- the elements from i to e, put in place at once
+  pub filled-part : {n : ℕ} {f : ℕ → A} {i e : ℕ} {l p : List A} → Filled n f i l → i ≤ e → e ≤ n → p ≡ tab (e - i) (λ k. f (i + k))
+      → Filled n f e (take i l ++ (p ++ drop (e - i) (drop i l)))
+  filled-part {n} {f} {i} {e} {l} {p} a h g q =
+      let r = drop (e - i) (drop i l) in
+      let w : i + (e - i) ≡ e = omega arith in
+      let b : length (tab i f ++ p) ≡ e =
+      length-append (tab i f) p ∙ omega (arith, length-tab i f, ap length q ∙ length-tab (e - i) (λ k. f (i + k))) in
+      rw (a .front, ← append-assoc (tab i f) p r)
+      record {
+        within = g;
+        long = length-append (tab i f ++ p) r ∙ omega (arith, length-drop (e - i) (drop i l), length-drop i l, a .long);
+        front = take-at (tab i f ++ p) r e b ∙ rw q (sym (tab-add i (e - i) f) ∙ ap (λ (x : ℕ). tab x f) w);
       }
 
   pub filled-end : {n : ℕ} {f : ℕ → A} {i : ℕ} {l : List A} → Filled n f i l → n ≤ i → l ≡ tab n f
@@ -51,3 +67,12 @@ module _ {A : Type 0} where
 
   pub replaced-end : {n : ℕ} {f : ℕ → A} {d : A} {l₀ : List A} {i : ℕ} {l : List A} → Replaced n f d l₀ i l → n ≤ i → l ≡ tab n f
   replaced-end a h = filled-end (a .filled) h
+
+  -- from i on the elements of l₀ are those of tab n f
+  pub replaced-stop : {n : ℕ} {f : ℕ → A} {d : A} {l₀ : List A} {i : ℕ} {l : List A} → Replaced n f d l₀ i l
+      → ((k : ℕ) → i ≤ k → getD l₀ k d ≡ f k) → l ≡ tab n f
+  replaced-stop {n} {f} {d} {l₀} {i} {l} a r = tab-of d l n (a .filled .long) (λ k h. go k (decLt k i))
+    where
+      go : (k : ℕ) → Dec (k < i) → getD l k d ≡ f k
+      go k (yes p) = sym (getD-take i l k d p) ∙ ap (λ (m : List A). getD m k d) (a .filled .front) ∙ getD-tab i f k d p
+      go k (no p) = a .rest k (omega arith) ∙ r k (omega arith)

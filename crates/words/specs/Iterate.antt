@@ -1,6 +1,7 @@
 -- n turns of a step: its definition, and the record that a loop keeps of it.
-use mathlib.Core.Path.{_≡_, refl, ap, _∙_}
-use Prim.Native.Nat.{ℕ, zero, suc, _+_, _<_, _≤_}
+use mathlib.Core.Path.{_≡_, refl, sym, ap, _∙_}
+use Prim.Native.Nat.{ℕ, zero, suc, _+_, _*_, _<_, _≤_}
+use native.Mathlib.Nat.{zero-mul, suc-mul}
 use native.Mathlib.Numerals.{add-one}
 use native.Mathlib.Omega.{arith}
 
@@ -18,6 +19,11 @@ module _ {A : Type 0} where
   iterate-keeps P (suc n) f {s} h p =
       h n (omega arith) (iterate n f s) (iterate-keeps P n f (λ j g. h j (omega arith)) p)
 
+  pub iterate-cong : (n : ℕ) {f g : ℕ → A → A} (s : A) → ((j : ℕ) → j < n → (t : A) → f j t ≡ g j t) → iterate n f s ≡ iterate n g s
+  unfolding iterate
+  iterate-cong zero s e = refl
+  iterate-cong (suc n) {f} {g} s e = e n (omega arith) (iterate n f s) ∙ ap (g n) (iterate-cong n s (λ j h. e j (omega arith)))
+
   -- a loop of n turns from s stands before turn j, at t
   pub record Reached (n : ℕ) (f : ℕ → A → A) (s : A) (j : ℕ) (t : A) : Type 0 where
     pub within : j ≤ n
@@ -33,3 +39,22 @@ module _ {A : Type 0} where
 
   pub reached-end : {n : ℕ} {f : ℕ → A → A} {s : A} {j : ℕ} {t : A} → Reached n f s j t → n ≤ j → t ≡ iterate n f s
   reached-end {n} {j = j} r h = let e : j ≡ n = omega arith in rw e at (r .is)
+
+  -- a loop that counts by k has gone from s to t, and from 0 to a
+  pub record ReachedBy (k : ℕ) (f : ℕ → A → A) (s : A) (a : ℕ) (t : A) : Type 0 where
+    pub turns : ℕ
+    pub at : a ≡ turns * k
+    pub is : t ≡ iterate turns f s
+
+  pub reached-by-start : {k : ℕ} {f : ℕ → A → A} {s : A} → ReachedBy k f s 0 s
+  unfolding iterate
+  reached-by-start {k} = record { turns = 0; at = sym (zero-mul k); is = refl }
+
+  pub reached-by-turn : {k : ℕ} {f : ℕ → A → A} {s : A} {a : ℕ} {t u : A} (r : ReachedBy k f s a t) → u ≡ f (r .turns) t → ReachedBy k f s (a + k) u
+  unfolding iterate
+  reached-by-turn {k} {f} r e =
+      record {
+        turns = suc (r .turns);
+        at = rw (suc-mul (r .turns) k) (ap (λ (x : ℕ). x + k) (r .at));
+        is = e ∙ ap (f (r .turns)) (r .is);
+      }

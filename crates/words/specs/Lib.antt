@@ -4,6 +4,7 @@ pub mod WordLaws
 pub mod Rotation
 pub mod Tab
 pub mod Iterate
+pub mod Part
 pub mod Fill
 pub mod Table
 pub mod Bounded

@@ -1,7 +1,8 @@
 -- The list f 0, f 1, .., f (n - 1).
 use mathlib.Core.Path.{_≡_, refl, sym, ap, ap₂, _∙_}
-use mathlib.Core.List.{List, [], _∷_, _++_, map}
+use mathlib.Core.List.{List, [], _∷_, _++_, map, append-nil, append-assoc}
 use Prim.Native.Nat.{ℕ, zero, suc, _+_, _<_, _≤_}
+use native.Mathlib.Nat.{add-zero, add-suc}
 use native.Mathlib.Decide.{decLt}
 use native.Mathlib.Omega.{arith}
 use lib.ListN.{length, getD, take, drop, length-append, length-take, length-drop, List·getD-append}
@@ -31,6 +32,12 @@ module _ {A : Type 0} where
   tab-cong zero e = refl
   tab-cong (suc n) e =
       ap₂ (λ (l : List A) (x : A). l ++ x ∷ []) (tab-cong n (λ i h. e i (omega arith))) (e n (omega arith))
+
+  pub tab-add : (n m : ℕ) (f : ℕ → A) → tab (n + m) f ≡ tab n f ++ tab m (λ i. f (n + i))
+  unfolding tab
+  tab-add n zero f = rw (add-zero n) (sym (append-nil (tab n f)))
+  tab-add n (suc m) f =
+      rw (add-suc n m, tab-add n m f) (append-assoc (tab n f) (tab m (λ i. f (n + i))) (f (n + m) ∷ []))
 
   -- a list is tabulated by its elements
   pub tab-of : (d : A) (l : List A) (n : ℕ) {f : ℕ → A} → length l ≡ n → ((i : ℕ) → i < n → getD l i d ≡ f i) → l ≡ tab n f

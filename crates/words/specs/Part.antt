@@ -1,0 +1,26 @@
+-- Parts of a list: the n elements from a on.
+use mathlib.Core.Path.{_≡_, refl}
+use mathlib.Core.List.{List, [], _∷_, _++_}
+use Prim.Native.Nat.{ℕ, zero, suc, _+_, _-_, _≤_}
+use native.Mathlib.Omega.{arith}
+use lib.ListN.{length, take, drop, length-drop}
+use lib.Seq.{length-take-le, take-all, take-take, take-append-le, drop-append-le}
+
+module _ {A : Type 0} where
+  pub length-part : (a n : ℕ) (l : List A) → a + n ≤ length l → length (take n (drop a l)) ≡ n
+  length-part a n l h = length-take-le n (drop a l) (omega (arith, length-drop a l))
+
+  pub part-take : (a n m : ℕ) (l : List A) → a + n ≤ m → take n (drop a (take m l)) ≡ take n (drop a l)
+  part-take zero n m l h = take-take n m l (omega arith)
+  part-take (suc a) n zero l h = absurd (omega arith)
+  part-take (suc a) n (suc m) [] h = refl
+  part-take (suc a) n (suc m) (x ∷ l) h = part-take a n m l (omega arith)
+
+  pub part-append : (a n : ℕ) (l m : List A) → a + n ≤ length l → take n (drop a (l ++ m)) ≡ take n (drop a l)
+  part-append a n l m h =
+      let g : a ≤ length l = omega arith in
+      rw (drop-append-le a l m g) (take-append-le n (drop a l) m (omega (arith, length-drop a l)))
+
+  -- all elements from a on
+  pub part-rest : (a : ℕ) (l : List A) → take (length l - a) (drop a l) ≡ drop a l
+  part-rest a l = take-all (length l - a) (drop a l) (omega (arith, length-drop a l))
