@@ -1,0 +1,93 @@
+use Prim.Native.Nat.{ℕ, zero, suc, _+_, _-_, _<_, _≤_}
+use mathlib.Core.Path.{_≡_, refl, sym, ap, _∙_}
+use mathlib.Core.List.{List, [], _∷_, _++_}
+use borrow.Author.Needs.{needs}
+use native.Mathlib.Nat.{sub-zero}
+use native.Mathlib.Numerals.{add-one}
+use native.Mathlib.Omega.{arith}
+use lib.Bits.{bitXor, xor-comm, xor-shifted}
+use lib.ListN.{length, getD, take, set, replicate, length-replicate, getD-replicate}
+use lib.Seq.{take-suc, take-length, take-suc-set, length-take-le, set-at, append-snoc}
+use Rattle.fips202.specs.Sponge.{padding}
+use Rattle.fips202.proofs.absorb.last_block.Statement.{statement}
+use Rattle.fips202.proofs.absorb.last_block.Tie as tie
+
+take-replicate : (k n : ℕ) → k ≤ n → take {A = ℕ} k (replicate n 0) ≡ replicate k 0
+take-replicate zero n h = refl
+take-replicate (suc k) zero h = absurd (omega arith)
+take-replicate (suc k) (suc n) h = ap (λ (l : List ℕ). 0 ∷ l) (take-replicate k n (omega arith))
+
+-- one more byte of p is copied over the zeros
+copy-turn : (p : List ℕ) (n i : ℕ) → i < length p → i < n
+    → set (take i p ++ replicate (n - i) 0) i (getD p i 0) ≡ take (i + 1) p ++ replicate (n - (i + 1)) 0
+copy-turn p n i h g =
+    let w : n - i ≡ suc (n - (i + 1)) = omega arith in
+    rw w
+    (set-at (take i p) 0 (replicate (n - (i + 1)) 0) (getD p i 0) i (length-take-le i p (omega arith))
+    ∙ rw (add-one i, take-suc p i 0 h) (sym (append-snoc (take i p) (getD p i 0) (replicate (n - suc i) 0))))
+
+-- what the two last stores leave in the first r of n zeros after p
+abbrev stored : ℕ → List ℕ → List ℕ → ℕ → List ℕ
+stored s p b r = let l = set b (length p) s in take r (set l (r - 1) (bitXor (getD l (r - 1) 0) 0x80))
+
+stores-padding : (s n r : ℕ) → s < 128 → 0 < r → r ≤ n → stored s [] (replicate n 0) r ≡ padding s r
+stores-padding s n zero h g k = absurd (omega arith)
+stores-padding s zero (suc r) h g k = absurd (omega arith)
+stores-padding s (suc n) (suc zero) h g k = ap (λ (x : ℕ). x ∷ []) (xor-comm s 0x80 ∙ xor-shifted 1 7 s h ∙ omega arith)
+stores-padding s (suc n) (suc (suc z)) h g k =
+    let w : suc (suc z) - 1 ≡ suc z = omega arith in
+    rw (w, getD-replicate {A = ℕ} n z 0 0 (omega arith))
+    (ap (λ (l : List ℕ). s ∷ l) (take-suc-set (replicate n 0) z 0x80 (rw (length-replicate {A = ℕ} n 0) (omega arith))
+    ∙ rw (take-replicate z n (omega arith))))
+
+stores : (s n r : ℕ) (p : List ℕ) → s < 128 → length p < r → r ≤ n
+    → stored s p (p ++ replicate (n - length p) 0) r ≡ p ++ padding s (r - length p)
+stores s n r [] h g k = rw (sub-zero n, sub-zero r) (stores-padding s n r h g k)
+stores s n zero (x ∷ p) h g k = absurd (omega arith)
+stores s n (suc zero) (x ∷ p) h g k = absurd (omega arith)
+stores s zero (suc (suc r)) (x ∷ p) h g k = absurd (omega arith)
+stores s (suc n) (suc (suc r)) (x ∷ p) h g k =
+    let a : suc n - suc (length p) ≡ n - length p = omega arith in
+    let b : suc (suc r) - suc (length p) ≡ suc r - length p = omega arith in
+    let d : suc (suc r) - 1 ≡ suc r = omega arith in
+    let e : suc r - 1 ≡ r = omega arith in
+    rw (a, b, d) (ap (λ (l : List ℕ). x ∷ l) (rw e at (stores s n (suc r) p h (omega arith) (omega arith))))
+
+abbrev Inv-loop : tie.InvT-loop
+Inv-loop p rate suffix b₀ i₀ b i = (i ≤ length p) × (b ≡ take i p ++ replicate (200 - i) 0)
+
+abbrev μ-loop : tie.MeasureT-loop
+μ-loop p rate suffix b₀ i₀ b i = length p - i
+
+loop-holds : tie.Need-loop-holds Inv-loop μ-loop
+loop-holds c = (search needs, refl)
+
+loop-again : tie.Need-loop-again Inv-loop μ-loop
+loop-again c =
+    let l = c .before .before in
+    (search needs, rw (l .loop .inv .1) (copy-turn (l .before .args .p .now) 200 (l .loop .i) (search needs) (search needs)))
+
+returns : tie.Need-returns Inv-loop μ-loop
+returns c =
+    let a = c .before .before .args in
+    let w : c .before .loop .i ≡ length (a .p .now) = omega arith in
+    rw (c .before .loop .inv .1, w, take-length (a .p .now)) (stores (a .suffix) 200 (a .rate) (a .p .now) (search needs) (search needs) (search needs))
+
+pub last-block-spec : {M : Type 1} → statement M
+last-block-spec =
+    tie.close
+    (tie.spec
+    Inv-loop
+    μ-loop
+    loop-holds
+    (λ c. search needs)
+    (λ c. search needs)
+    (λ c. search needs)
+    (λ c. search needs)
+    loop-again
+    (λ c. search needs)
+    (λ c. search needs)
+    (λ c. search needs)
+    (λ c. search needs)
+    (λ c. search needs)
+    returns)

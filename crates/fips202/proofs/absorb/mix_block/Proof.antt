@@ -1,0 +1,76 @@
+use Prim.Native.Nat.{ℕ, _+_, _-_, _*_, _/_, _%_, _<_, _≤_}
+use mathlib.Core.Path.{_≡_, refl, sym, ap, _∙_}
+use mathlib.Core.List.{List}
+use borrow.Author.Needs.{needs}
+use native.Mathlib.Omega.{arith}
+use lib.ListN.{length, getD, take, drop, length-take, drop-of-length-le}
+use Rattle.words.specs.Word.{xor}
+use Rattle.words.specs.WordLaws.{xor-zero}
+use Rattle.words.specs.Numeral.{value}
+use Rattle.words.specs.Part.{part-take}
+use Rattle.words.specs.Fill.{Replaced, replaced-start, replaced-turn, replaced-stop}
+use Rattle.fips202.specs.Sponge.{laneOf, mixed}
+use Rattle.fips202.proofs.absorb.mix_block.Statement.{statement}
+use Rattle.fips202.proofs.absorb.mix_block.Tie as tie
+
+abbrev lanesOf : ℕ → List ℕ → List ℕ → ℕ → ℕ
+lanesOf rate p s j = xor (getD s j 0) (laneOf (take rate p) j)
+
+-- past the block nothing is added
+lane-past : (rate : ℕ) (p s : List ℕ) (k : ℕ) → rate % 8 ≡ 0 → rate / 8 ≤ k → getD s k 0 ≡ lanesOf rate p s k
+unfolding value
+lane-past rate p s k d h =
+    rw (drop-of-length-le (take rate p) {i = 8 * k} (omega (arith, length-take rate p))) (sym (xor-zero (getD s k 0)))
+
+mix-lane : (rate : ℕ) (p : List ℕ) (j : ℕ) {w : ℕ} → j < rate / 8 → w ≡ value 256 (take (8 * j + 8 - 8 * j) (drop (8 * j) p)) → w ≡ laneOf (take rate p) j
+mix-lane rate p j h e =
+    let d : 8 * j + 8 - 8 * j ≡ 8 = omega arith in
+    e ∙ ap (value 256) (rw d (sym (part-take (8 * j) 8 rate p (omega arith))))
+
+abbrev Inv-loop : tie.InvT-loop
+Inv-loop p rate t₀ j₀ t j = Replaced 25 (lanesOf rate p (t₀ .lanes)) 0 (t₀ .lanes) j (t .lanes) × (j ≤ rate / 8)
+
+abbrev μ-loop : tie.MeasureT-loop
+μ-loop p rate t₀ j₀ t j = rate / 8 - j
+
+loop-holds : tie.Need-loop-holds Inv-loop μ-loop
+loop-holds c = (replaced-start (search needs), search needs)
+
+loop-again : tie.Need-loop-again Inv-loop μ-loop
+unfolding xor
+loop-again c =
+    let l = c .before .before .before .before in
+    let a = l .before .before .args in
+    let i = l .loop .inv .0 in (
+      replaced-turn i (omega arith)
+          (rw (i .rest (l .loop .j) (omega arith), mix-lane (a .rate) (a .p .now) (l .loop .j) (search needs) (c .load .ensures))),
+      search needs,
+    )
+
+returns : tie.Need-returns Inv-loop μ-loop
+unfolding mixed
+returns c =
+    let a = c .before .before .before .args in
+    replaced-stop (c .before .loop .inv .0) (λ k h. lane-past (a .rate) (a .p .now) (a .s .lanes) k (search needs) (omega arith))
+
+pub mix-block-spec : {M : Type 1} → statement M
+mix-block-spec =
+    tie.close
+    (tie.spec
+    Inv-loop
+    μ-loop
+    loop-holds
+    (λ c. search needs)
+    (λ c. search needs)
+    (λ c. search needs)
+    (λ c. search needs)
+    (λ c. search needs)
+    (λ c. search needs)
+    (λ c. search needs)
+    (λ c κs. search needs)
+    (λ c. search needs)
+    (λ c. search needs)
+    (λ c. search needs)
+    (λ c. search needs)
+    loop-again
+    returns)

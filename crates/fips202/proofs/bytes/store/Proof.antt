@@ -1,0 +1,55 @@
+use Prim.Native.Nat.{ℕ, _+_, _/_, _%_, _^_}
+use mathlib.Core.Path.{_≡_, ap, _∙_}
+use mathlib.Core.List.{List, [], _++_, append-nil}
+use borrow.Author.Needs.{needs}
+use native.Mathlib.Omega.{arith}
+use lib.ListN.{length, length-set, drop-of-length-le}
+use lib.Seq.{sets, sets-eq}
+use Rattle.words.specs.Tab.{tab}
+use Rattle.words.specs.Numeral.{digits-tab}
+use Rattle.fips202.proofs.bytes.store.Statement.{statement}
+use Rattle.fips202.proofs.bytes.store.Tie as tie
+
+sets-all : (l vs : List ℕ) → length l ≡ length vs → sets l 0 vs ≡ vs
+sets-all l vs h =
+    sets-eq vs l 0 (omega arith) ∙ ap (λ (r : List ℕ). vs ++ r) (drop-of-length-le l {i = 0 + length vs} (omega arith)) ∙ append-nil vs
+
+returns : tie.Need-returns
+unfolding tab
+returns c =
+    let a = c .before .before .before .before .before .before .before .before .before in
+    rw (
+      c .byte8 .ensures,
+      c .before .byte7 .ensures,
+      c .before .before .byte6 .ensures,
+      c .before .before .before .byte5 .ensures,
+      c .before .before .before .before .byte4 .ensures,
+      c .before .before .before .before .before .byte3 .ensures,
+      c .before .before .before .before .before .before .byte2 .ensures,
+      c .before .before .before .before .before .before .before .byte .ensures,
+      digits-tab 256 8 (a .args .w),
+    )
+    (sets-all (a .args .p .now) (tab 8 (λ k. a .args .w / 256 ^ k % 256)) (a .pre))
+
+pub store-spec : {M : Type 1} → statement M
+store-spec =
+    tie.close
+    (tie.spec
+    (λ c κs. search needs)
+    (λ c. search needs)
+    (λ c κs. search needs)
+    (λ c. search needs)
+    (λ c κs. search needs)
+    (λ c. search needs)
+    (λ c κs. search needs)
+    (λ c. search needs)
+    (λ c κs. search needs)
+    (λ c. simp length-set (omega arith))
+    (λ c κs. search needs)
+    (λ c. simp length-set (omega arith))
+    (λ c κs. search needs)
+    (λ c. simp length-set (omega arith))
+    (λ c κs. search needs)
+    (λ c. simp length-set (omega arith))
+    (λ c. search needs)
+    returns)

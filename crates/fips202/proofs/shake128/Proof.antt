@@ -1,0 +1,11 @@
+use borrow.Author.Needs.{needs}
+use Rattle.fips202.specs.Sponge.{shake128}
+use Rattle.fips202.proofs.shake128.Statement.{statement}
+use Rattle.fips202.proofs.shake128.Tie as tie
+
+returns : tie.Need-returns
+unfolding shake128
+returns c = c .before .before .sponge .ensures
+
+pub shake128-spec : {M : Type 1} → statement M
+shake128-spec = tie.close (tie.spec (λ c κs. search needs) (λ c. search needs) returns)

@@ -1,0 +1,85 @@
+use Prim.Native.Nat.{ℕ, _+_, _-_, _*_, _/_, _%_, _^_, _<_, _≤_}
+use mathlib.Core.Path.{_≡_, refl, sym, ap, _∙_}
+use mathlib.Core.List.{List}
+use borrow.Author.Needs.{needs}
+use native.Mathlib.Omega.{arith}
+use lib.ListN.{getD}
+use Rattle.words.specs.Tab.{tab, tab-cong}
+use Rattle.words.specs.Numeral.{digits, digits-tab}
+use Rattle.words.specs.Fill.{Filled, filled-start, filled-turn, filled-part, filled-end}
+use Rattle.fips202.specs.Sponge.{byteOf}
+use Rattle.fips202.proofs.squeeze.extract.Statement.{statement}
+use Rattle.fips202.proofs.squeeze.extract.Tie as tie
+
+lane-bytes : (s : List ℕ) (j : ℕ) → digits 256 8 (getD s j 0) ≡ tab (8 * j + 8 - 8 * j) (λ k. byteOf s (8 * j + k))
+lane-bytes s j =
+    let d : 8 * j + 8 - 8 * j ≡ 8 = omega arith in
+    rw d
+    (digits-tab 256 8 (getD s j 0)
+    ∙ tab-cong 8
+    (λ k h. let q : (8 * j + k) / 8 ≡ j = omega arith in let r : (8 * j + k) % 8 ≡ k = omega arith in rw (q, r)))
+
+abbrev Inv-loop : tie.InvT-loop
+Inv-loop out₀ s n j₀ out j = Filled n (byteOf (s .lanes)) (8 * j) out × (j ≤ n / 8)
+
+abbrev μ-loop : tie.MeasureT-loop
+μ-loop out₀ s n j₀ out j = n / 8 - j
+
+abbrev Inv-loop2 : tie.InvT-loop2
+Inv-loop2 out₀ s n j i₀ out i = Filled n (byteOf (s .lanes)) i out
+
+abbrev μ-loop2 : tie.MeasureT-loop2
+μ-loop2 out₀ s n j i₀ out i = n - i
+
+loop-holds : tie.Need-loop-holds Inv-loop μ-loop Inv-loop2 μ-loop2
+loop-holds c = (filled-start refl, search needs)
+
+loop-again : tie.Need-loop-again Inv-loop μ-loop Inv-loop2 μ-loop2
+loop-again c =
+    let l = c .before .before .before .before .before .before in
+    let w : 8 * (l .loop .j + 1) ≡ 8 * l .loop .j + 8 = omega arith in
+    (rw w (filled-part (l .loop .inv .0) (omega arith) (omega arith) (c .before .before .store .ensures ∙ lane-bytes (l .before .before .args .t1 .lanes) (l .loop .j))), search needs)
+
+loop2-holds : tie.Need-loop2-holds Inv-loop μ-loop Inv-loop2 μ-loop2
+loop2-holds c = c .before .loop .inv .0
+
+loop2-again : tie.Need-loop2-again Inv-loop μ-loop Inv-loop2 μ-loop2
+loop2-again c = filled-turn (c .before .before .before .loop2 .inv) (search needs) (c .byte .ensures)
+
+same-length : tie.Need-same-length Inv-loop μ-loop Inv-loop2 μ-loop2
+same-length c = c .before .loop2 .inv .long
+
+returns : tie.Need-returns Inv-loop μ-loop Inv-loop2 μ-loop2
+returns c = filled-end (c .before .loop2 .inv) (search needs)
+
+pub extract-spec : {M : Type 1} → statement M
+extract-spec =
+    tie.close
+    (tie.spec
+    Inv-loop
+    μ-loop
+    Inv-loop2
+    μ-loop2
+    loop-holds
+    (λ c. search needs)
+    (λ c. search needs)
+    (λ c. search needs)
+    (λ c. search needs)
+    (λ c. search needs)
+    (λ c. search needs)
+    (λ c. search needs)
+    (λ c κs. search needs)
+    (λ c. search needs)
+    (λ c. search needs)
+    loop-again
+    (λ c. search needs)
+    loop2-holds
+    (λ c. search needs)
+    (λ c. search needs)
+    (λ c κs. search needs)
+    (λ c. search needs)
+    (λ c. search needs)
+    (λ c. search needs)
+    loop2-again
+    same-length
+    returns)
