@@ -1,13 +1,13 @@
 -- Positional numerals to any base, the lowest digit first: bits are to base 2, bytes to base 256.
-use mathlib.Core.Path.{_≡_, refl, sym, ap, _∙_}
-use mathlib.Core.List.{List, [], _∷_}
+use mathlib.Core.Path.{_≡_, refl, sym, ap, ap₂, _∙_, subst}
+use mathlib.Core.List.{List, [], _∷_, _++_}
 use Prim.Native.Nat.{ℕ, zero, suc, _+_, _*_, _/_, _%_, _^_, _<_}
-use native.Mathlib.Nat.{mod-one, div-one, pow-zero, pow-suc, pow-succ', one-le-pow, div-div-eq-div-mul}
+use native.Mathlib.Nat.{mod-one, div-one, mod-lt, zero-add, suc-add, pow-zero, pow-suc, pow-succ', one-le-pow, add-mul-div-right, mul-add-mod-self-right, mod-add-div', div-lt-iff-lt-mul, div-div-eq-div-mul}
 use native.Mathlib.Omega.{arith}
 use lib.Arith.{digits-div, digits-mod, digits-lt, mod-mul}
 use lib.ListN.{length, getD}
 use Rattle.words.specs.Tab.{tab, tab-of}
-use Rattle.words.specs.Bounded.{Below, below-head, below-tail}
+use Rattle.words.specs.Bounded.{Below, below-nil, below-cons, below-head, below-tail}
 
 -- the number with these digits
 unfoldable pub value : ℕ → List ℕ → ℕ
@@ -24,12 +24,35 @@ unfolding digits
 length-digits b zero x = refl
 length-digits b (suc n) x = ap suc (length-digits b n (x / b))
 
+pub below-digits : (b n x : ℕ) → 0 < b → Below b (digits b n x)
+unfolding digits
+below-digits b zero x h = below-nil h
+below-digits b (suc n) x h = below-cons (mod-lt x h) (below-digits b n (x / b) h)
+
 -- the lowest digit, and the number above it
 pub value-tail : {b x : ℕ} (v : ℕ) → x < b → (x + v * b) / b ≡ v
 value-tail {b} {x} v h = ap (λ (n : ℕ). n / b) (omega arith) ∙ digits-div v h
 
 pub value-head : {b x : ℕ} (v : ℕ) → x < b → (x + v * b) % b ≡ x
 value-head {b} {x} v h = ap (λ (n : ℕ). n % b) (omega arith) ∙ digits-mod v h
+
+-- the digits of v, and those of x above them
+pub digits-append : (b n m v x : ℕ) → 0 < b → v < b ^ n → digits b (n + m) (v + x * b ^ n) ≡ digits b n v ++ digits b m x
+unfolding digits
+digits-append b zero m v x h l =
+    let e : v + x * b ^ 0 ≡ x = omega (arith, pow-zero b, ap (λ (k : ℕ). x * k) (pow-zero b)) in
+    rw (zero-add m, e)
+digits-append b (suc n) m v x h l =
+    let p : x * b ^ suc n ≡ x * b ^ n * b = omega (arith, ap (λ (k : ℕ). x * k) (pow-suc b n)) in
+    rw (suc-add n m, p, add-mul-div-right v (x * b ^ n) h)
+    (ap₂ (λ (y : ℕ) (l : List ℕ). y ∷ l)
+    (ap (λ (y : ℕ). y % b) (omega arith) ∙ mul-add-mod-self-right (x * b ^ n) b v)
+    (digits-append b n m (v / b) x h (div-lt-iff-lt-mul h .1 (subst (λ (k : ℕ). v < k) (pow-suc b n) l))))
+
+pub digits-split : (b n m x : ℕ) → 0 < b → digits b (n + m) x ≡ digits b n (x % b ^ n) ++ digits b m (x / b ^ n)
+digits-split b n m x h =
+    ap (digits b (n + m)) (sym (mod-add-div' x (b ^ n)))
+    ∙ digits-append b n m (x % b ^ n) (x / b ^ n) h (mod-lt x (one-le-pow n b h))
 
 pub digits-value : (b : ℕ) (l : List ℕ) → Below b l → digits b (length l) (value b l) ≡ l
 unfolding digits value

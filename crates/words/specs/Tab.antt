@@ -56,3 +56,6 @@ pub map-tab : {A B : Type 0} (g : A → B) (n : ℕ) (f : ℕ → A) → map g (
 map-tab {A} {B} g n f =
     tab-of (g (f 0)) _ n (lib.ListN.length-map (tab n f) g ∙ length-tab n f)
     (λ i h. lib.ListN.List·getD-map g (tab n f) i (f 0) ∙ ap g (getD-tab n f i (f 0) h))
+
+pub tab-getD : {A B : Type 0} (g : A → B) (d : A) (l : List A) → tab (length l) (λ i. g (getD l i d)) ≡ map g l
+tab-getD g d l = sym (tab-of (g d) (map g l) (length l) (lib.ListN.length-map l g) (λ i h. lib.ListN.List·getD-map g l i d))
