@@ -1,0 +1,70 @@
+-- The laws of sums and differences of polynomials.
+use mathlib.Core.Path.{_≡_, refl, sym, ap, ap₂, _∙_}
+use mathlib.Core.List.{List}
+use Prim.Native.Nat.{ℕ, _+_, _-_, _*_, _%_, _<_}
+use native.Mathlib.Nat.{mod-lt}
+use native.Mathlib.Decide.{decLt, ℕ-discrete}
+use native.Mathlib.Omega.{arith}
+use lib.ListN.{length, getD, set, length-set, List·getD-eq-default}
+use lib.Seq.{getD-set-same, getD-set-other, ext-getD}
+use Rattle.words.specs.Residue.{q, add-swap-mod}
+use Rattle.words.specs.Tab.{tab, length-tab, getD-tab, tab-cong, tab-of}
+use Rattle.words.specs.Bounded.{Below, below-tab}
+use Rattle.ring.specs.Polynomial.{minus, add, sub}
+
+pub length-add : (f g : List ℕ) → length (add f g) ≡ length f
+unfolding add
+length-add f g = length-tab (length f) _
+
+pub length-sub : (f g : List ℕ) → length (sub f g) ≡ length f
+unfolding sub
+length-sub f g = length-tab (length f) _
+
+pub below-add : (f g : List ℕ) → Below q (add f g)
+unfolding add
+below-add f g = below-tab (length f) (omega arith) (λ i h. mod-lt _ (omega arith))
+
+pub below-sub : (f g : List ℕ) → Below q (sub f g)
+unfolding sub
+below-sub f g = below-tab (length f) (omega arith) (λ i h. mod-lt _ (omega arith))
+
+pub getD-add : (f g : List ℕ) (k : ℕ) → length f ≡ length g → getD (add f g) k 0 ≡ (getD f k 0 + getD g k 0) % q
+unfolding add
+getD-add f g k e = go (decLt k (length f))
+  where
+    go : Dec (k < length f) → getD (tab (length f) (λ i. (getD f i 0 + getD g i 0) % q)) k 0 ≡ (getD f k 0 + getD g k 0) % q
+    go (yes h) = getD-tab (length f) _ k 0 h
+    go (no h) =
+        rw (
+          List·getD-eq-default (tab (length f) (λ i. (getD f i 0 + getD g i 0) % q)) 0 {n = k} (omega (arith, length-tab (length f) (λ i. (getD f i 0 + getD g i 0) % q))),
+          List·getD-eq-default f 0 {n = k} (omega arith),
+          List·getD-eq-default g 0 {n = k} (omega arith),
+        )
+
+-- sums of two, regrouped
+pub add-swap : (a b c d : List ℕ) → length a ≡ length b → length c ≡ length d → length a ≡ length c → add (add a b) (add c d) ≡ add (add a c) (add b d)
+add-swap a b c d h k l =
+    ext-getD 0 _ _ (length-add (add a b) (add c d) ∙ length-add a b ∙ sym (length-add (add a c) (add b d) ∙ length-add a c))
+    (λ i g.
+    getD-add (add a b) (add c d) i (omega (arith, length-add a b, length-add c d))
+    ∙ ap₂ (λ (x y : ℕ). (x + y) % q) (getD-add a b i h) (getD-add c d i k)
+    ∙ add-swap-mod (getD a i 0) (getD b i 0) (getD c i 0) (getD d i 0) q
+    ∙ sym
+    (getD-add (add a c) (add b d) i (omega (arith, length-add a c, length-add b d))
+    ∙ ap₂ (λ (x y : ℕ). (x + y) % q) (getD-add a c i l) (getD-add b d i (omega arith))))
+
+pub add-set : (f g : List ℕ) (i x y : ℕ) → length f ≡ length g → add (set f i x) (set g i y) ≡ set (add f g) i ((x + y) % q)
+add-set f g i x y e =
+    ext-getD 0 _ _ (length-add (set f i x) (set g i y) ∙ length-set f i x ∙ sym (length-set (add f g) i _ ∙ length-add f g))
+    (λ k h.
+    getD-add (set f i x) (set g i y) k (length-set f i x ∙ e ∙ sym (length-set g i y))
+    ∙ go k (omega (arith, length-add (set f i x) (set g i y), length-set f i x)) (ℕ-discrete k i))
+  where
+    go : (k : ℕ) → k < length f → Dec (k ≡ i) → (getD (set f i x) k 0 + getD (set g i y) k 0) % q ≡ getD (set (add f g) i ((x + y) % q)) k 0
+    go k h (yes p) =
+        rw p
+        (ap₂ (λ (m n : ℕ). (m + n) % q) (getD-set-same f i x 0 (omega arith)) (getD-set-same g i y 0 (omega arith))
+        ∙ sym (getD-set-same (add f g) i ((x + y) % q) 0 (omega (arith, length-add f g))))
+    go k h (no p) =
+        ap₂ (λ (m n : ℕ). (m + n) % q) (getD-set-other f i k x 0 p) (getD-set-other g i k y 0 p)
+        ∙ sym (getD-set-other (add f g) i k ((x + y) % q) 0 p ∙ getD-add f g k e)
