@@ -1,0 +1,49 @@
+// The outward calls for C (include/tifolanzo.h). Each returns 0 where it is carried out and else the refusal's number in document 01.
+ghost use mathlib.Core.Path.{_≡_};
+ghost use lib.ListN.{length};
+ghost use Rattle.fips202.specs.Calls.{number, sizedAnswer, sizedOutput};
+ghost use Rattle.fips202.specs.Sponge.{sha3-256, sha3-512, shake128, shake256};
+use fips202::Answer;
+
+fn refusal(answer: Answer) -> u32
+    ensures { λ r. ⌜ r ≡ number answer ⌝ }
+{
+    match answer {
+        Answer::Done => 0,
+        Answer::WrongLength => 1,
+    }
+}
+
+#[no_mangle]
+pub extern "C" fn tifo_sha3_256(input: &[u8], out: &mut [u8]) -> u32
+    ensures { λ r. ⌜ r ≡ number (sizedAnswer 32 (now (out .entry))) ⌝ }
+    ensures { λ _. ⌜ now (out .exit) ≡ sizedOutput 32 (sha3-256 (now (input .entry))) (now (out .entry)) ⌝ }
+{
+    refusal(fips202::sha3_256(input, out))
+}
+
+#[no_mangle]
+pub extern "C" fn tifo_sha3_512(input: &[u8], out: &mut [u8]) -> u32
+    ensures { λ r. ⌜ r ≡ number (sizedAnswer 64 (now (out .entry))) ⌝ }
+    ensures { λ _. ⌜ now (out .exit) ≡ sizedOutput 64 (sha3-512 (now (input .entry))) (now (out .entry)) ⌝ }
+{
+    refusal(fips202::sha3_512(input, out))
+}
+
+#[no_mangle]
+pub extern "C" fn tifo_shake128(input: &[u8], out: &mut [u8]) -> u32
+    ensures { λ r. ⌜ r ≡ 0 ⌝ }
+    ensures { λ _. ⌜ now (out .exit) ≡ shake128 (now (input .entry)) (length (now (out .entry))) ⌝ }
+{
+    fips202::shake128(input, out);
+    0
+}
+
+#[no_mangle]
+pub extern "C" fn tifo_shake256(input: &[u8], out: &mut [u8]) -> u32
+    ensures { λ r. ⌜ r ≡ 0 ⌝ }
+    ensures { λ _. ⌜ now (out .exit) ≡ shake256 (now (input .entry)) (length (now (out .entry))) ⌝ }
+{
+    fips202::shake256(input, out);
+    0
+}
