@@ -4,7 +4,7 @@ use mathlib.Core.List.{List, [], _∷_, _++_}
 use Prim.Native.Nat.{ℕ, zero, suc, _+_, _<_}
 use native.Mathlib.Decide.{decLt}
 use native.Mathlib.Omega.{arith}
-use lib.ListN.{length, getD, take, drop, set, List·getD-eq-default, length-take}
+use lib.ListN.{length, getD, take, drop, set, replicate, List·getD-eq-default, length-take}
 use lib.Seq.{getD-take, getD-drop}
 use Rattle.words.specs.Tab.{tab, length-tab, getD-tab}
 
@@ -34,6 +34,10 @@ module _ {b : ℕ} where
   pub below-append : (l : List ℕ) {m : List ℕ} → Below b l → Below b m → Below b (l ++ m)
   below-append [] h g = g
   below-append (x ∷ l) h g = below-cons (below-head h) (below-append l (below-tail h) g)
+
+  pub below-zeros : (n : ℕ) → 0 < b → Below b (replicate n 0)
+  below-zeros zero p = below-nil p
+  below-zeros (suc n) p = below-cons p (below-zeros n p)
 
   pub below-drop : (n : ℕ) {l : List ℕ} → Below b l → Below b (drop n l)
   below-drop n {l} h = record { at = λ k. rw (getD-drop n l k 0) (h .at (n + k)) }

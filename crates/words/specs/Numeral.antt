@@ -2,12 +2,12 @@
 use mathlib.Core.Path.{_≡_, refl, sym, ap, ap₂, _∙_, subst}
 use mathlib.Core.List.{List, [], _∷_, _++_}
 use Prim.Native.Nat.{ℕ, zero, suc, _+_, _*_, _/_, _%_, _^_, _<_}
-use native.Mathlib.Nat.{mod-one, div-one, mod-lt, zero-add, suc-add, pow-zero, pow-suc, pow-succ', one-le-pow, add-mul-div-right, mul-add-mod-self-right, mod-add-div', div-lt-iff-lt-mul, div-div-eq-div-mul}
+use native.Mathlib.Nat.{add-zero, zero-mul, mul-one, mul-assoc, add-mul, mod-one, div-one, mod-lt, zero-add, suc-add, pow-zero, pow-suc, pow-succ', one-le-pow, add-mul-div-right, mul-add-mod-self-right, mod-add-div', div-lt-iff-lt-mul, div-div-eq-div-mul}
 use native.Mathlib.Omega.{arith}
 use lib.Arith.{digits-div, digits-mod, digits-lt, mod-mul}
-use lib.ListN.{length, getD}
+use lib.ListN.{length, getD, replicate, length-append, length-replicate}
 use Rattle.words.specs.Tab.{tab, tab-of}
-use Rattle.words.specs.Bounded.{Below, below-nil, below-cons, below-head, below-tail}
+use Rattle.words.specs.Bounded.{Below, below-positive, below-nil, below-cons, below-head, below-tail, below-append, below-zeros}
 
 -- the number with these digits
 unfoldable pub value : ℕ → List ℕ → ℕ
@@ -84,3 +84,23 @@ getD-digits b (suc n) x (suc i) h =
 
 pub digits-tab : (b n x : ℕ) → digits b n x ≡ tab n (λ i. x / b ^ i % b)
 digits-tab b n x = tab-of 0 (digits b n x) n (length-digits b n x) (λ i h. getD-digits b n x i h)
+
+pub value-append : (b : ℕ) (l m : List ℕ) → value b (l ++ m) ≡ value b l + value b m * b ^ length l
+unfolding value
+value-append b [] m = rw (pow-zero b, mul-one (value b m)) (omega arith)
+value-append b (x ∷ l) m =
+    rw (value-append b l m, pow-suc b (length l), ← mul-assoc (value b m) (b ^ length l) b, add-mul (value b l) (value b m * b ^ length l) b)
+    (omega arith)
+
+pub value-zeros : (b n : ℕ) → value b (replicate n 0) ≡ 0
+unfolding value
+value-zeros b zero = refl
+value-zeros b (suc n) = rw (value-zeros b n, zero-mul b)
+
+-- above its last digit a numeral goes on by zeros
+pub digits-value-zeros : (b : ℕ) (l : List ℕ) (n : ℕ) → Below b l → digits b (length l + n) (value b l) ≡ l ++ replicate n 0
+digits-value-zeros b l n h =
+    ap₂ (digits b)
+    (sym (length-append l (replicate n 0) ∙ ap (λ (k : ℕ). length l + k) (length-replicate n 0)))
+    (sym (value-append b l (replicate n 0) ∙ rw (value-zeros b n, zero-mul (b ^ length l)) (add-zero (value b l))))
+    ∙ digits-value b (l ++ replicate n 0) (below-append l h (below-zeros n (below-positive h)))
