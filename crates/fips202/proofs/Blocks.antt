@@ -13,14 +13,14 @@ use Rattle.words.specs.Part.{part-append, part-rest}
 use Rattle.keccak.specs.KeccakP.{keccak-p}
 use Rattle.fips202.specs.Sponge.{padding, padded, mixed, absorbed}
 
-pub length-padding : (suffix q : ℕ) → length (padding suffix q) ≡ q
+length-padding : (suffix q : ℕ) → length (padding suffix q) ≡ q
 length-padding suffix zero = refl
 length-padding suffix (suc zero) = refl
 length-padding suffix (suc (suc z)) =
     ap suc (length-append (replicate z 0) (0x80 ∷ []) ∙ rw (length-replicate {A = ℕ} z 0) (add-one z))
 
 -- the state with block i of m taken in
-abbrev pub taken : ℕ → List ℕ → ℕ → List ℕ → List ℕ
+abbrev taken : ℕ → List ℕ → ℕ → List ℕ → List ℕ
 taken rate m i s = keccak-p (mixed (take rate (drop (i * rate) m)) s)
 
 -- m has q whole blocks and a rest
@@ -56,7 +56,7 @@ module _ (rate suffix : ℕ) (m : List ℕ) (q : ℕ) (h : q * rate ≤ length m
       (take-all rate (rest ++ pad)
       (rw (length-append rest pad, length-padding suffix (rate - length rest)) (omega (arith, length-rest))))
 
-  pub absorbed-padded : absorbed rate (padded rate suffix m) ≡ keccak-p (mixed (rest ++ pad) (iterate q (taken rate m) (replicate 25 0)))
+  absorbed-padded : absorbed rate (padded rate suffix m) ≡ keccak-p (mixed (rest ++ pad) (iterate q (taken rate m) (replicate 25 0)))
   unfolding absorbed iterate
   absorbed-padded =
       rw (length-padded, mul-div-cancel (suc q) {n = rate} (omega arith), last-padded)

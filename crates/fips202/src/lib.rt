@@ -18,7 +18,7 @@ pub enum Answer {
 }
 
 // Algorithm 8 with pad10*1: out is filled.
-pub fn sponge(rate: usize, suffix: u8, m: &[u8], out: &mut [u8])
+fn sponge(rate: usize, suffix: u8, m: &[u8], out: &mut [u8])
     requires { ⌜ (0 < rate) × (rate ≤ 200) × (rate % 8 ≡ 0) × (suffix < 128) ⌝ }
     ensures { λ _. ⌜ now (out .exit) ≡ spongeOf rate suffix (now (m .entry)) (length (now (out .entry))) ⌝ }
 {

@@ -1,7 +1,6 @@
 use Prim.Native.Nat.{_-_}
 use mathlib.Core.Path.{ap, _∙_}
 use borrow.Author.Needs.{needs}
-use native.Mathlib.Omega.{arith}
 use lib.ListN.{length}
 use Rattle.keccak.specs.KeccakP.{keccak-p}
 use Rattle.fips202.proofs.Blocks.{Absorbing, absorbing-start, absorbing-turn, absorbing-end}
