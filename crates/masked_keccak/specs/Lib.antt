@@ -1,1 +1,2 @@
 pub mod MaskedKeccak
+pub mod Rows
