@@ -31,6 +31,6 @@ chiRows s = do
   u ← chiRow (sharedRowOf s 20)
   ret (p ++ (q ++ (r ++ (t ++ u))))
 
-pub chi-rows : (s : SharedList) → chiRows s ≡ chi s
+pub chi-rows : (s : SharedList) → chi s ≡ chiRows s
 unfolding chi chiRows chiRow chiLane times loop _>>=_ mask maskLow entry maskedNot maskedAnd maskedXor
 chi-rows s = refl

@@ -1,10 +1,11 @@
 -- Two shares of a list of numbers: of a state's lanes, a string's bytes or a polynomial's coefficients.
+use mathlib.Core.Path.{_≡_, sym, ap₂, _∙_}
 use mathlib.Core.List.{List}
 use Prim.Native.Nat.{ℕ}
-use lib.ListN.{getD}
-use Rattle.words.specs.Tab.{tab}
+use lib.ListN.{length, getD}
+use Rattle.words.specs.Tab.{tab, tab-of}
 use Rattle.worksheet.specs.declared.Shares.{Shares}
-use Rattle.worksheet.specs.Sharing.{shares}
+use Rattle.worksheet.specs.Sharing.{shares, joined}
 
 pub record SharedList : Type 0 where
   pub s0 : List ℕ
@@ -20,3 +21,11 @@ sharedAt s i = shares (getD (s .s0) i 0) (getD (s .s1) i 0)
 -- n sharings as two lists
 unfoldable pub unzip : ℕ → (ℕ → Shares) → SharedList
 unzip n f = sharedList (tab n (λ i. f i .s0)) (tab n (λ i. f i .s1))
+
+-- two lists as n sharings
+unfoldable pub zip : ℕ → SharedList → List Shares
+zip n s = tab n (sharedAt s)
+
+-- the list of words that two shares of it stand for
+unfoldable pub joinedList : SharedList → List ℕ
+joinedList s = tab (length (s .s0)) (λ i. joined (sharedAt s i))
