@@ -1,4 +1,60 @@
 // Keccak-p[1600, 24] on two shares of a state (document 01, The gadgets: Hash).
+ghost use mathlib.Core.Path.{_≡_};
+ghost use Prim.Native.Nat.{_≤_};
+ghost use lib.ListN.{length};
+ghost use Rattle.keccak.specs.KeccakP.{constant};
+ghost use Rattle.worksheet.specs.Prog.{word};
+ghost use Rattle.worksheet.specs.Ran.{Draws};
+ghost use Rattle.worksheet.specs.SharedList.{sharedList};
+ghost use Rattle.masked_keccak.specs.MaskedKeccak.{round as roundOf, maskedKeccakP};
+use crate::chi::EnteredStates;
+use crate::chi::chi;
+use crate::pass::pass;
+use keccak::constants::round_constant;
+use keccak::state::State;
+use worksheet::Recorder;
+use worksheet::enter_xor;
 
 pub mod chi; // chi on two shares
 pub mod pass; // theta, rho and pi on one share
+
+// Round i, with its constant k and 25 masks.
+fn round(rec: Recorder, a: State, b: State, ws: &[u64], i: usize, k: u64) -> EnteredStates
+    requires { ⌜ (25 ≤ length (now ws)) × (k ≡ constant i) ⌝ }
+    ensures { λ o. ⌜ Draws word 25 (roundOf i (sharedList (a .lanes) (b .lanes))) rec (now (ws .entry)) (sharedList (o .s0 .lanes) (o .s1 .lanes)) (o .rec) ⌝ }
+{
+    let p = pass(rec, a);
+    let q = pass(p.rec, b);
+    let o = chi(q.rec, p.value, q.value, ws);
+    let mut s = o.s0;
+    let e = enter_xor(o.rec, s.lanes[0], k);
+    s.lanes[0] = e.value;
+    let t = o.s1;
+    let last = e.rec;
+    EnteredStates {
+        s0: s,
+        s1: t,
+        rec: last,
+    }
+}
+
+// The permutation of the state with the shares a and b, with 600 masks.
+pub fn permute(rec: Recorder, a: State, b: State, ws: &[u64]) -> EnteredStates
+    requires { ⌜ 600 ≤ length (now ws) ⌝ }
+    ensures { λ o. ⌜ Draws word 600 (maskedKeccakP (sharedList (a .lanes) (b .lanes))) rec (now (ws .entry)) (sharedList (o .s0 .lanes) (o .s1 .lanes)) (o .rec) ⌝ }
+{
+    let mut rec = rec;
+    let mut s = a;
+    let mut t = b;
+    let mut reg: u8 = 1;
+    for i in 0..24 {
+        let k = round_constant(i, reg);
+        let p = 25 * i;
+        let o = round(rec, s, t, &ws[p..], i, k.word);
+        s = o.s0;
+        t = o.s1;
+        rec = o.rec;
+        reg = k.next;
+    }
+    EnteredStates { s0: s, s1: t, rec }
+}

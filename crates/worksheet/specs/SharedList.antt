@@ -1,9 +1,9 @@
 -- Two shares of a list of numbers: of a state's lanes, a string's bytes or a polynomial's coefficients.
-use mathlib.Core.Path.{_≡_, sym, ap₂, _∙_}
+use mathlib.Core.Path.{_≡_, sym, ap, ap₂}
 use mathlib.Core.List.{List}
-use Prim.Native.Nat.{ℕ}
+use Prim.Native.Nat.{ℕ, _<_}
 use lib.ListN.{length, getD}
-use Rattle.words.specs.Tab.{tab, tab-of}
+use Rattle.words.specs.Tab.{tab, getD-tab, tab-of}
 use Rattle.worksheet.specs.declared.Shares.{Shares}
 use Rattle.worksheet.specs.Sharing.{shares, joined}
 
@@ -29,3 +29,13 @@ zip n s = tab n (sharedAt s)
 -- the list of words that two shares of it stand for
 unfoldable pub joinedList : SharedList → List ℕ
 joinedList s = tab (length (s .s0)) (λ i. joined (sharedAt s i))
+
+pub getD-zip : (n : ℕ) (s : SharedList) (i : ℕ) (d : Shares) → i < n → getD (zip n s) i d ≡ sharedAt s i
+unfolding zip
+getD-zip n s = getD-tab n (sharedAt s)
+
+pub unzip-zip : (n : ℕ) (s : SharedList) (d : Shares) → length (s .s0) ≡ n → length (s .s1) ≡ n → unzip n (λ i. getD (zip n s) i d) ≡ s
+unfolding unzip
+unzip-zip n s d e0 e1 =
+    ap₂ sharedList (sym (tab-of 0 (s .s0) n e0 (λ i h. sym (ap (λ (z : Shares). z .s0) (getD-zip n s i d h)))))
+    (sym (tab-of 0 (s .s1) n e1 (λ i h. sym (ap (λ (z : Shares). z .s1) (getD-zip n s i d h)))))

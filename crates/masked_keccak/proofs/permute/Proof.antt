@@ -1,0 +1,68 @@
+use Prim.Native.Nat.{ℕ, _+_, _-_, _*_, _≤_}
+use mathlib.Core.Path.{_≡_, refl}
+use mathlib.Core.List.{List}
+use borrow.Author.Needs.{needs}
+use native.Mathlib.Omega.{arith}
+use lib.ListN.{drop, length-take, length-drop}
+use Rattle.words.specs.Iterate.{iterate}
+use Rattle.keccak.specs.KeccakP.{register}
+use Rattle.worksheet.specs.Prog.{loop}
+use Rattle.worksheet.specs.Ran.{Ran, part-words}
+use Rattle.worksheet.specs.RanLoops.{loop-start, loop-turn}
+use Rattle.worksheet.specs.SharedList.{sharedList}
+use Rattle.masked_keccak.specs.MaskedKeccak.{round, maskedKeccakP}
+use Rattle.masked_keccak.proofs.permute.Statement.{statement}
+use Rattle.masked_keccak.proofs.permute.Tie as tie
+
+abbrev Inv-loop : tie.InvT-loop
+Inv-loop ws rec₀ s₀ t₀ reg₀ i₀ rec s t reg i =
+    (i ≤ 24) × (reg ≡ register (7 * i))
+    × ((cs : List ℕ) → Ran (loop i round (sharedList (s₀ .lanes) (t₀ .lanes))) rec₀ ws cs (sharedList (s .lanes) (t .lanes)) rec (drop (25 * i) ws) cs)
+
+abbrev μ-loop : tie.MeasureT-loop
+μ-loop ws rec₀ s₀ t₀ reg₀ i₀ rec s t reg i = 24 - i
+
+loop-holds : tie.Need-loop-holds Inv-loop μ-loop
+unfolding register iterate
+loop-holds c = (omega arith, refl, λ cs. loop-start _ _)
+
+round-requires : tie.Need-round-requires Inv-loop μ-loop
+round-requires c κs = (simp (length-take, length-drop) (omega arith), c .before .round-constant .ensures .0)
+
+loop-again : tie.Need-loop-again Inv-loop μ-loop
+loop-again c =
+    let c3 = c .before .before .before in
+    let c5 = c3 .before .before in
+    let at = c5 .before .before in
+    let ws = at .before .before .args .ws .now in
+    let i = at .loop .i in
+    let e : 25 * i + 25 ≡ 25 * (i + 1) = omega arith in (
+      omega arith,
+      c5 .round-constant .ensures .1,
+      λ cs. loop-turn _ _ i (at .loop .inv .2 cs) (rw e at (part-words ws (25 * i) 25 (c3 .round .ensures cs))),
+    )
+
+returns : tie.Need-returns Inv-loop μ-loop
+unfolding maskedKeccakP
+returns c cs =
+    let e : c .before .loop .i ≡ 24 = omega arith in
+    rw e at (c .before .loop .inv .2 cs)
+
+pub permute-spec : {M : Type 1} → statement M
+permute-spec =
+    tie.close
+    (tie.spec
+    Inv-loop
+    μ-loop
+    loop-holds
+    (λ c κs. (omega arith, c .before .loop .inv .1))
+    (λ c. search needs)
+    (λ c. search needs)
+    (λ c. search needs)
+    (λ c. search needs)
+    (λ c. search needs)
+    round-requires
+    (λ c. search needs)
+    (λ c. search needs)
+    loop-again
+    returns)
