@@ -1,13 +1,13 @@
 -- A loop that fills a list of n elements from the front by those of tab n f, and one that replaces the elements of l₀ so.
 use mathlib.Core.Path.{_≡_, refl, sym, ap, _∙_}
-use mathlib.Core.List.{List, _++_, append-assoc}
+use mathlib.Core.List.{List, _++_, append-assoc, map}
 use Prim.Native.Nat.{ℕ, _+_, _-_, _<_, _≤_}
 use native.Mathlib.Decide.{decLt}
 use native.Mathlib.Numerals.{add-one}
 use native.Mathlib.Omega.{arith}
 use lib.ListN.{length, getD, take, drop, set, length-set, length-append, length-drop}
 use lib.Seq.{take-suc-set, take-all, take-at, getD-take, getD-set-other}
-use Rattle.words.specs.Tab.{tab, length-tab, getD-tab, tab-add, tab-of}
+use Rattle.words.specs.Tab.{tab, length-tab, getD-tab, tab-add, tab-of, tab-getD}
 
 module _ {A : Type 0} where
   -- the first i of the n elements of l are in place
@@ -76,3 +76,17 @@ module _ {A : Type 0} where
       go : (k : ℕ) → Dec (k < i) → getD l k d ≡ f k
       go k (yes p) = sym (getD-take i l k d p) ∙ ap (λ (m : List A). getD m k d) (a .filled .front) ∙ getD-tab i f k d p
       go k (no p) = a .rest k (omega arith) ∙ r k (omega arith)
+
+  -- the first i elements of l₀ are replaced by their values under g
+  pub record Mapped (g : A → A) (d : A) (l₀ : List A) (i : ℕ) (l : List A) : Type 0 where
+    pub replaced : Replaced (length l₀) (λ k. g (getD l₀ k d)) d l₀ i l
+
+  pub mapped-start : {g : A → A} {d : A} {l : List A} → Mapped g d l 0 l
+  mapped-start = record { replaced = replaced-start refl }
+
+  pub mapped-turn : {g : A → A} {d : A} {l₀ : List A} {i : ℕ} {l : List A} {v : A} → Mapped g d l₀ i l → i < length l₀ → v ≡ g (getD l i d)
+      → Mapped g d l₀ (i + 1) (set l i v)
+  mapped-turn {g} {i = i} a h e = record { replaced = replaced-turn (a .replaced) h (e ∙ ap g (a .replaced .rest i (omega arith))) }
+
+  pub mapped-end : {g : A → A} {d : A} {l₀ : List A} {i : ℕ} {l : List A} → Mapped g d l₀ i l → length l₀ ≤ i → l ≡ map g l₀
+  mapped-end {g} {d} {l₀} a h = replaced-end (a .replaced) h ∙ tab-getD g d l₀
