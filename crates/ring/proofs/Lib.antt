@@ -2,3 +2,4 @@ pub mod Barrett
 pub mod Powers
 pub mod Layers
 pub mod InPlace
+pub mod Repack

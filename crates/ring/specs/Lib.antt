@@ -1,6 +1,7 @@
 pub mod Bytes
 pub mod BytesLaws
 pub mod Compress
+pub mod CompressLaws
 pub mod Polynomial
 pub mod Sum
 pub mod Transform

@@ -1,10 +1,14 @@
 // FIPS 203's arithmetic on plain values: coefficients modulo q, transform, product, encoding, compression, sampling.
+mod encoding;
 mod multiply;
 mod polynomial;
 mod residue;
 mod tables;
 mod transform;
 
+pub use encoding::byte_decode;
+pub use encoding::byte_decode12;
+pub use encoding::byte_encode;
 pub use multiply::multiply_ntts;
 pub use polynomial::add_to;
 pub use polynomial::sub_from;
