@@ -2,3 +2,4 @@ pub mod KeccakP
 pub mod Rows
 pub mod Pass
 pub mod Aim
+pub mod Constant

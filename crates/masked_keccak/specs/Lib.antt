@@ -1,2 +1,4 @@
 pub mod MaskedKeccak
 pub mod Rows
+pub mod Lanes
+pub mod PassSilence

@@ -39,3 +39,7 @@ unfolding unzip
 unzip-zip n s d e0 e1 =
     ap₂ sharedList (sym (tab-of 0 (s .s0) n e0 (λ i h. sym (ap (λ (z : Shares). z .s0) (getD-zip n s i d h)))))
     (sym (tab-of 0 (s .s1) n e1 (λ i h. sym (ap (λ (z : Shares). z .s1) (getD-zip n s i d h)))))
+
+pub sharedAt-unzip : (n : ℕ) (f : ℕ → Shares) (i : ℕ) → i < n → sharedAt (unzip n f) i ≡ f i
+unfolding unzip
+sharedAt-unzip n f i h = ap₂ shares (getD-tab n (λ i. f i .s0) i 0 h) (getD-tab n (λ i. f i .s1) i 0 h)

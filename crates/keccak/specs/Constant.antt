@@ -1,0 +1,20 @@
+-- The round constants have 64 bits.
+use Prim.Native.Nat.{ℕ, _+_, _-_, _^_}
+use native.Mathlib.Nat.{mod-lt}
+use native.Mathlib.Omega.{arith}
+use lib.Dec.{leb, leb→le}
+use lib.Pow.{shl-lt}
+use Rattle.words.specs.Word.{Bits}
+use Rattle.words.specs.WordLaws.{xor-bits, zero-bits, bits-mono}
+use Rattle.words.specs.Iterate.{iterate-keeps}
+use Rattle.words.specs.Table.{every-at}
+use Rattle.keccak.specs.KeccakP.{rc, withBit, constant}
+
+pub constant-bits : (i : ℕ) → Bits 64 (constant i)
+unfolding constant rc
+constant-bits i =
+    iterate-keeps (λ j k. Bits 64 k) 7 (withBit i)
+    (λ j h k b.
+    let g = leb→le _ _ (every-at 7 (λ j. leb (1 + (2 ^ j - 1)) 64) tt j h) in
+    xor-bits b (bits-mono g (record { lt = shl-lt 1 (2 ^ j - 1) (mod-lt _ (omega arith)) })))
+    zero-bits

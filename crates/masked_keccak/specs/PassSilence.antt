@@ -1,0 +1,178 @@
+-- Couplings of theta, rho and pi on the two shares of a state, each share alone.
+use Prim.Native.Nat.{ℕ, zero, suc, _+_, _*_, _<_}
+use mathlib.Core.Path.{_≡_, refl, sym, ap, ap₂, _∙_}
+use mathlib.Core.Bool.{Bool, true, false}
+use mathlib.Core.List.{List}
+use native.Mathlib.Omega.{arith}
+use lib.ListN.{getD}
+use Rattle.words.specs.Word.{xor}
+use Rattle.keccak.specs.Pass.{passAt, LaneBits, pass-is, pass-cong, pass-bits, pass-xor}
+use Rattle.keccak.specs.Aim.{aimed, aimed-bits, aimed-1, aimed-2}
+use Rattle.worksheet.specs.declared.Shares.{Shares}
+use Rattle.worksheet.specs.Prog.{Prog, ret, _>>=_, entry}
+use Rattle.worksheet.specs.Couple.{Coupled, ret-c, enter-c, Like, Silent, SameAt, here}
+use Rattle.worksheet.specs.Couple.{coupled-weaken, sameAt-recount, coupled-bind, coupled-map, sameAt-left, sameAt-right, sameAt-map}
+use Rattle.worksheet.specs.CoupleLoops.{coupled-times, like-times, silent-times}
+use Rattle.worksheet.specs.Places.{cut}
+use Rattle.worksheet.specs.Turns.{Turns}
+use Rattle.worksheet.specs.Stage.{Stage}
+use Rattle.worksheet.specs.Sharing.{shares, share, Sharing, Apart, apart-cong, keep, keep-bits, share-keep}
+use Rattle.worksheet.specs.SharedList.{SharedList, sharedList, sharedAt}
+use Rattle.masked_keccak.specs.MaskedKeccak.{pass, along}
+use Rattle.masked_keccak.specs.Lanes.{Differences, LanesApart, keepLanes, share-keepLanes, bits-left, bits-right, bits-by}
+
+-- ---- one share
+
+-- a list's lanes
+abbrev lanesOf : List ℕ → ℕ → ℕ
+lanesOf l k = getD l k 0
+
+-- y and y′ are lane j of the outcomes
+record Outcome (l l′ : List ℕ) (j y y′ : ℕ) : Type 0 where
+  pub left : y ≡ passAt (lanesOf l) j
+  pub right : y′ ≡ passAt (lanesOf l′) j
+
+coupled-pass : (l l′ : List ℕ) → Coupled (Turns (Outcome l l′) 25) (25 * 1) (pass l) (pass l′)
+unfolding pass entry
+coupled-pass l l′ = coupled-times 25 (λ j h. enter-c (ret-c (record { left = pass-is l j; right = pass-is l′ j })))
+
+like-pass : (l l′ : List ℕ) → Like (25 * 1) (pass l) (pass l′)
+unfolding pass entry
+like-pass l l′ = like-times 25 (λ j h. enter-c (ret-c tt))
+
+silent-pass : (l l′ : List ℕ) → ((k : ℕ) → k < 25 → getD l k 0 ≡ getD l′ k 0) → Silent (25 * 1) (pass l) (pass l′)
+unfolding pass entry
+silent-pass l l′ e =
+    silent-times 25 (λ j h. enter-c (ret-c tt))
+    (λ j h i g. sameAt-recount {i = 0} (omega arith) (here (pass-is l j ∙ pass-cong e j ∙ sym (pass-is l′ j)) (ret-c tt)))
+
+-- ---- both shares
+
+unfoldable pub passes : SharedList → Prog SharedList
+passes s = do
+  a ← pass (s .s0)
+  b ← pass (s .s1)
+  ret (sharedList a b)
+
+-- the shares of lane i after the passes
+abbrev passedAt : SharedList → ℕ → Shares
+passedAt s i = shares (passAt (lanesOf (s .s0)) i) (passAt (lanesOf (s .s1)) i)
+
+record Passed (s s′ t t′ : SharedList) : Type 0 where
+  pub left : (i : ℕ) → i < 25 → sharedAt t i ≡ passedAt s i
+  pub right : (i : ℕ) → i < 25 → sharedAt t′ i ≡ passedAt s′ i
+
+like-passes : (s s′ : SharedList) → Like (25 * 1 + 25 * 1) (passes s) (passes s′)
+unfolding passes
+like-passes s s′ = coupled-bind (like-pass _ _) (λ a a′ t. coupled-map _ _ (λ b b′ u. u) (like-pass _ _))
+
+coupled-passes : (s s′ : SharedList) → Coupled (Passed s s′) (25 * 1 + 25 * 1) (passes s) (passes s′)
+unfolding passes
+coupled-passes s s′ =
+    coupled-bind (coupled-pass (s .s0) (s′ .s0)) (λ a a′ t. coupled-map _ _ (λ b b′ u. both t u) (coupled-pass (s .s1) (s′ .s1)))
+  where
+    both : {a a′ b b′ : List ℕ} → Turns (Outcome (s .s0) (s′ .s0)) 25 a a′ → Turns (Outcome (s .s1) (s′ .s1)) 25 b b′
+        → Passed s s′ (sharedList a b) (sharedList a′ b′)
+    both t u =
+        record {
+          left = λ i h. ap₂ shares (t .at 0 0 i h .left) (u .at 0 0 i h .left);
+          right = λ i h. ap₂ shares (t .at 0 0 i h .right) (u .at 0 0 i h .right);
+        }
+
+-- ---- what the passes do to sharings and to differences
+
+sharing-pass : {X : ℕ → ℕ} (s : SharedList) → ((k : ℕ) → k < 25 → Sharing 64 (X k) (sharedAt s k)) → (i : ℕ) → i < 25
+    → Sharing 64 (passAt X i) (passedAt s i)
+sharing-pass {X} s h i g =
+    let b0 : LaneBits (lanesOf (s .s0)) = record { at = λ k l. h k l .bits0 } in
+    let b1 : LaneBits (lanesOf (s .s1)) = record { at = λ k l. h k l .bits1 } in
+    record {
+      bits0 = pass-bits b0 i g;
+      bits1 = pass-bits b1 i g;
+      joins = sym (pass-xor b0 b1 i g) ∙ pass-cong (λ k l. h k l .joins) i;
+    }
+
+apart-pass : {d : Differences} {s s′ : SharedList} (r : LanesApart d s s′) (i : ℕ) → i < 25
+    → Apart 64 (passAt (d .by (r .X) (r .X′)) i) (passAt (r .X) i) (passAt (r .X′) i) (passedAt s i) (passedAt s′ i)
+apart-pass {s = s} {s′ = s′} r i h =
+    record {
+      left = sharing-pass s (λ k g. r .at k g .left) i h;
+      right = sharing-pass s′ (λ k g. r .at k g .right) i h;
+      by = pass-cong (λ k g. r .at k g .by) i ∙ pass-xor (record { at = λ k g. r .at k g .left .bits0 }) (bits-by r) i h;
+    }
+
+-- ---- the lanes that chi reads
+
+-- for lane i, share p of the next lane of its row and share q of the lane after that
+pub record Operands : Type 0 where
+  pub lane : ℕ
+  pub within : lane < 25
+  pub p : Bool
+  pub q : Bool
+
+-- sharings of 25 lanes of 64 bits, of which these two shares are equal
+pub record OperandsKept (o : Operands) (s s′ : SharedList) : Type 0 where
+  pub X : ℕ → ℕ
+  pub X′ : ℕ → ℕ
+  pub left : (i : ℕ) → i < 25 → Sharing 64 (X i) (sharedAt s i)
+  pub right : (i : ℕ) → i < 25 → Sharing 64 (X′ i) (sharedAt s′ i)
+  pub first : share (o .p) (sharedAt s (along 1 (o .lane))) ≡ share (o .p) (sharedAt s′ (along 1 (o .lane)))
+  pub second : share (o .q) (sharedAt s (along 2 (o .lane))) ≡ share (o .q) (sharedAt s′ (along 2 (o .lane)))
+
+-- the differences before the passes at which they are
+aimOperands : Operands → Differences
+aimOperands o =
+    let a = along 1 (o .lane) in
+    let b = along 2 (o .lane) in
+    record {
+      by = λ X X′. aimed (o .lane) (keep (o .p) (passAt X a) (passAt X′ a)) (keep (o .q) (passAt X b) (passAt X′ b));
+      bits = λ v w.
+          aimed-bits (o .lane) (o .within) (keep-bits (o .p) (pass-bits v a (omega arith)) (pass-bits w a (omega arith)))
+          (keep-bits (o .q) (pass-bits v b (omega arith)) (pass-bits w b (omega arith)));
+    }
+
+aimed-operands : (o : Operands) {s s′ t t′ : SharedList} → LanesApart (aimOperands o) s s′ → Passed s s′ t t′ → OperandsKept o t t′
+unfolding aimOperands
+aimed-operands o {s} {s′} r u =
+    let i = o .lane in
+    let h = o .within in
+    let a = along 1 i in
+    let b = along 2 i in
+    let v = keep-bits (o .p) (pass-bits (bits-left r) a (omega arith)) (pass-bits (bits-right r) a (omega arith)) in
+    let w = keep-bits (o .q) (pass-bits (bits-left r) b (omega arith)) (pass-bits (bits-right r) b (omega arith)) in
+    record {
+      X = passAt (r .X);
+      X′ = passAt (r .X′);
+      left = λ k g. rw (u .left k g) (apart-pass r k g .left);
+      right = λ k g. rw (u .right k g) (apart-pass r k g .right);
+      first = rw (u .left a (omega arith), u .right a (omega arith)) (share-keep (o .p) (apart-cong (aimed-1 i h v w) (apart-pass r a (omega arith))));
+      second = rw (u .left b (omega arith), u .right b (omega arith)) (share-keep (o .q) (apart-cong (aimed-2 i h v w) (apart-pass r b (omega arith))));
+    }
+
+-- ---- as a stage
+
+-- at some choice of differences, entry i is equal
+abbrev Entry : ℕ → Type 0
+Entry i = (d : Differences) × ((s s′ : SharedList) → LanesApart d s s′ → SameAt i (passes s) (passes s′))
+
+entry-share0 : (i : ℕ) → i < 25 * 1 → Entry i
+unfolding passes
+entry-share0 i h =
+    (keepLanes (λ k. false), λ s s′ r.
+    sameAt-left (silent-pass (s .s0) (s′ .s0) (share-keepLanes (λ k. false) r) i h)
+    (λ a a′. coupled-map _ _ (λ b b′ u. u) (like-pass _ _)))
+
+entry-share1 : (i : ℕ) → i < 25 * 1 → Entry (25 * 1 + i)
+unfolding passes
+entry-share1 i h =
+    (keepLanes (λ k. true), λ s s′ r.
+    sameAt-right (like-pass _ _)
+    (λ a a′ t. sameAt-map _ _ (silent-pass (s .s1) (s′ .s1) (share-keepLanes (λ k. true) r) i h)))
+
+pub passes-stage : Stage LanesApart OperandsKept (25 * 1 + 25 * 1) passes passes
+passes-stage =
+    record {
+      like = like-passes;
+      entry = cut Entry (25 * 1) (25 * 1) entry-share0 entry-share1;
+      fresh = λ o. (aimOperands o, λ s s′ r. coupled-weaken (λ t t′ u. aimed-operands o r u) (coupled-passes s s′));
+    }
