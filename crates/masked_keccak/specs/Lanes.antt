@@ -3,8 +3,15 @@ use Prim.Native.Nat.{ℕ, _<_}
 use mathlib.Core.Path.{_≡_}
 use mathlib.Core.Bool.{Bool}
 use Rattle.keccak.specs.Pass.{LaneBits}
-use Rattle.worksheet.specs.Sharing.{share, Apart, keep, keep-bits, share-keep, sharing-bits}
+use Rattle.worksheet.specs.Sharing.{share, Sharing, Apart, keep, keep-bits, share-keep, sharing-bits}
 use Rattle.worksheet.specs.SharedList.{SharedList, sharedAt}
+
+-- s is a sharing of the state with the lanes X, 25 of 64 bits
+pub record LaneSharings (X : ℕ → ℕ) (s : SharedList) : Type 0 where
+  pub at : (i : ℕ) → i < 25 → Sharing 64 (X i) (sharedAt s i)
+
+pub lane-bits : {X : ℕ → ℕ} {s : SharedList} → LaneSharings X s → LaneBits X
+lane-bits l = record { at = λ i h. sharing-bits (l .at i h) }
 
 -- A choice of 25 differences of 64 bits, for the lanes X and X′ that the two states join to.
 pub record Differences : Type 0 where
@@ -31,11 +38,11 @@ unfolding keepLanes
 share-keepLanes c r i h = share-keep (c i) (r .at i h)
 
 module _ {d : Differences} {s s′ : SharedList} (r : LanesApart d s s′) where
-  pub bits-left : LaneBits (r .X)
-  bits-left = record { at = λ k h. sharing-bits (r .at k h .left) }
+  pub lanes-left : LaneSharings (r .X) s
+  lanes-left = record { at = λ i h. r .at i h .left }
 
-  pub bits-right : LaneBits (r .X′)
-  bits-right = record { at = λ k h. sharing-bits (r .at k h .right) }
+  pub lanes-right : LaneSharings (r .X′) s′
+  lanes-right = record { at = λ i h. r .at i h .right }
 
-  pub bits-by : LaneBits (d .by (r .X) (r .X′))
-  bits-by = d .bits bits-left bits-right
+  pub difference-bits : LaneBits (d .by (r .X) (r .X′))
+  difference-bits = d .bits (lane-bits lanes-left) (lane-bits lanes-right)

@@ -2,3 +2,5 @@ pub mod MaskedKeccak
 pub mod Rows
 pub mod Lanes
 pub mod PassSilence
+pub mod ChiSilence
+pub mod Silence

@@ -1,11 +1,10 @@
 -- Couplings of theta, rho and pi on the two shares of a state, each share alone.
-use Prim.Native.Nat.{ℕ, zero, suc, _+_, _*_, _<_}
-use mathlib.Core.Path.{_≡_, refl, sym, ap, ap₂, _∙_}
+use Prim.Native.Nat.{ℕ, _+_, _*_, _<_}
+use mathlib.Core.Path.{_≡_, sym, ap₂, _∙_}
 use mathlib.Core.Bool.{Bool, true, false}
 use mathlib.Core.List.{List}
 use native.Mathlib.Omega.{arith}
 use lib.ListN.{getD}
-use Rattle.words.specs.Word.{xor}
 use Rattle.keccak.specs.Pass.{passAt, LaneBits, pass-is, pass-cong, pass-bits, pass-xor}
 use Rattle.keccak.specs.Aim.{aimed, aimed-bits, aimed-1, aimed-2}
 use Rattle.worksheet.specs.declared.Shares.{Shares}
@@ -19,7 +18,8 @@ use Rattle.worksheet.specs.Stage.{Stage}
 use Rattle.worksheet.specs.Sharing.{shares, share, Sharing, Apart, apart-cong, keep, keep-bits, share-keep}
 use Rattle.worksheet.specs.SharedList.{SharedList, sharedList, sharedAt}
 use Rattle.masked_keccak.specs.MaskedKeccak.{pass, along}
-use Rattle.masked_keccak.specs.Lanes.{Differences, LanesApart, keepLanes, share-keepLanes, bits-left, bits-right, bits-by}
+use Rattle.masked_keccak.specs.Lanes.{LaneSharings, lane-bits, Differences, LanesApart, keepLanes, share-keepLanes}
+use Rattle.masked_keccak.specs.Lanes.{lanes-left, lanes-right, difference-bits}
 
 -- ---- one share
 
@@ -81,24 +81,23 @@ coupled-passes s s′ =
 
 -- ---- what the passes do to sharings and to differences
 
-sharing-pass : {X : ℕ → ℕ} (s : SharedList) → ((k : ℕ) → k < 25 → Sharing 64 (X k) (sharedAt s k)) → (i : ℕ) → i < 25
-    → Sharing 64 (passAt X i) (passedAt s i)
-sharing-pass {X} s h i g =
-    let b0 : LaneBits (lanesOf (s .s0)) = record { at = λ k l. h k l .bits0 } in
-    let b1 : LaneBits (lanesOf (s .s1)) = record { at = λ k l. h k l .bits1 } in
+sharing-pass : {X : ℕ → ℕ} {s : SharedList} → LaneSharings X s → (i : ℕ) → i < 25 → Sharing 64 (passAt X i) (passedAt s i)
+sharing-pass {s = s} l i h =
+    let b0 : LaneBits (lanesOf (s .s0)) = record { at = λ k g. l .at k g .bits0 } in
+    let b1 : LaneBits (lanesOf (s .s1)) = record { at = λ k g. l .at k g .bits1 } in
     record {
-      bits0 = pass-bits b0 i g;
-      bits1 = pass-bits b1 i g;
-      joins = sym (pass-xor b0 b1 i g) ∙ pass-cong (λ k l. h k l .joins) i;
+      bits0 = pass-bits b0 i h;
+      bits1 = pass-bits b1 i h;
+      joins = sym (pass-xor b0 b1 i h) ∙ pass-cong (λ k g. l .at k g .joins) i;
     }
 
 apart-pass : {d : Differences} {s s′ : SharedList} (r : LanesApart d s s′) (i : ℕ) → i < 25
     → Apart 64 (passAt (d .by (r .X) (r .X′)) i) (passAt (r .X) i) (passAt (r .X′) i) (passedAt s i) (passedAt s′ i)
-apart-pass {s = s} {s′ = s′} r i h =
+apart-pass r i h =
     record {
-      left = sharing-pass s (λ k g. r .at k g .left) i h;
-      right = sharing-pass s′ (λ k g. r .at k g .right) i h;
-      by = pass-cong (λ k g. r .at k g .by) i ∙ pass-xor (record { at = λ k g. r .at k g .left .bits0 }) (bits-by r) i h;
+      left = sharing-pass (lanes-left r) i h;
+      right = sharing-pass (lanes-right r) i h;
+      by = pass-cong (λ k g. r .at k g .by) i ∙ pass-xor (record { at = λ k g. r .at k g .left .bits0 }) (difference-bits r) i h;
     }
 
 -- ---- the lanes that chi reads
@@ -114,8 +113,8 @@ pub record Operands : Type 0 where
 pub record OperandsKept (o : Operands) (s s′ : SharedList) : Type 0 where
   pub X : ℕ → ℕ
   pub X′ : ℕ → ℕ
-  pub left : (i : ℕ) → i < 25 → Sharing 64 (X i) (sharedAt s i)
-  pub right : (i : ℕ) → i < 25 → Sharing 64 (X′ i) (sharedAt s′ i)
+  pub left : LaneSharings X s
+  pub right : LaneSharings X′ s′
   pub first : share (o .p) (sharedAt s (along 1 (o .lane))) ≡ share (o .p) (sharedAt s′ (along 1 (o .lane)))
   pub second : share (o .q) (sharedAt s (along 2 (o .lane))) ≡ share (o .q) (sharedAt s′ (along 2 (o .lane)))
 
@@ -131,22 +130,29 @@ aimOperands o =
           (keep-bits (o .q) (pass-bits v b (omega arith)) (pass-bits w b (omega arith)));
     }
 
-aimed-operands : (o : Operands) {s s′ t t′ : SharedList} → LanesApart (aimOperands o) s s′ → Passed s s′ t t′ → OperandsKept o t t′
+operands-aimed : (o : Operands) {s s′ t t′ : SharedList} → LanesApart (aimOperands o) s s′ → Passed s s′ t t′
+    → OperandsKept o t t′
 unfolding aimOperands
-aimed-operands o {s} {s′} r u =
+operands-aimed o r u =
     let i = o .lane in
     let h = o .within in
     let a = along 1 i in
     let b = along 2 i in
-    let v = keep-bits (o .p) (pass-bits (bits-left r) a (omega arith)) (pass-bits (bits-right r) a (omega arith)) in
-    let w = keep-bits (o .q) (pass-bits (bits-left r) b (omega arith)) (pass-bits (bits-right r) b (omega arith)) in
+    let l = lane-bits (lanes-left r) in
+    let m = lane-bits (lanes-right r) in
+    let v = keep-bits (o .p) (pass-bits l a (omega arith)) (pass-bits m a (omega arith)) in
+    let w = keep-bits (o .q) (pass-bits l b (omega arith)) (pass-bits m b (omega arith)) in
     record {
       X = passAt (r .X);
       X′ = passAt (r .X′);
-      left = λ k g. rw (u .left k g) (apart-pass r k g .left);
-      right = λ k g. rw (u .right k g) (apart-pass r k g .right);
-      first = rw (u .left a (omega arith), u .right a (omega arith)) (share-keep (o .p) (apart-cong (aimed-1 i h v w) (apart-pass r a (omega arith))));
-      second = rw (u .left b (omega arith), u .right b (omega arith)) (share-keep (o .q) (apart-cong (aimed-2 i h v w) (apart-pass r b (omega arith))));
+      left = record { at = λ k g. rw (u .left k g) (sharing-pass (lanes-left r) k g) };
+      right = record { at = λ k g. rw (u .right k g) (sharing-pass (lanes-right r) k g) };
+      first =
+          rw (u .left a (omega arith), u .right a (omega arith))
+          (share-keep (o .p) (apart-cong (aimed-1 i h v w) (apart-pass r a (omega arith))));
+      second =
+          rw (u .left b (omega arith), u .right b (omega arith))
+          (share-keep (o .q) (apart-cong (aimed-2 i h v w) (apart-pass r b (omega arith))));
     }
 
 -- ---- as a stage
@@ -157,22 +163,26 @@ Entry i = (d : Differences) × ((s s′ : SharedList) → LanesApart d s s′ �
 
 entry-share0 : (i : ℕ) → i < 25 * 1 → Entry i
 unfolding passes
-entry-share0 i h =
-    (keepLanes (λ k. false), λ s s′ r.
-    sameAt-left (silent-pass (s .s0) (s′ .s0) (share-keepLanes (λ k. false) r) i h)
-    (λ a a′. coupled-map _ _ (λ b b′ u. u) (like-pass _ _)))
+entry-share0 i h = (
+  keepLanes (λ k. false),
+  λ s s′ r.
+      sameAt-left (silent-pass (s .s0) (s′ .s0) (share-keepLanes (λ k. false) r) i h)
+      (λ a a′. coupled-map _ _ (λ b b′ u. u) (like-pass _ _)),
+)
 
 entry-share1 : (i : ℕ) → i < 25 * 1 → Entry (25 * 1 + i)
 unfolding passes
-entry-share1 i h =
-    (keepLanes (λ k. true), λ s s′ r.
-    sameAt-right (like-pass _ _)
-    (λ a a′ t. sameAt-map _ _ (silent-pass (s .s1) (s′ .s1) (share-keepLanes (λ k. true) r) i h)))
+entry-share1 i h = (
+  keepLanes (λ k. true),
+  λ s s′ r.
+      sameAt-right (like-pass _ _)
+      (λ a a′ t. sameAt-map _ _ (silent-pass (s .s1) (s′ .s1) (share-keepLanes (λ k. true) r) i h)),
+)
 
 pub passes-stage : Stage LanesApart OperandsKept (25 * 1 + 25 * 1) passes passes
 passes-stage =
     record {
       like = like-passes;
       entry = cut Entry (25 * 1) (25 * 1) entry-share0 entry-share1;
-      fresh = λ o. (aimOperands o, λ s s′ r. coupled-weaken (λ t t′ u. aimed-operands o r u) (coupled-passes s s′));
+      fresh = λ o. (aimOperands o, λ s s′ r. coupled-weaken (λ t t′ u. operands-aimed o r u) (coupled-passes s s′));
     }

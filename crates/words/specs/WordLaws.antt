@@ -17,6 +17,9 @@ xor-comm a b = boole (at 0 ⊕ at 1) (at 1 ⊕ at 0) (a ∷ b ∷ []) tt
 pub xor-assoc : (a b c : ℕ) → xor (xor a b) c ≡ xor a (xor b c)
 xor-assoc a b c = boole (at 0 ⊕ at 1 ⊕ at 2) (at 0 ⊕ (at 1 ⊕ at 2)) (a ∷ b ∷ c ∷ []) tt
 
+pub xor-right-comm : (a b c : ℕ) → xor (xor a b) c ≡ xor (xor a c) b
+xor-right-comm a b c = boole (at 0 ⊕ at 1 ⊕ at 2) (at 0 ⊕ at 2 ⊕ at 1) (a ∷ b ∷ c ∷ []) tt
+
 pub xor-same : (a : ℕ) → xor a a ≡ 0
 unfolding xor
 xor-same a = xor-self a

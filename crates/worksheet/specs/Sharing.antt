@@ -4,7 +4,7 @@ use mathlib.Core.Path.{_≡_, refl, sym, ap, ap₂, _∙_, subst}
 use mathlib.Core.Bool.{Bool, true, false}
 use mathlib.Core.List.{[], _∷_}
 use Rattle.words.specs.Word.{Bits, xor, complement}
-use Rattle.words.specs.WordLaws.{xor-bits, complement-bits, zero-bits, xor-same, xor-zero, xor-cancel, xor-swap, complement-xor}
+use Rattle.words.specs.WordLaws.{xor-bits, complement-bits, zero-bits, xor-same, xor-zero, xor-cancel, xor-right-comm, xor-swap, complement-xor}
 use Rattle.words.specs.Formula.{boole, at, _⊕_}
 use Rattle.worksheet.specs.declared.Shares.{Shares}
 
@@ -130,6 +130,28 @@ apart-notShares {n} {d} {u = u} a =
 pub share-notShares : (n : ℕ) (q : Bool) (u u′ : Shares) → share q u ≡ share q u′ → share q (notShares n u) ≡ share q (notShares n u′)
 share-notShares n false u u′ e = ap (complement n) e
 share-notShares n true u u′ e = e
+
+-- ---- a public word, added to share 0
+
+abbrev pub xorPublic : ℕ → Shares → Shares
+xorPublic c u = shares (xor (u .s0) c) (u .s1)
+
+pub sharing-xorPublic : {n c X : ℕ} {u : Shares} → Bits n c → Sharing n X u → Sharing n (xor X c) (xorPublic c u)
+sharing-xorPublic {c = c} {u = u} b s =
+    record {
+      bits0 = xor-bits (s .bits0) b;
+      bits1 = s .bits1;
+      joins = xor-right-comm (u .s0) c (u .s1) ∙ ap (λ (t : ℕ). xor t c) (s .joins);
+    }
+
+pub apart-xorPublic : {n c d X X′ : ℕ} {u u′ : Shares} → Bits n c → Apart n d X X′ u u′
+    → Apart n d (xor X c) (xor X′ c) (xorPublic c u) (xorPublic c u′)
+apart-xorPublic {c = c} {d = d} {u = u} b a =
+    record {
+      left = sharing-xorPublic b (a .left);
+      right = sharing-xorPublic b (a .right);
+      by = ap (λ (t : ℕ). xor t c) (a .by) ∙ xor-right-comm (u .s0) d c;
+    }
 
 -- ---- zeros
 
