@@ -16,6 +16,7 @@ pub mod Matching
 pub mod Straight
 pub mod Sharing
 pub mod SharedList
+pub mod Choice
 pub mod MaskedAnd
 pub mod Gates
 pub mod MaskedAndSilence
