@@ -34,10 +34,20 @@ sumPlane a b c = do
 abbrev pub at : List Shares → ℕ → Shares
 at l j = getD l j none
 
--- n planes of a, n planes of b, the carries, of which the top plane has none, and the n sum planes
+abbrev pub maskPlanes : ℕ → (ℕ → ℕ) → Prog (List Shares)
+maskPlanes n x = times n (λ j. maskPlane (x j))
+
+-- the carries into the n planes; none comes out of the top plane
+abbrev pub carries : ℕ → List Shares → List Shares → Prog (List Shares)
+carries n a b = chain (n - 1) (λ j c. carryStep (at a j) (at b j) c) none
+
+abbrev pub sumPlanes : ℕ → List Shares → List Shares → List Shares → Prog (List Shares)
+sumPlanes n a b c = times n (λ j. sumPlane (at a j) (at b j) (at c j))
+
+-- n planes of a, n planes of b, the carries and the n sum planes
 unfoldable pub adder : ℕ → (ℕ → ℕ) → (ℕ → ℕ) → Prog (List Shares)
 adder n x y = do
-  a ← times n (λ j. maskPlane (x j))
-  b ← times n (λ j. maskPlane (y j))
-  c ← chain (n - 1) (λ j c. carryStep (at a j) (at b j) c) none
-  times n (λ j. sumPlane (at a j) (at b j) (at c j))
+  a ← maskPlanes n x
+  b ← maskPlanes n y
+  c ← carries n a b
+  sumPlanes n a b c

@@ -2,3 +2,4 @@ pub mod Adder
 pub mod Compression
 pub mod Coefficient
 pub mod Comparison
+pub mod Stored

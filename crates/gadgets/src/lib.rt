@@ -1,1 +1,2 @@
-// The masked gadgets other than the hash.
+// The masked gadgets other than the hash, for a general depth or count.
+pub mod adder; // the adder on bit planes
