@@ -2,14 +2,15 @@
 use mathlib.Core.Path.{_≡_, sym, ap, ap₂, _∙_}
 use mathlib.Core.List.{List, map}
 use Prim.Native.Nat.{ℕ, zero, suc, _+_, _*_, _/_, _%_, _^_, _<_, _≤_, max, min}
-use native.Mathlib.Nat.{div-add-mod', div-one, mod-lt, zero-div}
+use native.Mathlib.Decide.{decLt}
+use native.Mathlib.Nat.{div-add-mod', div-one, div-eq-of-lt, mod-lt, zero-div}
 use native.Mathlib.Omega.{arith}
 use lib.ListN.{getD, List·getD-map}
 use lib.Arith.{half-le}
 use lib.Pow.{shr-shr}
 use lib.Bits.{differ}
-use Rattle.words.specs.Word.{xor, and}
-use Rattle.words.specs.WordLaws.{xor-shift, and-shift}
+use Rattle.words.specs.Word.{Bits, xor, and}
+use Rattle.words.specs.WordLaws.{xor-shift, and-shift, bits-mono}
 use Rattle.words.specs.Formula.{Formula, at, _⊕_, _⊗_, onWords, onBits, xor-odd, and-odd}
 
 -- bit k of x
@@ -56,3 +57,15 @@ up-to (suc n) x y h g e =
 
 pub ext-digit : (x y : ℕ) → ((k : ℕ) → digit k x ≡ digit k y) → x ≡ y
 ext-digit x y e = up-to (max x y) x y (omega arith) (omega arith) e
+
+-- of words of n bits the n lowest
+pub digit-high : {n x : ℕ} (k : ℕ) → Bits n x → n ≤ k → digit k x ≡ 0
+unfolding digit
+digit-high k a h = ap (λ (z : ℕ). z % 2) (div-eq-of-lt (bits-mono h a .lt))
+
+pub ext-bits : {n x y : ℕ} → Bits n x → Bits n y → ((k : ℕ) → k < n → digit k x ≡ digit k y) → x ≡ y
+ext-bits {n} {x} {y} a b e = ext-digit x y (λ k. go k (decLt k n))
+  where
+    go : (k : ℕ) → Dec (k < n) → digit k x ≡ digit k y
+    go k (yes h) = e k h
+    go k (no h) = digit-high k a (omega arith) ∙ sym (digit-high k b (omega arith))

@@ -26,6 +26,9 @@ each-snoc {A} {Q} {n} {ys} {y} r q = record { long = length-snoc ys y (r .long);
     go d j h (yes p) = rw (List·getD-append ys (y ∷ []) d j (omega arith)) (r .at d j p)
     go d j h (no p) = let e : j ≡ n = omega arith in rw (e, getD-at ys y [] d n (r .long)) q
 
+pub each-weaken : {A : Type 0} {Q R : ℕ → A → Type 0} {n : ℕ} {ys : List A} → ((j : ℕ) (y : A) → Q j y → R j y) → Each Q n ys → Each R n ys
+each-weaken {ys = ys} h r = record { long = r .long; at = λ d j lt. h j (getD ys j d) (r .at d j lt) }
+
 -- the elements j of two lists of n are related by R j
 pub record Turns {A B : Type 0} (R : ℕ → A → B → Type 0) (n : ℕ) (ys : List A) (ys′ : List B) : Type 0 where
   pub long : length ys ≡ n
