@@ -8,17 +8,14 @@ use Rattle.worksheet.specs.declared.Shares.{Shares}
 use Rattle.worksheet.specs.Prog.{Prog, ret, _>>=_, entry, times}
 use Rattle.gadgets.specs.Adder.{adder}
 
--- fixed point with 13 fraction bits: share 0, and share 1 with half of the last place added
-unfoldable pub fixedPoint0 : ℕ → ℕ → ℕ
-fixedPoint0 d x = 2 ^ (d + 13) * x / q % 2 ^ (d + 13)
+-- floor(2^(d+13) x / q) plus h, modulo 2^(d+13): fixed point with 13 fraction bits
+unfoldable pub fixedPoint : ℕ → ℕ → ℕ → ℕ
+fixedPoint d h x = (2 ^ (d + 13) * x / q + h) % 2 ^ (d + 13)
 
-unfoldable pub fixedPoint1 : ℕ → ℕ → ℕ
-fixedPoint1 d x = (2 ^ (d + 13) * x / q + 4096) % 2 ^ (d + 13)
-
--- 64 coefficients: their values of share 0, those of share 1, the adder; the top d planes are the result
+-- 64 coefficients: their values of share 0, those of share 1, to which 4096 is added, and the adder; the top d planes are the result
 unfoldable pub maskedCompress : ℕ → (ℕ → Shares) → Prog (List Shares)
 maskedCompress d x = do
-  a ← times 64 (λ i. entry (fixedPoint0 d (x i .s0)))
-  b ← times 64 (λ i. entry (fixedPoint1 d (x i .s1)))
+  a ← times 64 (λ i. entry (fixedPoint d 0 (x i .s0)))
+  b ← times 64 (λ i. entry (fixedPoint d 4096 (x i .s1)))
   s ← adder (d + 13) (plane 64 (λ i. getD a i 0)) (plane 64 (λ i. getD b i 0))
   ret (drop 13 s)
