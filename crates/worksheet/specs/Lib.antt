@@ -17,6 +17,7 @@ pub mod Straight
 pub mod Sharing
 pub mod SharedList
 pub mod Choice
+pub mod CoeffSharing
 pub mod MaskedAnd
 pub mod Gates
 pub mod MaskedAndSilence
