@@ -18,6 +18,7 @@ pub mod Sharing
 pub mod SharedList
 pub mod Choice
 pub mod CoeffSharing
+pub mod Pass
 pub mod MaskedAnd
 pub mod Gates
 pub mod MaskedAndSilence

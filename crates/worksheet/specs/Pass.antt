@@ -1,0 +1,108 @@
+-- Passes that get one share alone: their outcomes are entered, and a pass asks for and hands on one choice of share.
+use Prim.Native.Nat.{ℕ, zero, suc, _+_, _*_, _<_}
+use mathlib.Core.Path.{_≡_, refl, sym, _∙_}
+use mathlib.Core.Bool.{Bool, true, false}
+use mathlib.Core.List.{List}
+use native.Mathlib.Omega.{arith}
+use Rattle.words.specs.Tab.{tab, tab-of, tab-cong}
+use Rattle.worksheet.specs.Prog.{Prog, ret, _>>=_, entry, times}
+use Rattle.worksheet.specs.Couple.{Coupled, ret-c, enter-c, Like, Silent, SameAt, here}
+use Rattle.worksheet.specs.Couple.{coupled-weaken, coupled-recount, coupled-bind, sameAt-left, sameAt-right}
+use Rattle.worksheet.specs.CoupleLoops.{coupled-times, like-times, silent-times}
+use Rattle.worksheet.specs.Places.{cut}
+use Rattle.worksheet.specs.Stage.{Stage}
+use Rattle.worksheet.specs.SharedList.{SharedList, sharedList}
+use Rattle.worksheet.specs.Choice.{SameShare}
+
+-- n values, one entry each
+abbrev pub entries : ℕ → (ℕ → ℕ) → Prog (List ℕ)
+entries n f = times n (λ i. entry (f i))
+
+-- n outcomes of a pass on share 0, then n of a pass on share 1
+unfoldable pub enterBoth : ℕ → (ℕ → ℕ) → (ℕ → ℕ) → Prog SharedList
+enterBoth n f g = do
+  a ← entries n f
+  b ← entries n g
+  ret (sharedList a b)
+
+-- ---- values on one share
+
+-- what they hand back is what was entered
+pub record Outcomes (n : ℕ) (f f′ : ℕ → ℕ) (a a′ : List ℕ) : Type 0 where
+  pub left : a ≡ tab n f
+  pub right : a′ ≡ tab n f′
+
+module _ (n : ℕ) (f f′ : ℕ → ℕ) where
+  abbrev Outcome : ℕ → ℕ → ℕ → Type 0
+  Outcome i y y′ = (y ≡ f i) × (y′ ≡ f′ i)
+
+  pub coupled-entries : Coupled (Outcomes n f f′) (n * 1) (entries n f) (entries n f′)
+  unfolding entry
+  coupled-entries =
+      coupled-weaken
+      (λ a a′ r.
+      record {
+        left = tab-of 0 a n (r .long) (λ i h. r .at 0 0 i h .0);
+        right = tab-of 0 a′ n (r .long′) (λ i h. r .at 0 0 i h .1);
+      })
+      (coupled-times n {R = Outcome} (λ i h. enter-c (ret-c (refl, refl))))
+
+  pub like-entries : Like (n * 1) (entries n f) (entries n f′)
+  unfolding entry
+  like-entries = like-times n (λ i h. enter-c (ret-c tt))
+
+  pub silent-entries : ((i : ℕ) → i < n → f i ≡ f′ i) → Silent (n * 1) (entries n f) (entries n f′)
+  unfolding entry
+  silent-entries e = silent-times n (λ i h. enter-c (ret-c tt)) go
+    where
+      go : (i : ℕ) → i < n → Silent 1 (entry (f i)) (entry (f′ i))
+      go i h zero g = here (e i h) (ret-c tt)
+      go i h (suc k) g = absurd (omega arith)
+
+-- ---- a pass on each share
+
+outcomes-same : {n : ℕ} {f f′ : ℕ → ℕ} {a a′ : List ℕ} → Outcomes n f f′ a a′ → ((i : ℕ) → i < n → f i ≡ f′ i) → a ≡ a′
+outcomes-same {n} r e = r .left ∙ tab-cong n e ∙ sym (r .right)
+
+-- where choice false makes the outcomes on share 0 equal, and choice true those on share 1
+module _ {A B : Type 0} (R : Bool → A → B → Type 0) (n : ℕ) (f g : A → ℕ → ℕ) (f′ g′ : B → ℕ → ℕ)
+    (same0 : (a : A) (b : B) → R false a b → (i : ℕ) → i < n → f a i ≡ f′ b i)
+    (same1 : (a : A) (b : B) → R true a b → (i : ℕ) → i < n → g a i ≡ g′ b i) where
+  both-c : {S : SharedList → SharedList → Type 0} (a : A) (b : B)
+      → ((x x′ y y′ : List ℕ) → Outcomes n (f a) (f′ b) x x′ → Outcomes n (g a) (g′ b) y y′ → S (sharedList x y) (sharedList x′ y′))
+      → Coupled S (n * 1 + n * 1) (enterBoth n (f a) (g a)) (enterBoth n (f′ b) (g′ b))
+  unfolding enterBoth
+  both-c a b s =
+      coupled-recount (omega arith)
+      (coupled-bind (coupled-entries n (f a) (f′ b)) (λ x x′ r.
+      coupled-bind (coupled-entries n (g a) (g′ b)) (λ y y′ t. ret-c (s x x′ y y′ r t))))
+
+  abbrev Entry : ℕ → Type 0
+  Entry i = (c : Bool) × ((a : A) (b : B) → R c a b → SameAt i (enterBoth n (f a) (g a)) (enterBoth n (f′ b) (g′ b)))
+
+  pub pass-stage : Stage R SameShare (n * 1 + n * 1) (λ a. enterBoth n (f a) (g a)) (λ b. enterBoth n (f′ b) (g′ b))
+  unfolding enterBoth
+  pass-stage =
+      record {
+        like = λ a b. both-c a b (λ x x′ y y′ r t. tt);
+        entry =
+            cut Entry (n * 1) (n * 1)
+            (λ i h. (
+              false,
+              λ a b r.
+                  sameAt-left (silent-entries n (f a) (f′ b) (same0 a b r) i h)
+                  (λ x x′. coupled-bind (like-entries n (g a) (g′ b)) (λ y y′ t. ret-c tt)),
+            ))
+            (λ i h. (
+              true,
+              λ a b r.
+                  sameAt-right (like-entries n (f a) (f′ b)) (λ x x′ t.
+                  sameAt-left (silent-entries n (g a) (g′ b) (same1 a b r) i h) (λ y y′. ret-c tt)),
+            ));
+        fresh = go;
+      }
+    where
+      go : (c : Bool) → (e : Bool)
+          × ((a : A) (b : B) → R e a b → Coupled (SameShare c) (n * 1 + n * 1) (enterBoth n (f a) (g a)) (enterBoth n (f′ b) (g′ b)))
+      go false = (false, λ a b r. both-c a b (λ x x′ y y′ o u. record { same = outcomes-same o (same0 a b r) }))
+      go true = (true, λ a b r. both-c a b (λ x x′ y y′ o u. record { same = outcomes-same u (same1 a b r) }))
