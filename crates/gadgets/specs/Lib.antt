@@ -1,6 +1,8 @@
 pub mod Adder
 pub mod Compression
 pub mod Coefficient
+pub mod CoefficientSilence
+pub mod SamplerSilence
 pub mod Comparison
 pub mod Stored
 pub mod PlaneSum
