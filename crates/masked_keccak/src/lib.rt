@@ -9,6 +9,7 @@ ghost use Rattle.worksheet.specs.SharedList.{sharedList};
 ghost use Rattle.masked_keccak.specs.MaskedKeccak.{round as roundOf, maskedKeccakP};
 use crate::chi::EnteredStates;
 use crate::chi::chi;
+use crate::pass::enter_lanes;
 use crate::pass::pass;
 use keccak::constants::round_constant;
 use keccak::state::State;
@@ -23,9 +24,11 @@ fn round(rec: Recorder, a: State, b: State, ws: &[u64], i: usize, k: u64) -> Ent
     requires { ⌜ (25 ≤ length (now ws)) × (k ≡ constant i) ⌝ }
     ensures { λ o. ⌜ Draws word 25 (roundOf i (sharedList (a .lanes) (b .lanes))) rec (now (ws .entry)) (sharedList (o .s0 .lanes) (o .s1 .lanes)) (o .rec) ⌝ }
 {
-    let p = pass(rec, a);
-    let q = pass(p.rec, b);
-    let o = chi(q.rec, p.value, q.value, ws);
+    let p = pass(a);
+    let rec0 = enter_lanes(rec, p);
+    let q = pass(b);
+    let rec1 = enter_lanes(rec0, q);
+    let o = chi(rec1, p, q, ws);
     let mut s = o.s0;
     let e = enter_xor(o.rec, s.lanes[0], k);
     s.lanes[0] = e.value;

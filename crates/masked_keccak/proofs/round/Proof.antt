@@ -1,10 +1,12 @@
 use borrow.Author.Needs.{needs}
-use Rattle.masked_keccak.specs.MaskedKeccak.{round}
 use Rattle.worksheet.specs.Ran.{bind}
+use Rattle.masked_keccak.specs.MaskedKeccak.{round}
 use Rattle.masked_keccak.proofs.Iota.{iota-ran}
+use Rattle.masked_keccak.proofs.Lanes.{pass-makes}
 use Rattle.masked_keccak.proofs.round.Statement.{statement}
 use Rattle.masked_keccak.proofs.round.Tie as tie
 
+-- the range of what chi gives has the lengths of its two states
 returns : tie.Need-returns
 unfolding round
 returns c cs =
@@ -12,17 +14,23 @@ returns c cs =
     let c5 = c2 .before .before .before in
     let c6 = c5 .before in
     let c7 = c6 .before in
-    let start = c7 .before .before in
-    let ok = c5 .chi .ok .1 .1 in
-    bind _ (c7 .pass .ensures _ _)
-    (bind _ (c6 .pass2 .ensures _ _)
+    let c8 = c7 .before in
+    let c9 = c8 .before in
+    let start = c9 .before .before in
+    let z = c5 .chi .result in
+    let states = c5 .chi .ok .1 .1 in
+    bind _ (pass-makes (start .args .a .lanes) (c9 .pass .ensures) (c8 .enter-lanes .ensures) _ _)
+    (bind _ (pass-makes (start .args .b .lanes) (c7 .pass2 .ensures) (c6 .enter-lanes2 .ensures) _ _)
     (bind _ (c5 .chi .ensures cs)
-    (iota-ran (start .args .i) (c5 .chi .result .s0 .lanes) (c5 .chi .result .s1 .lanes) (search (needs, ok .0 .1 .1 .0)) (search (needs, ok .1 .0 .1 .1 .0)) (start .pre .1) (c2 .enter-xor .ensures))))
+    (iota-ran (start .args .i) (z .s0 .lanes) (z .s1 .lanes) (search (needs, states .0 .1 .1 .0))
+    (search (needs, states .1 .0 .1 .1 .0)) (start .pre .1) (c2 .enter-xor .ensures))))
 
 pub round-spec : {M : Type 1} → statement M
 round-spec =
     tie.close
     (tie.spec
+    (λ c κs. tt)
+    (λ c κs. tt)
     (λ c κs. tt)
     (λ c κs. tt)
     (λ c κs. search needs)

@@ -1,9 +1,8 @@
-use Rattle.masked_keccak.proofs.Lanes.{pass-makes}
 use Rattle.masked_keccak.proofs.pass.pass.Statement.{statement}
 use Rattle.masked_keccak.proofs.pass.pass.Tie as tie
 
 returns : tie.Need-returns
-returns c = pass-makes (c .before .before .before .before .args .s .lanes) (cc) (c .enter-lanes .ensures)
+returns c = cc
 
 pub pass-spec : {M : Type 1} → statement M
-pass-spec = tie.close (tie.spec (λ c κs. tt) (λ c κs. tt) (λ c κs. tt) (λ c κs. tt) returns)
+pass-spec = tie.close (tie.spec (λ c κs. tt) (λ c κs. tt) (λ c κs. tt) returns)
