@@ -25,8 +25,8 @@ fn round(rec: Recorder, a: State, b: State, ws: &[u64], i: usize, k: u64) -> Ent
     ensures { λ o. ⌜ Draws word 25 (roundOf i (sharedList (a .lanes) (b .lanes))) rec (now (ws .entry)) (sharedList (o .s0 .lanes) (o .s1 .lanes)) (o .rec) ⌝ }
 {
     let p = pass(a);
-    let rec0 = enter_lanes(rec, p);
     let q = pass(b);
+    let rec0 = enter_lanes(rec, p);
     let rec1 = enter_lanes(rec0, q);
     let o = chi(rec1, p, q, ws);
     let mut s = o.s0;

@@ -19,8 +19,8 @@ returns c cs =
     let start = c9 .before .before in
     let z = c5 .chi .result in
     let states = c5 .chi .ok .1 .1 in
-    bind _ (pass-makes (start .args .a .lanes) (c9 .pass .ensures) (c8 .enter-lanes .ensures) _ _)
-    (bind _ (pass-makes (start .args .b .lanes) (c7 .pass2 .ensures) (c6 .enter-lanes2 .ensures) _ _)
+    bind _ (pass-makes (start .args .a .lanes) (c9 .pass .ensures) (c7 .enter-lanes .ensures) _ _)
+    (bind _ (pass-makes (start .args .b .lanes) (c8 .pass2 .ensures) (c6 .enter-lanes2 .ensures) _ _)
     (bind _ (c5 .chi .ensures cs)
     (iota-ran (start .args .i) (z .s0 .lanes) (z .s1 .lanes) (search (needs, states .0 .1 .1 .0))
     (search (needs, states .1 .0 .1 .1 .0)) (start .pre .1) (c2 .enter-xor .ensures))))
