@@ -1,5 +1,6 @@
 pub mod MaskedKeccak
 pub mod Rows
+pub mod Uses
 pub mod Lanes
 pub mod PassSilence
 pub mod ChiSilence
