@@ -1,4 +1,3 @@
-pub mod Barrett
 pub mod Powers
 pub mod Layers
 pub mod InPlace

@@ -1,9 +1,9 @@
 -- Compression: its range, from two shares, and after decompression.
-use mathlib.Core.Path.{_≡_, sym, ap, ap₂, _∙_}
+use mathlib.Core.Path.{_≡_, ap, _∙_}
 use Prim.Native.Nat.{ℕ, _+_, _*_, _/_, _%_, _^_, _<_, _≤_}
-use native.Mathlib.Nat.{mod-lt, mod-eq-of-lt, add-mul-mod-self-left}
+use native.Mathlib.Nat.{mod-lt, mod-eq-of-lt, div-lt-iff-lt-mul, div-add-mod', add-mul-mod-self-left}
 use native.Mathlib.Omega.{arith}
-use lib.Pow.{pow-pos, pow-add, field}
+use lib.Pow.{pow-pos, pow-add, pow-mono, field}
 use Rattle.words.specs.Residue.{q}
 use Rattle.ring.specs.Compress.{compress, decompress}
 
@@ -40,3 +40,24 @@ compress-shares d x₀ x₁ =
     ∙ rw (pow-add 2 d 13)
     (ap (λ (n : ℕ). n % 2 ^ d) (scaled (2 ^ d) x₀ x₁ ((x₀ + x₁) % q) ((x₀ + x₁) / q) (omega arith))
     ∙ add-mul-mod-self-left ((2 * (2 ^ d * ((x₀ + x₁) % q)) + q) / (2 * q)) (2 ^ d) ((x₀ + x₁) / q))
+
+-- a is 2^d times the nearest number to q y / 2^d
+nearest : (a r p y : ℕ) → 2 * a + r ≡ 2 * (q * y) + p → r < 2 * p → p < q → (2 * a + q) / (2 * q) ≡ y
+nearest a r p y e l h = omega arith
+
+module _ (d y : ℕ) (h : d ≤ 11) (g : y < 2 ^ d) where
+  pub decompress-lt : decompress d y < q
+  unfolding decompress
+  decompress-lt =
+      div-lt-iff-lt-mul {k = 2 * 2 ^ d} {y = q} (omega (arith, pow-pos d)) .1 (omega (arith, pow-mono {i = d} {j = 11} h))
+
+  pub compress-decompress : compress d (decompress d y) ≡ y
+  unfolding compress decompress
+  compress-decompress =
+      let p = 2 ^ d in
+      let n = 2 * (q * y) + p in
+      let x = n / (2 * p) in
+      let e : 2 * (p * x) + n % (2 * p) ≡ n = omega (arith, div-add-mod' n (2 * p)) in
+      let l = mod-lt n {m = 2 * p} (omega (arith, pow-pos d)) in
+      let b = pow-mono {i = d} {j = 11} h in
+      ap (λ (m : ℕ). m % p) (nearest (p * x) (n % (2 * p)) p y e l (omega arith)) ∙ mod-eq-of-lt g

@@ -1,54 +1,18 @@
 // ByteEncode and ByteDecode at each number of bits from 1 to 12.
+use super::bits::high;
+use super::bits::join;
+use super::bits::low;
+use super::bits::low_byte;
+use super::bits::wide8;
+use super::bits::wide16;
 use super::residue::reduce;
 ghost use mathlib.Core.Path.{_≡_};
 ghost use mathlib.Core.List.{map};
-ghost use Prim.Native.Nat.{_+_, _*_, _/_, _%_, _^_, _<_, _≤_};
+ghost use Prim.Native.Nat.{_*_, _%_, _^_, _<_, _≤_};
 ghost use lib.ListN.{length};
 ghost use Rattle.words.specs.Residue.{q};
 ghost use Rattle.words.specs.Bounded.{Below};
 ghost use Rattle.ring.specs.Bytes.{byteEncode, byteDecode, byteDecode12};
-
-fn wide16(x: u16) -> u32
-    ensures { λ r. ⌜ r ≡ x ⌝ }
-{
-    x as u32
-}
-
-fn wide8(x: u8) -> u32
-    ensures { λ r. ⌜ r ≡ x ⌝ }
-{
-    x as u32
-}
-
-// x above the n bits of acc
-fn join(acc: u32, x: u32, n: u32) -> u32
-    requires { ⌜ (n < 16) × (acc < 2 ^ n) × (x < 2 ^ 12) ⌝ }
-    ensures { λ r. ⌜ r ≡ acc + x * 2 ^ n ⌝ }
-{
-    acc + (x << n)
-}
-
-// the bits of acc above the lowest d
-fn high(acc: u32, d: u32) -> u32
-    requires { ⌜ d ≤ 12 ⌝ }
-    ensures { λ r. ⌜ r ≡ acc / 2 ^ d ⌝ }
-{
-    acc >> d
-}
-
-// the lowest d bits of acc
-fn low(acc: u32, d: u32) -> u16
-    requires { ⌜ d ≤ 12 ⌝ }
-    ensures { λ r. ⌜ r ≡ acc % 2 ^ d ⌝ }
-{
-    (acc & ((1 << d) - 1)) as u16
-}
-
-fn low_byte(acc: u32) -> u8
-    ensures { λ r. ⌜ r ≡ acc % 2 ^ 8 ⌝ }
-{
-    (acc % 256) as u8
-}
 
 // Each turn loads a coefficient or stores a byte.
 pub fn byte_encode(f: &[u16], d: u32, out: &mut [u8])

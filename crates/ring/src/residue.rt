@@ -1,17 +1,20 @@
 // Numbers modulo q, without division.
 ghost use mathlib.Core.Path.{_≡_};
-ghost use Prim.Native.Nat.{_+_, _*_, _%_};
+ghost use Prim.Native.Nat.{_+_, _*_, _/_, _%_};
 ghost use Rattle.words.specs.Residue.{q};
 ghost use Rattle.ring.specs.Polynomial.{minus};
 
-// Barrett's reduction: the quotient's estimate t is at most 1 too small.
+// Barrett's quotient: 2^38 is 82570714 q + 38.
+pub fn quotient(x: u32) -> u32
+    ensures { λ r. ⌜ r ≡ x / q ⌝ }
+{
+    (((x as u64) * 82570714 + 82570714) >> 38) as u32
+}
+
 pub fn reduce(x: u32) -> u16
     ensures { λ r. ⌜ r ≡ x % q ⌝ }
 {
-    let t = ((x as u64) * 1290167) >> 32;
-    let r = x - (t as u32) * 3329;
-    let m = (r + 62207) >> 16;
-    (r - m * 3329) as u16
+    (x - quotient(x) * 3329) as u16
 }
 
 pub fn sum(x: u16, y: u16) -> u16

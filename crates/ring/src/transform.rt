@@ -1,21 +1,15 @@
 // The number-theoretic transform and its inverse, in place.
+use super::bits::pow2;
 use super::residue::difference;
 use super::residue::product;
 use super::residue::sum;
 use super::tables::ZETAS;
 ghost use mathlib.Core.Path.{_≡_};
-ghost use Prim.Native.Nat.{_+_, _*_, _%_, _^_, _<_, _≤_};
+ghost use Prim.Native.Nat.{_+_, _*_, _%_, _<_, _≤_};
 ghost use lib.ListN.{length, getD};
 ghost use Rattle.words.specs.Residue.{q};
 ghost use Rattle.words.specs.Tab.{tab};
 ghost use Rattle.ring.specs.Transform.{zeta, butterfly, block, layer, ntt, inverseButterfly, inverseBlock, inverseLayer, inverseNtt};
-
-fn pow2(l: u32) -> usize
-    requires { ⌜ l < 64 ⌝ }
-    ensures { λ r. ⌜ r ≡ 2 ^ l ⌝ }
-{
-    1 << l
-}
 
 fn butterfly_at(f: &mut [u16], z: u16, len: usize, j: usize)
     requires { ⌜ j + len < length (now f) ⌝ }

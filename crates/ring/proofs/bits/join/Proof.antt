@@ -3,8 +3,8 @@ use Prim.Native.Nat.{ℕ, _+_}
 use native.Mathlib.Omega.{arith}
 use lib.Pow.{shl-exact, shl-lt, pow-mono}
 use borrow.Author.Needs.{needs}
-use Rattle.ring.proofs.encoding.join.Statement.{statement}
-use Rattle.ring.proofs.encoding.join.Tie as tie
+use Rattle.ring.proofs.bits.join.Statement.{statement}
+use Rattle.ring.proofs.bits.join.Tie as tie
 
 add-result : tie.Need-add-result
 add-result c =

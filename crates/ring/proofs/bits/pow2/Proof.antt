@@ -4,8 +4,8 @@ use native.Mathlib.Nat.{one-mul}
 use native.Mathlib.Omega.{arith}
 use lib.Pow.{shl-exact}
 use borrow.Author.Needs.{needs}
-use Rattle.ring.proofs.transform.pow2.Statement.{statement}
-use Rattle.ring.proofs.transform.pow2.Tie as tie
+use Rattle.ring.proofs.bits.pow2.Statement.{statement}
+use Rattle.ring.proofs.bits.pow2.Tie as tie
 
 returns : tie.Need-returns
 returns c = shl-exact {a = 1} 1 (c .args .l) 64 (omega arith) (omega arith) ∙ one-mul (2 ^ c .args .l)

@@ -5,8 +5,8 @@ use native.Mathlib.Omega.{arith}
 use lib.Bits.{bitAnd, and-mask}
 use lib.Pow.{shl-exact, pow-pos, pow-mono}
 use borrow.Author.Needs.{needs}
-use Rattle.ring.proofs.encoding.low.Statement.{statement}
-use Rattle.ring.proofs.encoding.low.Tie as tie
+use Rattle.ring.proofs.bits.low.Statement.{statement}
+use Rattle.ring.proofs.bits.low.Tie as tie
 
 power : (d : ℕ) → d ≤ 12 → 1 * 2 ^ d % 2 ^ 32 ≡ 2 ^ d
 power d h = shl-exact {a = 1} 1 d 32 (omega arith) (omega arith) ∙ one-mul (2 ^ d)

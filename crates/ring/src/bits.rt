@@ -1,0 +1,60 @@
+// Numbers by their bits.
+ghost use mathlib.Core.Path.{_≡_};
+ghost use Prim.Native.Nat.{_+_, _*_, _/_, _%_, _^_, _<_, _≤_};
+
+pub fn wide16(x: u16) -> u32
+    ensures { λ r. ⌜ r ≡ x ⌝ }
+{
+    x as u32
+}
+
+pub fn wide8(x: u8) -> u32
+    ensures { λ r. ⌜ r ≡ x ⌝ }
+{
+    x as u32
+}
+
+// x above the n bits of acc
+pub fn join(acc: u32, x: u32, n: u32) -> u32
+    requires { ⌜ (n < 16) × (acc < 2 ^ n) × (x < 2 ^ 12) ⌝ }
+    ensures { λ r. ⌜ r ≡ acc + x * 2 ^ n ⌝ }
+{
+    acc + (x << n)
+}
+
+// the bits of acc above the lowest d
+pub fn high(acc: u32, d: u32) -> u32
+    requires { ⌜ d ≤ 12 ⌝ }
+    ensures { λ r. ⌜ r ≡ acc / 2 ^ d ⌝ }
+{
+    acc >> d
+}
+
+// the lowest d bits of acc
+pub fn low(acc: u32, d: u32) -> u16
+    requires { ⌜ d ≤ 12 ⌝ }
+    ensures { λ r. ⌜ r ≡ acc % 2 ^ d ⌝ }
+{
+    (acc & ((1 << d) - 1)) as u16
+}
+
+pub fn low_byte(acc: u32) -> u8
+    ensures { λ r. ⌜ r ≡ acc % 2 ^ 8 ⌝ }
+{
+    (acc % 256) as u8
+}
+
+pub fn pow2(l: u32) -> usize
+    requires { ⌜ l < 64 ⌝ }
+    ensures { λ r. ⌜ r ≡ 2 ^ l ⌝ }
+{
+    1 << l
+}
+
+// x 2^d
+pub fn shifted(x: u16, d: u32) -> u32
+    requires { ⌜ d ≤ 12 ⌝ }
+    ensures { λ r. ⌜ r ≡ x * 2 ^ d ⌝ }
+{
+    (x as u32) << d
+}
