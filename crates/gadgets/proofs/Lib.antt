@@ -1,2 +1,3 @@
 pub mod Strip
 pub mod FixedPoint
+pub mod PlaneTurn

@@ -6,7 +6,7 @@ use Rattle.words.specs.Word.{xor, and}
 use Rattle.words.specs.WordLaws.{xor-same, xor-xor-cancel, xor-swap}
 use Rattle.words.specs.Plane.{plane}
 use Rattle.worksheet.specs.declared.Shares.{Shares}
-use Rattle.worksheet.specs.Prog.{_>>=_, mask, entry}
+use Rattle.worksheet.specs.Prog.{_>>=_, mask, entry, times-cong}
 use Rattle.worksheet.specs.Uses.{Uses, ret-u, word-u, enter-u, uses-bind, uses-times, uses-chain, uses-recount}
 use Rattle.worksheet.specs.Turns.{Each, each-weaken}
 use Rattle.worksheet.specs.Gives.{Gives, ret-g, draw-g, enter-g, gives-bind, gives-weaken, gives-times, gives-chain}
@@ -15,6 +15,11 @@ use Rattle.worksheet.specs.MaskedAnd.{uses-maskedAnd, gives-maskedAnd}
 use Rattle.worksheet.specs.Gates.{uses-maskedXor, gives-maskedXor}
 use Rattle.gadgets.specs.Adder.{maskPlane, carryStep, sumPlane, at, adder}
 use Rattle.gadgets.specs.PlaneSum.{plainCarry, plainSum, plane-add}
+
+-- it reads the n lowest planes only
+pub adder-cong : (n : ℕ) {x x′ y y′ : ℕ → ℕ} → ((j : ℕ) → j < n → x j ≡ x′ j) → ((j : ℕ) → j < n → y j ≡ y′ j) → adder n x y ≡ adder n x′ y′
+unfolding adder
+adder-cong n e f = rw (times-cong n (λ j h. ap maskPlane (e j h)), times-cong n (λ j h. ap maskPlane (f j h)))
 
 -- ---- how much it does
 

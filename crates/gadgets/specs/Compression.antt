@@ -12,10 +12,14 @@ use Rattle.gadgets.specs.Adder.{adder}
 unfoldable pub fixedPoint : ℕ → ℕ → ℕ → ℕ
 fixedPoint d h x = (2 ^ (d + 13) * x / q + h) % 2 ^ (d + 13)
 
+-- of one share of 64 coefficients
+abbrev pub fixedPoints : ℕ → ℕ → (ℕ → ℕ) → Prog (List ℕ)
+fixedPoints d h x = times 64 (λ i. entry (fixedPoint d h (x i)))
+
 -- 64 coefficients: their values of share 0, those of share 1, to which 4096 is added, and the adder; the top d planes are the result
 unfoldable pub maskedCompress : ℕ → (ℕ → Shares) → Prog (List Shares)
 maskedCompress d x = do
-  a ← times 64 (λ i. entry (fixedPoint d 0 (x i .s0)))
-  b ← times 64 (λ i. entry (fixedPoint d 4096 (x i .s1)))
+  a ← fixedPoints d 0 (λ i. x i .s0)
+  b ← fixedPoints d 4096 (λ i. x i .s1)
   s ← adder (d + 13) (plane 64 (λ i. getD a i 0)) (plane 64 (λ i. getD b i 0))
   ret (drop 13 s)

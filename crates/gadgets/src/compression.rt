@@ -1,12 +1,25 @@
 // Masked compression of 64 coefficients.
 ghost use mathlib.Core.Path.{_≡_};
 ghost use Prim.Native.Nat.{_+_, _*_, _-_, _/_, _^_, _<_, _≤_};
-ghost use Rattle.gadgets.specs.Compression.{fixedPoint};
+ghost use lib.ListN.{drop, getD, length};
+ghost use Rattle.gadgets.specs.Compression.{fixedPoint, fixedPoints, maskedCompress};
+ghost use Rattle.gadgets.specs.Stored.{sharesAt, zip};
+ghost use Rattle.words.specs.Bounded.{Below};
+ghost use Rattle.words.specs.Digit.{digit};
+ghost use Rattle.words.specs.Fill.{Filled};
+ghost use Rattle.words.specs.Plane.{plane};
 ghost use Rattle.words.specs.Residue.{q};
-ghost use Rattle.worksheet.specs.Prog.{entry};
-ghost use Rattle.worksheet.specs.Ran.{Makes};
+ghost use Rattle.worksheet.specs.Prog.{word, entry};
+ghost use Rattle.worksheet.specs.Ran.{Makes, Draws};
+use crate::adder;
+use crate::adder::EnteredPlanes;
 use worksheet::Entered;
 use worksheet::Recorder;
+
+pub struct EnteredNumbers {
+    pub value: [u64; 64],
+    pub rec: Recorder,
+}
 
 // v / q without a division: the estimate t is at most 1 too small.
 fn quotient(v: u64) -> u64
@@ -19,14 +32,14 @@ fn quotient(v: u64) -> u64
 }
 
 // 2^(d+13)
-fn scale(d: u32) -> u64
+fn scale(d: usize) -> u64
     requires { ⌜ d ≤ 11 ⌝ }
     ensures { λ r. ⌜ r ≡ 2 ^ (d + 13) ⌝ }
 {
     1 << (d + 13)
 }
 
-fn enter_fixed_point(rec: Recorder, d: u32, h: u64, x: u16) -> Entered
+fn enter_fixed_point(rec: Recorder, d: usize, h: u64, x: u16) -> Entered
     requires { ⌜ (d ≤ 11) × (h ≤ 4096) × (x < q) ⌝ }
     ensures { λ r. ⌜ Makes (entry (fixedPoint d h x)) rec (r .value) (r .rec) ⌝ }
 {
@@ -36,4 +49,66 @@ fn enter_fixed_point(rec: Recorder, d: u32, h: u64, x: u16) -> Entered
         value: v,
         rec: worksheet::enter(rec, v),
     }
+}
+
+// The fixed point of one share of 64 coefficients.
+fn fixed_points(rec: Recorder, d: usize, h: u64, x: &[u16]) -> EnteredNumbers
+    requires { ⌜ (d ≤ 11) × (h ≤ 4096) × (length (now x) ≡ 64) × Below q (now x) ⌝ }
+    ensures { λ r. ⌜ Makes (fixedPoints d h (λ i. getD (now (x .entry)) i 0)) rec (r .value) (r .rec) ⌝ }
+{
+    let mut rec = rec;
+    let mut v = [0u64; 64];
+    for i in 0..64 {
+        let e = enter_fixed_point(rec, d, h, x[i]);
+        v[i] = e.value;
+        rec = e.rec;
+    }
+    EnteredNumbers { value: v, rec }
+}
+
+// Bit j of x at place i.
+fn bit_at(x: u64, j: usize, i: usize) -> u64
+    requires { ⌜ (i < 64) × (j < 64) ⌝ }
+    ensures { λ r. ⌜ r ≡ digit j x * 2 ^ i ⌝ }
+{
+    ((x >> j) % 2) << i
+}
+
+fn bit_plane(v: &[u64], j: usize) -> u64
+    requires { ⌜ (length (now v) ≡ 64) × (j < 64) ⌝ }
+    ensures { λ r. ⌜ r ≡ plane 64 (λ i. getD (now (v .entry)) i 0) j ⌝ }
+{
+    let mut p: u64 = 0;
+    for i in 0..64 {
+        p += bit_at(v[i], j, i);
+    }
+    p
+}
+
+// The n lowest planes.
+fn bit_planes(v: &[u64], n: usize) -> [u64; 24]
+    requires { ⌜ (length (now v) ≡ 64) × (n ≤ 24) ⌝ }
+    ensures { λ r. ⌜ Filled 24 (plane 64 (λ i. getD (now (v .entry)) i 0)) n r ⌝ }
+{
+    let mut p = [0u64; 24];
+    for j in 0..n {
+        p[j] = bit_plane(v, j);
+    }
+    p
+}
+
+// The result's d planes stand from place 13 on.
+pub fn masked_compress(rec: Recorder, d: usize, x0: &[u16], x1: &[u16], ws: &[u64]) -> EnteredPlanes
+    requires { ⌜ (d ≤ 11) × (3 * (d + 13) ≤ length (now ws) + 1) ⌝ }
+    requires { ⌜ (length (now x0) ≡ 64) × (length (now x1) ≡ 64) × Below q (now x0) × Below q (now x1) ⌝ }
+    ensures { λ r. ⌜ Draws word (3 * (d + 13) - 1) (maskedCompress d (sharesAt (now (x0 .entry)) (now (x1 .entry)))) rec (now (ws .entry)) (drop 13 (zip (d + 13) (r .value .s0) (r .value .s1))) (r .rec) ⌝ }
+{
+    let n = d + 13;
+    let a = fixed_points(rec, d, 0, x0);
+    let b = fixed_points(a.rec, d, 4096, x1);
+    let v = a.value;
+    let w = b.value;
+    let x = bit_planes(&v, n);
+    let y = bit_planes(&w, n);
+    adder::adder(b.rec, n, x, y, ws)
 }

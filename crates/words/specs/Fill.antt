@@ -49,6 +49,9 @@ module _ {A : Type 0} where
       let e : i ≡ n = omega arith in
       sym (take-all n l (omega arith)) ∙ (rw e at (a .front))
 
+  pub filled-at : {n : ℕ} {f : ℕ → A} {i : ℕ} {l : List A} → Filled n f i l → (d : A) (k : ℕ) → k < i → getD l k d ≡ f k
+  filled-at {f = f} {i} {l} a d k h = sym (getD-take i l k d h) ∙ ap (λ m. getD m k d) (a .front) ∙ getD-tab i f k d h
+
   -- the first i of the n elements are in place, and the others are still those of l₀
   pub record Replaced (n : ℕ) (f : ℕ → A) (d : A) (l₀ : List A) (i : ℕ) (l : List A) : Type 0 where
     pub filled : Filled n f i l

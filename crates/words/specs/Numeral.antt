@@ -68,6 +68,11 @@ value-digits b (suc n) x h =
     ∙ (let e = mod-mul x (one-le-pow n b h) h in omega arith)
     ∙ ap (λ (m : ℕ). x % m) (sym (pow-suc b n))
 
+pub value-snoc : (b : ℕ) (l : List ℕ) (x : ℕ) → value b (l ++ x ∷ []) ≡ value b l + x * b ^ length l
+unfolding value
+value-snoc b [] x = rw pow-zero (omega arith)
+value-snoc b (y ∷ l) x = rw (value-snoc b l x, pow-suc b (length l)) (omega arith)
+
 pub value-lt : (b : ℕ) (l : List ℕ) → Below b l → value b l < b ^ length l
 unfolding value
 value-lt b [] h = rw pow-zero (omega arith)

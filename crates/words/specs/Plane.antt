@@ -1,13 +1,13 @@
 -- Bit planes: n values, of which plane j holds bit j of each; and the values that planes hold.
 use mathlib.Core.Path.{_≡_, sym, ap, _∙_}
 use mathlib.Core.List.{List, [], _∷_, map}
-use Prim.Native.Nat.{ℕ, zero, suc, _%_, _^_, _<_}
+use Prim.Native.Nat.{ℕ, zero, suc, _+_, _*_, _%_, _^_, _<_}
 use native.Mathlib.Omega.{arith}
 use lib.ListN.{getD}
 use Rattle.words.specs.Word.{Bits}
 use Rattle.words.specs.Tab.{tab, length-tab, getD-tab, map-tab, tab-cong}
 use Rattle.words.specs.Bounded.{Below, below-head, below-tail, below-tab}
-use Rattle.words.specs.Numeral.{value, value-lt, value-head, value-tail, digits, value-digits, digits-tab}
+use Rattle.words.specs.Numeral.{value, value-snoc, value-lt, value-head, value-tail, digits, value-digits, digits-tab}
 use Rattle.words.specs.Digit.{digit, digit-lt, digit-zero, digit-low, digit-half}
 
 -- plane j of n values: its bit i is bit j of value i
@@ -44,6 +44,13 @@ module _ (n : ℕ) (v : ℕ → ℕ) where
   pub digit-plane : (i j : ℕ) → i < n → digit i (plane n v j) ≡ digit j (v i)
   unfolding plane
   digit-plane i j h = digit-value (tab n (λ i. digit j (v i))) (planes-below j) i ∙ getD-tab n (λ i. digit j (v i)) i 0 h
+
+  -- one more value
+  pub plane-suc : (j : ℕ) → plane (suc n) v j ≡ plane n v j + digit j (v n) * 2 ^ n
+  unfolding plane tab
+  plane-suc j =
+      value-snoc 2 (tab n (λ i. digit j (v i))) (digit j (v n))
+      ∙ ap (λ (k : ℕ). plane n v j + digit j (v n) * 2 ^ k) (length-tab n (λ i. digit j (v i)))
 
   -- m planes hold the values modulo 2^m
   pub number-planes : (m i : ℕ) → i < n → number i (tab m (plane n v)) ≡ v i % 2 ^ m

@@ -11,4 +11,4 @@ returns : tie.Need-returns
 returns c = shl-exact {a = 1} 1 (c .args .d + 13) 64 (omega arith) (omega arith) ∙ one-mul (2 ^ (c .args .d + 13))
 
 pub scale-spec : {M : Type 1} → statement M
-scale-spec = tie.close (tie.spec (λ c. search needs) (λ c. search needs) (λ c. search needs) returns)
+scale-spec = tie.close (tie.spec (λ c. search needs) (λ c. search needs) returns)
