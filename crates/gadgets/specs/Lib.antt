@@ -7,3 +7,5 @@ pub mod Comparison
 pub mod Stored
 pub mod PlaneSum
 pub mod AdderLaws
+pub mod AdderStepsSilence
+pub mod AdderSilence
