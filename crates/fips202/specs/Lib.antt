@@ -1,3 +1,4 @@
 pub mod Sponge
 pub mod Calls
+pub mod MaskedSponge
 pub mod Padding

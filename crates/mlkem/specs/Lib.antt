@@ -4,3 +4,4 @@ pub mod KPke
 pub mod MlKem
 pub mod Refusals
 pub mod Calls
+pub mod Worksheet
