@@ -5,3 +5,4 @@ pub mod Lanes
 pub mod PassSilence
 pub mod ChiSilence
 pub mod Silence
+pub mod Joined

@@ -81,7 +81,7 @@ coupled-passes s s′ =
 
 -- ---- what the passes do to sharings and to differences
 
-sharing-pass : {X : ℕ → ℕ} {s : SharedList} → LaneSharings X s → (i : ℕ) → i < 25 → Sharing 64 (passAt X i) (passedAt s i)
+pub sharing-pass : {X : ℕ → ℕ} {s : SharedList} → LaneSharings X s → (i : ℕ) → i < 25 → Sharing 64 (passAt X i) (passedAt s i)
 sharing-pass {s = s} l i h =
     let b0 : LaneBits (lanesOf (s .s0)) = record { at = λ k g. l .at k g .bits0 } in
     let b1 : LaneBits (lanesOf (s .s1)) = record { at = λ k g. l .at k g .bits1 } in

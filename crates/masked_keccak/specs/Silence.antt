@@ -29,20 +29,20 @@ use Rattle.masked_keccak.specs.ChiSilence.{chiAt, chiAt-bits, chiReadsFi
 -- ---- chi and iota
 
 -- the state with the lanes c, and k added to share 0 of lane 0
-abbrev withConstant : ℕ → List Shares → SharedList
+abbrev pub withConstant : ℕ → List Shares → SharedList
 withConstant k c = let t = unzip 25 (λ j. getD c j none) in sharedList (set (t .s0) 0 (xor (getD c 0 none .s0) k)) (t .s1)
 
 iota : ℕ → List Shares → Prog SharedList
 iota i c = enter (xor (getD c 0 none .s0) (constant i)) (ret (withConstant (constant i) c))
 
-withConstant-zero : (k : ℕ) (c : List Shares) → sharedAt (withConstant k c) 0 ≡ xorPublic k (getD c 0 none)
+pub withConstant-zero : (k : ℕ) (c : List Shares) → sharedAt (withConstant k c) 0 ≡ xorPublic k (getD c 0 none)
 unfolding unzip
 withConstant-zero k c =
     let f : ℕ → Shares = λ j. getD c j none in
     ap₂ shares (getD-set-same (tab 25 (λ j. f j .s0)) 0 _ 0 (omega (arith, length-tab 25 (λ j. f j .s0))))
     (getD-tab 25 (λ j. f j .s1) 0 0 (omega arith))
 
-withConstant-suc : (k : ℕ) (c : List Shares) (i : ℕ) → suc i < 25 → sharedAt (withConstant k c) (suc i) ≡ getD c (suc i) none
+pub withConstant-suc : (k : ℕ) (c : List Shares) (i : ℕ) → suc i < 25 → sharedAt (withConstant k c) (suc i) ≡ getD c (suc i) none
 unfolding unzip
 withConstant-suc k c i h =
     let f : ℕ → Shares = λ j. getD c j none in
@@ -51,7 +51,7 @@ withConstant-suc k c i h =
     (getD-tab 25 (λ j. f j .s1) (suc i) 0 h)
 
 -- the lanes X with k in lane 0
-abbrev iotaAt : ℕ → (ℕ → ℕ) → ℕ → ℕ
+abbrev pub iotaAt : ℕ → (ℕ → ℕ) → ℕ → ℕ
 iotaAt k X zero = xor (X 0) k
 iotaAt k X (suc i) = X (suc i)
 

@@ -1,5 +1,4 @@
 // Chi on two shares, row by row.
-ghost use mathlib.Core.Path.{_≡_};
 ghost use Prim.Native.Nat.{_≤_};
 ghost use lib.ListN.{length};
 ghost use Rattle.worksheet.specs.Prog.{word};

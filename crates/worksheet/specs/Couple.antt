@@ -4,6 +4,7 @@ use mathlib.Core.Path.{_≡_, refl, ap₂, _∙_}
 use native.Mathlib.Nat.{zero-add, suc-add, add-zero}
 use lib.Dec.{eqb}
 use Rattle.worksheet.specs.Prog.{Mask, bound, Prog, ret, draw, enter, _>>=_}
+use Rattle.worksheet.specs.Gives.{Gives, ret-g, draw-g, enter-g}
 use Rattle.worksheet.specs.Sum.{Perm, sum-cong, sum-perm, when}
 use Rattle.worksheet.specs.Count.{total, hits}
 
@@ -64,6 +65,12 @@ module _ {A B : Type 0} where
 
   pub sameAt-recount : {i j : ℕ} {p : Prog A} {p′ : Prog B} → i ≡ j → SameAt i p p′ → SameAt j p p′
   sameAt-recount e s = rw e at s
+
+  -- every value of the first program is related to one of the second
+  pub gives-coupled : {R : A → B → Type 0} {n : ℕ} {p : Prog A} {p′ : Prog B} → Coupled R n p p′ → Gives (λ a. (b : B) × R a b) p
+  gives-coupled (ret-c {b = b} r) = ret-g (b, r)
+  gives-coupled (draw-c π h) = draw-g (λ x lt. gives-coupled (h x lt))
+  gives-coupled (enter-c c) = enter-g (gives-coupled c)
 
 -- ---- sequence
 
