@@ -13,19 +13,26 @@ pub record LaneSharings (X : ℕ → ℕ) (s : SharedList) : Type 0 where
 pub lane-bits : {X : ℕ → ℕ} {s : SharedList} → LaneSharings X s → LaneBits X
 lane-bits l = record { at = λ i h. sharing-bits (l .at i h) }
 
+-- two such states
+pub record LanesBoth (s s′ : SharedList) : Type 0 where
+  pub X : ℕ → ℕ
+  pub X′ : ℕ → ℕ
+  pub left : LaneSharings X s
+  pub right : LaneSharings X′ s′
+
 -- A choice of 25 differences of 64 bits, for the lanes X and X′ that the two states join to.
 pub record Differences : Type 0 where
   pub by : (ℕ → ℕ) → (ℕ → ℕ) → ℕ → ℕ
   pub bits : {X X′ : ℕ → ℕ} → LaneBits X → LaneBits X′ → LaneBits (by X X′)
 
--- sharings of 25 lanes of 64 bits whose shares 0 differ by these
+-- two such states whose shares 0 differ by these
 pub record LanesApart (d : Differences) (s s′ : SharedList) : Type 0 where
   pub X : ℕ → ℕ
   pub X′ : ℕ → ℕ
   pub at : (i : ℕ) → i < 25 → Apart 64 (d .by X X′ i) (X i) (X′ i) (sharedAt s i) (sharedAt s′ i)
 
 -- share c i of lane i is equal
-pub keepLanes : (ℕ → Bool) → Differences
+unfoldable pub keepLanes : (ℕ → Bool) → Differences
 keepLanes c =
     record {
       by = λ X X′ i. keep (c i) (X i) (X′ i);
@@ -38,11 +45,14 @@ unfolding keepLanes
 share-keepLanes c r i h = share-keep (c i) (r .at i h)
 
 module _ {d : Differences} {s s′ : SharedList} (r : LanesApart d s s′) where
-  pub lanes-left : LaneSharings (r .X) s
-  lanes-left = record { at = λ i h. r .at i h .left }
-
-  pub lanes-right : LaneSharings (r .X′) s′
-  lanes-right = record { at = λ i h. r .at i h .right }
+  abbrev pub lanes-both : LanesBoth s s′
+  lanes-both =
+      record {
+        X = r .X;
+        X′ = r .X′;
+        left = record { at = λ i h. r .at i h .left };
+        right = record { at = λ i h. r .at i h .right };
+      }
 
   pub difference-bits : LaneBits (d .by (r .X) (r .X′))
-  difference-bits = d .bits (lane-bits lanes-left) (lane-bits lanes-right)
+  difference-bits = d .bits (lane-bits (lanes-both .left)) (lane-bits (lanes-both .right))

@@ -18,8 +18,8 @@ use Rattle.worksheet.specs.Stage.{Stage}
 use Rattle.worksheet.specs.Sharing.{shares, share, Sharing, Apart, apart-cong, keep, keep-bits, share-keep}
 use Rattle.worksheet.specs.SharedList.{SharedList, sharedList, sharedAt}
 use Rattle.masked_keccak.specs.MaskedKeccak.{pass, along}
-use Rattle.masked_keccak.specs.Lanes.{LaneSharings, lane-bits, Differences, LanesApart, keepLanes, share-keepLanes}
-use Rattle.masked_keccak.specs.Lanes.{lanes-left, lanes-right, difference-bits}
+use Rattle.masked_keccak.specs.Lanes.{LaneSharings, LanesBoth, lane-bits, Differences, LanesApart, keepLanes, share-keepLanes}
+use Rattle.masked_keccak.specs.Lanes.{lanes-both, difference-bits}
 
 -- ---- one share
 
@@ -95,10 +95,22 @@ apart-pass : {d : Differences} {s s′ : SharedList} (r : LanesApart d s s′) (
     → Apart 64 (passAt (d .by (r .X) (r .X′)) i) (passAt (r .X) i) (passAt (r .X′) i) (passedAt s i) (passedAt s′ i)
 apart-pass r i h =
     record {
-      left = sharing-pass (lanes-left r) i h;
-      right = sharing-pass (lanes-right r) i h;
+      left = sharing-pass (lanes-both r .left) i h;
+      right = sharing-pass (lanes-both r .right) i h;
       by = pass-cong (λ k g. r .at k g .by) i ∙ pass-xor (record { at = λ k g. r .at k g .left .bits0 }) (difference-bits r) i h;
     }
+
+both-passed : {s s′ t t′ : SharedList} → LanesBoth s s′ → Passed s s′ t t′ → LanesBoth t t′
+both-passed r u =
+    record {
+      X = passAt (r .X);
+      X′ = passAt (r .X′);
+      left = record { at = λ k g. rw (u .left k g) (sharing-pass (r .left) k g) };
+      right = record { at = λ k g. rw (u .right k g) (sharing-pass (r .right) k g) };
+    }
+
+pub both-passes : (s s′ : SharedList) → LanesBoth s s′ → Coupled LanesBoth (25 * 1 + 25 * 1) (passes s) (passes s′)
+both-passes s s′ r = coupled-weaken (λ t t′ u. both-passed r u) (coupled-passes s s′)
 
 -- ---- the lanes that chi reads
 
@@ -109,12 +121,9 @@ pub record Operands : Type 0 where
   pub p : Bool
   pub q : Bool
 
--- sharings of 25 lanes of 64 bits, of which these two shares are equal
+-- in two states these two shares are equal
 pub record OperandsKept (o : Operands) (s s′ : SharedList) : Type 0 where
-  pub X : ℕ → ℕ
-  pub X′ : ℕ → ℕ
-  pub left : LaneSharings X s
-  pub right : LaneSharings X′ s′
+  pub both : LanesBoth s s′
   pub first : share (o .p) (sharedAt s (along 1 (o .lane))) ≡ share (o .p) (sharedAt s′ (along 1 (o .lane)))
   pub second : share (o .q) (sharedAt s (along 2 (o .lane))) ≡ share (o .q) (sharedAt s′ (along 2 (o .lane)))
 
@@ -138,15 +147,12 @@ operands-aimed o r u =
     let h = o .within in
     let a = along 1 i in
     let b = along 2 i in
-    let l = lane-bits (lanes-left r) in
-    let m = lane-bits (lanes-right r) in
+    let l = lane-bits (lanes-both r .left) in
+    let m = lane-bits (lanes-both r .right) in
     let v = keep-bits (o .p) (pass-bits l a (omega arith)) (pass-bits m a (omega arith)) in
     let w = keep-bits (o .q) (pass-bits l b (omega arith)) (pass-bits m b (omega arith)) in
     record {
-      X = passAt (r .X);
-      X′ = passAt (r .X′);
-      left = record { at = λ k g. rw (u .left k g) (sharing-pass (lanes-left r) k g) };
-      right = record { at = λ k g. rw (u .right k g) (sharing-pass (lanes-right r) k g) };
+      both = both-passed (lanes-both r) u;
       first =
           rw (u .left a (omega arith), u .right a (omega arith))
           (share-keep (o .p) (apart-cong (aimed-1 i h v w) (apart-pass r a (omega arith))));

@@ -13,17 +13,18 @@ use Rattle.keccak.specs.KeccakP.{constant}
 use Rattle.keccak.specs.Constant.{constant-bits}
 use Rattle.keccak.specs.Pass.{LaneBits}
 use Rattle.worksheet.specs.declared.Shares.{Shares}
-use Rattle.worksheet.specs.Prog.{Prog, ret, enter, _>>=_, entry, bind-assoc}
+use Rattle.worksheet.specs.Prog.{Prog, ret, enter, _>>=_, entry, loop, bind-assoc}
 use Rattle.worksheet.specs.Couple.{Coupled, ret-c, enter-c, Like, SameAt, here}
-use Rattle.worksheet.specs.Couple.{coupled-bind, sameAt-recount, sameAt-left, sameAt-right}
+use Rattle.worksheet.specs.Couple.{coupled-weaken, coupled-bind, sameAt-recount, sameAt-left, sameAt-right}
+use Rattle.worksheet.specs.CoupleLoops.{coupled-loop}
 use Rattle.worksheet.specs.Places.{cut, turns}
 use Rattle.worksheet.specs.Turns.{Turns}
 use Rattle.worksheet.specs.Stage.{Stage, andThen, loop-stage}
 use Rattle.worksheet.specs.Sharing.{shares, none, Apart, share-keep, xorPublic, apart-xorPublic}
 use Rattle.worksheet.specs.SharedList.{SharedList, sharedList, sharedAt, unzip}
 use Rattle.masked_keccak.specs.MaskedKeccak.{pass, chi, round, maskedKeccakP}
-use Rattle.masked_keccak.specs.Lanes.{Differences, LanesApart, lane-bits}
-use Rattle.masked_keccak.specs.PassSilence.{passes, passes-stage, Operands, OperandsKept}
+use Rattle.masked_keccak.specs.Lanes.{LanesBoth, lane-bits, Differences, LanesApart, keepLanes, lanes-both}
+use Rattle.masked_keccak.specs.PassSilence.{passes, both-passes, passes-stage, Operands, OperandsKept}
 use Rattle.masked_keccak.specs.ChiSilence.{chiAt, chiAt-bits, chiReadsFirst, chiReadsSecond, like-chi, coupled-chi, sameAt-chi}
 
 -- ---- chi and iota
@@ -79,10 +80,10 @@ module _ (i : ℕ) where
   abbrev nonlinear : SharedList → Prog SharedList
   nonlinear t = chi t >>= iota i
 
-  module _ {o : Operands} {s s′ : SharedList} (r : OperandsKept o s s′) where
-    fresh-nonlinear : (d : Differences) → Coupled (LanesApart d) (25 * 11 + 1) (nonlinear s) (nonlinear s′)
+  module _ {s s′ : SharedList} (r : LanesBoth s s′) where
+    coupled-nonlinear : (d : Differences) → Coupled (LanesApart d) (25 * 11 + 1) (nonlinear s) (nonlinear s′)
     unfolding iota
-    fresh-nonlinear d =
+    coupled-nonlinear d =
         let Y = iotaAt (constant i) (chiAt (r .X)) in
         let Y′ = iotaAt (constant i) (chiAt (r .X′)) in
         let b = d .bits (iotaAt-bits i (chiAt-bits (lane-bits (r .left)))) (iotaAt-bits i (chiAt-bits (lane-bits (r .right)))) in
@@ -104,10 +105,10 @@ module _ (i : ℕ) where
             (turns Entry 25 11 (λ l j h g. (
               record { lane = l; within = h; p = chiReadsFirst j; q = chiReadsSecond j },
               λ s s′ r.
-                  sameAt-left (sameAt-chi (r .left) (r .right) l j h g (r .first) (r .second)) (like-iota i),
+                  sameAt-left (sameAt-chi (r .both .left) (r .both .right) l j h g (r .first) (r .second)) (like-iota i),
             )))
-            (λ j h. (anyOperands, λ s s′ r. sameAt-recount (omega arith) (last-nonlinear r)));
-        fresh = λ d. (anyOperands, λ s s′ r. fresh-nonlinear r d);
+            (λ j h. (anyOperands, λ s s′ r. sameAt-recount (omega arith) (last-nonlinear (r .both))));
+        fresh = λ d. (anyOperands, λ s s′ r. coupled-nonlinear (r .both) d);
       }
     where
       Entry : ℕ → Type 0
@@ -127,8 +128,20 @@ module _ (i : ℕ) where
       subst (λ (f : SharedList → Prog SharedList). Stage LanesApart LanesApart 326 f f) (fun-ext round-is)
       (andThen passes-stage nonlinear-stage)
 
+  -- fresh, however the states before are related
+  coupled-round : (s s′ : SharedList) → LanesBoth s s′ → (d : Differences) → Coupled (LanesApart d) 326 (round i s) (round i s′)
+  coupled-round s s′ r d = rw (← round-is s, ← round-is s′) (coupled-bind (both-passes s s′ r) (λ t t′ q. coupled-nonlinear q d))
+
 -- ---- the permutation
 
 pub maskedKeccakP-stage : Stage LanesApart LanesApart (24 * 326) maskedKeccakP maskedKeccakP
 unfolding maskedKeccakP
 maskedKeccakP-stage = loop-stage {R = λ j. LanesApart} 24 (λ j h. round-stage j)
+
+pub coupled-maskedKeccakP : (s s′ : SharedList) → LanesBoth s s′ → (d : Differences)
+    → Coupled (LanesApart d) (24 * 326) (maskedKeccakP s) (maskedKeccakP s′)
+unfolding maskedKeccakP loop
+coupled-maskedKeccakP s s′ r d =
+    coupled-bind
+    (coupled-loop (λ j. LanesBoth) 23 (λ j h t t′ q. coupled-weaken (λ u u′ a. lanes-both a) (coupled-round j t t′ q (keepLanes (λ k. false)))) r)
+    (λ t t′ q. coupled-round 23 t t′ q d)
