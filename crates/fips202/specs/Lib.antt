@@ -2,3 +2,6 @@ pub mod Sponge
 pub mod Calls
 pub mod MaskedSponge
 pub mod Padding
+pub mod MaskedSponge
+pub mod MaskedBlocksSilence
+pub mod MaskedSpongeSilence

@@ -1,9 +1,9 @@
 -- Two states on two shares, compared lane by lane.
 use Prim.Native.Nat.{ℕ, _<_}
-use mathlib.Core.Path.{_≡_}
 use mathlib.Core.Bool.{Bool}
 use Rattle.keccak.specs.Pass.{LaneBits}
-use Rattle.worksheet.specs.Sharing.{share, Sharing, Apart, keep, keep-bits, share-keep, sharing-bits}
+use Rattle.worksheet.specs.Sharing.{Sharing, Apart, keep, keep-bits, sharing-bits}
+use Rattle.worksheet.specs.Choice.{Kept, chosen}
 use Rattle.worksheet.specs.SharedList.{SharedList, sharedAt}
 
 -- s is a sharing of the state with the lanes X, 25 of 64 bits
@@ -39,10 +39,10 @@ keepLanes c =
       bits = λ b b′. record { at = λ k h. keep-bits (c k) (b .at k h) (b′ .at k h) };
     }
 
-pub share-keepLanes : (c : ℕ → Bool) {s s′ : SharedList} → LanesApart (keepLanes c) s s′ → (i : ℕ) → i < 25
-    → share (c i) (sharedAt s i) ≡ share (c i) (sharedAt s′ i)
+pub kept-lane : (c : ℕ → Bool) {s s′ : SharedList} → LanesApart (keepLanes c) s s′ → (i : ℕ) → i < 25
+    → Kept 64 (c i) (sharedAt s i) (sharedAt s′ i)
 unfolding keepLanes
-share-keepLanes c r i h = share-keep (c i) (r .at i h)
+kept-lane c r i h = chosen (c i) (r .at i h)
 
 module _ {d : Differences} {s s′ : SharedList} (r : LanesApart d s s′) where
   abbrev pub lanes-both : LanesBoth s s′

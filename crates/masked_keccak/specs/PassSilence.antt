@@ -18,7 +18,7 @@ use Rattle.worksheet.specs.Stage.{Stage}
 use Rattle.worksheet.specs.Sharing.{shares, share, Sharing, Apart, apart-cong, keep, keep-bits, share-keep}
 use Rattle.worksheet.specs.SharedList.{SharedList, sharedList, sharedAt}
 use Rattle.masked_keccak.specs.MaskedKeccak.{pass, along}
-use Rattle.masked_keccak.specs.Lanes.{LaneSharings, LanesBoth, lane-bits, Differences, LanesApart, keepLanes, share-keepLanes}
+use Rattle.masked_keccak.specs.Lanes.{LaneSharings, LanesBoth, lane-bits, Differences, LanesApart, keepLanes, kept-lane}
 use Rattle.masked_keccak.specs.Lanes.{lanes-both, difference-bits}
 
 -- ---- one share
@@ -172,7 +172,7 @@ unfolding passes
 entry-share0 i h = (
   keepLanes (λ k. false),
   λ s s′ r.
-      sameAt-left (silent-pass (s .s0) (s′ .s0) (share-keepLanes (λ k. false) r) i h)
+      sameAt-left (silent-pass (s .s0) (s′ .s0) (λ k g. kept-lane (λ k. false) r k g .same) i h)
       (λ a a′. coupled-map _ _ (λ b b′ u. u) (like-pass _ _)),
 )
 
@@ -182,7 +182,7 @@ entry-share1 i h = (
   keepLanes (λ k. true),
   λ s s′ r.
       sameAt-right (like-pass _ _)
-      (λ a a′ t. sameAt-map _ _ (silent-pass (s .s1) (s′ .s1) (share-keepLanes (λ k. true) r) i h)),
+      (λ a a′ t. sameAt-map _ _ (silent-pass (s .s1) (s′ .s1) (λ k g. kept-lane (λ k. true) r k g .same) i h)),
 )
 
 pub passes-stage : Stage LanesApart OperandsKept (25 * 1 + 25 * 1) passes passes
