@@ -46,6 +46,16 @@ pub coupled-way : {n m X X′ : ℕ} {S : Shares → Shares → Type 0} {p p′ 
     → ((d : ℕ) → Bits n d → Coupled (Apart n d X X′) m p p′) → Coupled S m p p′
 coupled-way s a b c = coupled-weaken (λ z z′ r. s .holds r) (c _ (s .bits a b))
 
+-- ---- sequences of words
+
+-- the first n, each with the share chosen for it
+pub record KeptWords (n : ℕ) (c : ℕ → Bool) (w w′ : ℕ → Shares) : Type 0 where
+  pub at : (j : ℕ) → j < n → Kept 64 (c j) (w j) (w′ j)
+
+-- shares q of the first n are equal
+pub record SameShares (n : ℕ) (q : Bool) (w w′ : ℕ → Shares) : Type 0 where
+  pub at : (j : ℕ) → j < n → share q (w j) ≡ share q (w′ j)
+
 -- ---- lists
 
 -- share 0 at false, share 1 at true

@@ -73,3 +73,15 @@ moves h =
       entry = λ i l. absurd (omega arith);
       fresh = λ d. (h d .0, λ a b r. ret-c (h d .1 a b r));
     }
+
+-- what comes in, read otherwise
+pub comap : {A B C D E F G H K : Type 0} {R : E → A → B → Type 0} {S : F → C → D → Type 0} {m : ℕ} {f : A → Prog C} {f′ : B → Prog D}
+    (Q : K → G → H → Type 0) (g : G → A) (g′ : H → B) (k : E → K)
+    → ((e : E) (a : G) (b : H) → Q (k e) a b → R e (g a) (g′ b)) → Stage R S m f f′
+    → Stage Q S m (λ a. f (g a)) (λ b. f′ (g′ b))
+comap Q g g′ k h s =
+    record {
+      like = λ a b. s .like (g a) (g′ b);
+      entry = λ i l. let x = s .entry i l in (k (x .0), λ a b r. x .1 (g a) (g′ b) (h (x .0) a b r));
+      fresh = λ d. let x = s .fresh d in (k (x .0), λ a b r. x .1 (g a) (g′ b) (h (x .0) a b r));
+    }

@@ -1,11 +1,11 @@
 -- The results of n turns, described turn by turn: of one loop, and of two loops beside each other.
-use Prim.Native.Nat.{ℕ, suc, _<_}
+use Prim.Native.Nat.{ℕ, suc, _+_, _<_}
 use mathlib.Core.Path.{_≡_, refl, _∙_}
 use mathlib.Core.List.{List, [], _∷_, _++_}
 use native.Mathlib.Decide.{decLt}
 use native.Mathlib.Omega.{arith}
-use lib.ListN.{length, getD, length-append, List·getD-append}
-use lib.Seq.{getD-at}
+use lib.ListN.{length, getD, drop, length-append, length-drop, List·getD-append}
+use lib.Seq.{getD-at, getD-drop}
 
 -- Q j holds of element j, and there are n
 pub record Each {A : Type 0} (Q : ℕ → A → Type 0) (n : ℕ) (ys : List A) : Type 0 where
@@ -53,3 +53,17 @@ turns-snoc {A} {B} {R} {n} {ys} {ys′} {y} {y′} r q =
     go d d′ j h (no p) =
         let e : j ≡ n = omega arith in
         rw (e, getD-at ys y [] d n (r .long), getD-at ys′ y′ [] d′ n (r .long′)) q
+
+pub turns-weaken : {A B : Type 0} {R S : ℕ → A → B → Type 0} {n : ℕ} {ys : List A} {ys′ : List B}
+    → ((j : ℕ) → j < n → (y : A) (y′ : B) → R j y y′ → S j y y′) → Turns R n ys ys′ → Turns S n ys ys′
+turns-weaken {ys = ys} {ys′ = ys′} h r =
+    record { long = r .long; long′ = r .long′; at = λ d d′ j lt. h j lt (getD ys j d) (getD ys′ j d′) (r .at d d′ j lt) }
+
+pub turns-drop : {A B : Type 0} {R : ℕ → A → B → Type 0} (k : ℕ) {n : ℕ} {ys : List A} {ys′ : List B}
+    → Turns R (n + k) ys ys′ → Turns (λ j. R (k + j)) n (drop k ys) (drop k ys′)
+turns-drop k {n} {ys} {ys′} r =
+    record {
+      long = length-drop k ys ∙ omega (arith, r .long);
+      long′ = length-drop k ys′ ∙ omega (arith, r .long′);
+      at = λ d d′ j h. rw (getD-drop k ys j d, getD-drop k ys′ j d′) (r .at d d′ (k + j) (omega arith));
+    }
