@@ -4,8 +4,9 @@ pub mod Coefficient
 pub mod CoefficientSilence
 pub mod SamplerSilence
 pub mod Comparison
+pub mod AdderStepsSilence
+pub mod AdderSilence
+pub mod CompressionSilence
 pub mod Stored
 pub mod PlaneSum
 pub mod AdderLaws
-pub mod AdderStepsSilence
-pub mod AdderSilence
