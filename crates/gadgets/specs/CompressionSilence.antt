@@ -16,7 +16,7 @@ use Rattle.worksheet.specs.Turns.{Turns, turns-weaken, turns-drop}
 use Rattle.worksheet.specs.Stage.{Stage}
 use Rattle.worksheet.specs.Sharing.{keep, keep-bits}
 use Rattle.worksheet.specs.SharedList.{SharedList, sharedAt}
-use Rattle.worksheet.specs.Choice.{Kept, chosen, SameShares, SameShare, sameShare-at}
+use Rattle.worksheet.specs.Choice.{Kept, KeptList, chosen, SameShares, SameShare, sameShare-at}
 use Rattle.worksheet.specs.Pass.{like-entries, silent-entries}
 use Rattle.gadgets.specs.PlaneSum.{plainSum, plane-add}
 use Rattle.gadgets.specs.AdderSilence.{adderEntries, like-adder, coupled-adder, silent-adder}
@@ -25,10 +25,6 @@ use Rattle.gadgets.specs.Compression.{fixedPoint, maskedCompress}
 
 abbrev pub compressEntries : ℕ → ℕ
 compressEntries d = 64 * 1 + (64 * 1 + adderEntries (d + 13))
-
--- d planes, each with the share chosen for it
-abbrev pub KeptPlanes : ℕ → (ℕ → Bool) → List Shares → List Shares → Type 0
-KeptPlanes d c = Turns (λ j. Kept 64 (c j)) d
 
 plainSum-bits : (v w : ℕ → ℕ) (j : ℕ) → Bits 64 (plainSum (plane 64 v) (plane 64 w) j)
 plainSum-bits v w j = rw (plane-add 64 v w j) (plane-bits 64 (λ i. v i + w i) j)
@@ -46,7 +42,7 @@ module _ (d : ℕ) (v w v′ w′ : ℕ → ℕ) where
   sameAt-topPlanes i h =
       sameAt-map _ _ (silent-adder (d + 13) (plane-bits 64 v) (plane-bits 64 w) (plane-bits 64 v′) (plane-bits 64 w′) i h)
 
-  coupled-topPlanes : (c : ℕ → Bool) → Coupled (KeptPlanes d c) (adderEntries (d + 13)) (topPlanes d v w) (topPlanes d v′ w′)
+  coupled-topPlanes : (c : ℕ → Bool) → Coupled (KeptList d c) (adderEntries (d + 13)) (topPlanes d v w) (topPlanes d v′ w′)
   coupled-topPlanes c =
       coupled-map _ _
       (λ s s′ r. turns-weaken (λ j h z z′ a. subst (λ (k : ℕ). Kept 64 (c k) z z′) (omega arith) (chosen (c (13 + j - 13)) a)) (turns-drop 13 r))
@@ -68,13 +64,13 @@ module _ (d : ℕ) where
   like-maskedCompress x x′ = coupled-sums x x′ (like-topPlanes d)
 
   pub coupled-maskedCompress : (c : ℕ → Bool) (x x′ : ℕ → Shares)
-      → Coupled (KeptPlanes d c) (compressEntries d) (maskedCompress d x) (maskedCompress d x′)
+      → Coupled (KeptList d c) (compressEntries d) (maskedCompress d x) (maskedCompress d x′)
   coupled-maskedCompress c x x′ = coupled-sums x x′ (λ v w v′ w′. coupled-topPlanes d v w v′ w′ c)
 
   abbrev Entry : ℕ → Type 0
   Entry i = (q : Bool) × ((x x′ : ℕ → Shares) → SameShares 64 q x x′ → SameAt i (maskedCompress d x) (maskedCompress d x′))
 
-  pub maskedCompress-stage : Stage (SameShares 64) (KeptPlanes d) (compressEntries d) (maskedCompress d) (maskedCompress d)
+  pub maskedCompress-stage : Stage (SameShares 64) (KeptList d) (compressEntries d) (maskedCompress d) (maskedCompress d)
   unfolding maskedCompress
   maskedCompress-stage =
       record {
@@ -113,7 +109,7 @@ module _ (n d : ℕ) where
   abbrev Group : ℕ → Type 0
   Group k = (q : Bool) × ((f f′ : SharedList) → SameShare q f f′ → SameAt k (groups f) (groups f′))
 
-  pub groups-stage : Stage SameShare (λ (c : ℕ → ℕ → Bool). Turns (λ g. KeptPlanes d (c g)) n) (n * compressEntries d) groups groups
+  pub groups-stage : Stage SameShare (λ (c : ℕ → ℕ → Bool). Turns (λ g. KeptList d (c g)) n) (n * compressEntries d) groups groups
   groups-stage =
       record {
         like = λ f f′. like-times n (λ g h. like-maskedCompress d _ _);

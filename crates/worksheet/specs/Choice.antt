@@ -9,6 +9,7 @@ use Rattle.words.specs.Tab.{tab-cong}
 use Rattle.worksheet.specs.declared.Shares.{Shares}
 use Rattle.worksheet.specs.Prog.{Prog}
 use Rattle.worksheet.specs.Couple.{Coupled, coupled-weaken}
+use Rattle.worksheet.specs.Turns.{Turns}
 use Rattle.worksheet.specs.Sharing.{joined, share, Sharing, sharing-joined, Apart, keep, keep-bits, share-keep}
 use Rattle.worksheet.specs.SharedList.{SharedList, sharedAt, unzip}
 
@@ -22,12 +23,11 @@ pub record Kept (n : ℕ) (q : Bool) (z z′ : Shares) : Type 0 where
   pub both : Both n z z′
   pub same : share q z ≡ share q z′
 
+pub both-bits : {n : ℕ} {z z′ : Shares} → Bits n (z .s0) → Bits n (z .s1) → Bits n (z′ .s0) → Bits n (z′ .s1) → Both n z z′
+both-bits a b a′ b′ = record { left = sharing-joined a b; right = sharing-joined a′ b′ }
+
 pub apart-both : {n d X X′ : ℕ} {z z′ : Shares} → Apart n d X X′ z z′ → Both n z z′
-apart-both a =
-    record {
-      left = sharing-joined (a .left .bits0) (a .left .bits1);
-      right = sharing-joined (a .right .bits0) (a .right .bits1);
-    }
+apart-both a = both-bits (a .left .bits0) (a .left .bits1) (a .right .bits0) (a .right .bits1)
 
 pub chosen : {n : ℕ} (q : Bool) {X X′ : ℕ} {z z′ : Shares} → Apart n (keep q X X′) X X′ z z′ → Kept n q z z′
 chosen q a = record { both = apart-both a; same = share-keep q a }
@@ -51,6 +51,10 @@ coupled-way s a b c = coupled-weaken (λ z z′ r. s .holds r) (c _ (s .bits a b
 -- the first n, each with the share chosen for it
 pub record KeptWords (n : ℕ) (c : ℕ → Bool) (w w′ : ℕ → Shares) : Type 0 where
   pub at : (j : ℕ) → j < n → Kept 64 (c j) (w j) (w′ j)
+
+-- n words in a list
+abbrev pub KeptList : ℕ → (ℕ → Bool) → List Shares → List Shares → Type 0
+KeptList n c = Turns (λ j. Kept 64 (c j)) n
 
 -- shares q of the first n are equal
 pub record SameShares (n : ℕ) (q : Bool) (w w′ : ℕ → Shares) : Type 0 where

@@ -99,6 +99,11 @@ apart-xorShares {d = d} {e = e} {a = a} {b = b} s t =
       by = ap₂ xor (s .by) (t .by) ∙ xor-swap (a .s0) d (b .s0) e;
     }
 
+pub share-xorShares : (q : Bool) (a b a′ b′ : Shares) → share q a ≡ share q a′ → share q b ≡ share q b′
+    → share q (xorShares a b) ≡ share q (xorShares a′ b′)
+share-xorShares false a b a′ b′ e f = ap₂ xor e f
+share-xorShares true a b a′ b′ e f = ap₂ xor e f
+
 -- a sum set apart by d, whatever a stands at
 pub apart-xor-add : {n d X Y X′ Y′ : ℕ} {a b a′ b′ : Shares} → Sharing n X a → Sharing n X′ a′
     → Apart n (xor (xor (a .s0) (a′ .s0)) d) Y Y′ b b′ → Apart n d (xor X Y) (xor X′ Y′) (xorShares a b) (xorShares a′ b′)
