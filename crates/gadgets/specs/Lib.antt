@@ -1,5 +1,10 @@
+pub mod Stored
 pub mod Adder
+pub mod PlaneSum
+pub mod AdderLaws
+pub mod AdderSilence
 pub mod Compression
+pub mod CompressionLaws
 pub mod Coefficient
 pub mod CoefficientSilence
 pub mod SamplerSilence

@@ -1,13 +1,13 @@
 -- The bits of a word one by one: what a formula gives at each, and that a word is determined by them.
 use mathlib.Core.Path.{_≡_, sym, ap, ap₂, _∙_}
 use mathlib.Core.List.{List, map}
-use Prim.Native.Nat.{ℕ, zero, suc, _+_, _*_, _/_, _%_, _^_, _<_, _≤_, max, min}
+use Prim.Native.Nat.{ℕ, zero, suc, _+_, _-_, _*_, _/_, _%_, _^_, _<_, _≤_, max, min}
 use native.Mathlib.Decide.{decLt}
 use native.Mathlib.Nat.{div-add-mod', div-one, div-eq-of-lt, mod-lt, zero-div}
 use native.Mathlib.Omega.{arith}
 use lib.ListN.{getD, List·getD-map}
 use lib.Arith.{half-le}
-use lib.Pow.{shr-shr}
+use lib.Pow.{shr-shr, field, mod-mod-pow}
 use lib.Bits.{differ}
 use Rattle.words.specs.Word.{Bits, xor, and}
 use Rattle.words.specs.WordLaws.{xor-shift, and-shift, bits-mono}
@@ -32,6 +32,17 @@ digit-low x = ap (λ (z : ℕ). z % 2) (div-one x)
 pub digit-half : (k x : ℕ) → digit k (x / 2) ≡ digit (1 + k) x
 unfolding digit
 digit-half k x = ap (λ (z : ℕ). z % 2) (shr-shr x 1 k)
+
+pub digit-div : (k m x : ℕ) → digit k (x / 2 ^ m) ≡ digit (m + k) x
+unfolding digit
+digit-div k m x = ap (λ (z : ℕ). z % 2) (shr-shr x m k)
+
+-- the n lowest digits are those of x modulo 2^n
+pub digit-mod : (k n x : ℕ) → k < n → digit k (x % 2 ^ n) ≡ digit k x
+unfolding digit
+digit-mod k n x h =
+    let e : n ≡ n - k - 1 + 1 + k = omega arith in
+    rw e (ap (λ (z : ℕ). z % 2) (field x (n - k - 1 + 1) k) ∙ mod-mod-pow (x / 2 ^ k) (n - k - 1) 1)
 
 pub digit-xor : (k x y : ℕ) → digit k (xor x y) ≡ differ (digit k x) (digit k y)
 unfolding digit

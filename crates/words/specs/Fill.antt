@@ -77,7 +77,7 @@ module _ {A : Type 0} where
   replaced-stop {n} {f} {d} {l₀} {i} {l} a r = tab-of d l n (a .filled .long) (λ k h. go k (decLt k i))
     where
       go : (k : ℕ) → Dec (k < i) → getD l k d ≡ f k
-      go k (yes p) = sym (getD-take i l k d p) ∙ ap (λ (m : List A). getD m k d) (a .filled .front) ∙ getD-tab i f k d p
+      go k (yes p) = filled-at (a .filled) d k p
       go k (no p) = a .rest k (omega arith) ∙ r k (omega arith)
 
   -- the first i elements of l₀ are replaced by their values under g

@@ -14,6 +14,10 @@ use Rattle.words.specs.Digit.{digit, digit-lt, digit-zero, digit-low, di
 unfoldable pub plane : ℕ → (ℕ → ℕ) → ℕ → ℕ
 plane n v j = value 2 (tab n (λ i. digit j (v i)))
 
+pub plane-cong : (n j k : ℕ) (v w : ℕ → ℕ) → ((i : ℕ) → i < n → digit j (v i) ≡ digit k (w i)) → plane n v j ≡ plane n w k
+unfolding plane
+plane-cong n j k v w e = ap (value 2) (tab-cong n e)
+
 -- value i of a list of planes, the lowest first
 unfoldable pub number : ℕ → List ℕ → ℕ
 number i ps = value 2 (map (digit i) ps)

@@ -29,6 +29,15 @@ each-snoc {A} {Q} {n} {ys} {y} r q = record { long = length-snoc ys y (r .long);
 pub each-weaken : {A : Type 0} {Q R : ℕ → A → Type 0} {n : ℕ} {ys : List A} → ((j : ℕ) (y : A) → Q j y → R j y) → Each Q n ys → Each R n ys
 each-weaken {ys = ys} h r = record { long = r .long; at = λ d j lt. h j (getD ys j d) (r .at d j lt) }
 
+-- the elements from k on
+pub each-drop : {A : Type 0} {Q R : ℕ → A → Type 0} {m n : ℕ} (k : ℕ) {ys : List A} → Each Q m ys → m ≡ k + n
+    → ((j : ℕ) (y : A) → j < n → Q (k + j) y → R j y) → Each R n (drop k ys)
+each-drop {m = m} {n = n} k {ys} r e h =
+    record {
+      long = length-drop k ys ∙ omega (arith, r .long);
+      at = λ d j lt. rw (getD-drop k ys j d) (h j (getD ys (k + j) d) lt (r .at d (k + j) (omega arith)));
+    }
+
 -- the elements j of two lists of n are related by R j
 pub record Turns {A B : Type 0} (R : ℕ → A → B → Type 0) (n : ℕ) (ys : List A) (ys′ : List B) : Type 0 where
   pub long : length ys ≡ n
