@@ -1,3 +1,4 @@
 // The masked gadgets other than the hash, for a general depth or count.
 pub mod adder; // the adder on bit planes
 pub mod compression; // fixed point and masked compression
+pub mod coefficient; // bit to coefficient
