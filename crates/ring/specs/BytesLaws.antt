@@ -6,7 +6,7 @@ use native.Mathlib.Nat.{mod-eq-of-lt, mod-lt}
 use native.Mathlib.Omega.{arith}
 use lib.Pow.{pow-pos}
 use lib.ListN.{length, getD, take, drop, length-append, length-take, length-drop, take-append-drop, length-map}
-use lib.Seq.{take-at, drop-at}
+use lib.Seq.{take-at, drop-at, drop-drop}
 use Rattle.words.specs.Residue.{q}
 use Rattle.words.specs.Bounded.{Below, below-nil, below-cons, below-head, below-tail, below-append, below-take, below-drop}
 use Rattle.words.specs.Numeral.{value, digits, length-digits, below-digits, value-digits, digits-value, value-lt}
@@ -32,6 +32,14 @@ pub length-numbersOf : (d n : ℕ) (b : List ℕ) → length (numbersOf d n b) �
 unfolding numbersOf
 length-numbersOf d zero b = refl
 length-numbersOf d (suc n) b = ap suc (length-numbersOf d n (drop d b))
+
+pub getD-numbersOf : (d n : ℕ) (b : List ℕ) (i : ℕ) → i < n → getD (numbersOf d n b) i 0 ≡ value 2 (take d (drop (d * i) b))
+unfolding numbersOf
+getD-numbersOf d zero b i h = absurd (omega arith)
+getD-numbersOf d (suc n) b zero h = let e : d * 0 ≡ 0 = omega arith in rw e
+getD-numbersOf d (suc n) b (suc i) h =
+    let e : d + d * i ≡ d * suc i = omega arith in
+    getD-numbersOf d n (drop d b) i (omega arith) ∙ ap (λ (l : List ℕ). value 2 (take d l)) (drop-drop (d * i) d b ∙ ap (λ (k : ℕ). drop k b) e)
 
 pub below-numbersOf : (d n : ℕ) {b : List ℕ} → length b ≡ d * n → Below 2 b → Below (2 ^ d) (numbersOf d n b)
 unfolding numbersOf

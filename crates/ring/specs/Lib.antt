@@ -7,3 +7,5 @@ pub mod Sum
 pub mod Transform
 pub mod Linear
 pub mod Sample
+pub mod SampleLaws
+pub mod Collect

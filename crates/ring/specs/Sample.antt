@@ -1,9 +1,9 @@
 -- FIPS 203, section 4.2.2: sampling.
 use mathlib.Core.List.{List, [], _∷_, _++_}
-use mathlib.Core.Bool.{cond}
+use mathlib.Core.Bool.{Bool, cond}
 use Prim.Native.Nat.{ℕ, zero, suc, _+_, _-_, _*_, _/_, _%_}
-use lib.Dec.{ltb}
-use lib.ListN.{getD, take, drop}
+use lib.Dec.{leb, ltb}
+use lib.ListN.{length, getD, take, drop}
 use Rattle.words.specs.Residue.{q}
 use Rattle.words.specs.Tab.{tab}
 use Rattle.ring.specs.Bytes.{bitsOf}
@@ -30,6 +30,9 @@ accepted (suc n) s = accepted n s ++ (kept (first s n) ++ kept (second s n))
 -- 256 coefficients; document 01 lends 840 bytes, 280 groups, and refuses a stream that yields fewer
 unfoldable pub sampleNtt : List ℕ → List ℕ
 sampleNtt s = take 256 (accepted 280 s)
+
+abbrev pub full : List ℕ → Bool
+full s = leb 256 (length (accepted 280 s))
 
 -- ---- Algorithm 8, SamplePolyCBD_eta
 

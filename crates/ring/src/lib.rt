@@ -5,6 +5,7 @@ mod encoding;
 mod multiply;
 mod polynomial;
 mod residue;
+mod sampling;
 mod tables;
 mod transform;
 
@@ -20,5 +21,8 @@ pub use polynomial::add_to;
 pub use polynomial::sub_from;
 pub use residue::quotient;
 pub use residue::reduce;
+pub use sampling::Sampled;
+pub use sampling::sample_ntt;
+pub use sampling::sample_poly_cbd;
 pub use transform::inverse_ntt;
 pub use transform::ntt;
