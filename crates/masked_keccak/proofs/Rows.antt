@@ -9,5 +9,6 @@ use Rattle.worksheet.specs.Ran.{Ran}
 use Rattle.masked_keccak.specs.Rows.{sharedRow, chiRow}
 
 pub rows-ran : {x y x′ y′ : Row} {r r′ : Recorder} {ws ws′ cs : List ℕ} {o : List Shares}
-    → x ≡ x′ → y ≡ y′ → Ran (chiRow (sharedRow x y)) r ws cs o r′ ws′ cs → Ran (chiRow (sharedRow x′ y′)) r ws cs o r′ ws′ cs
+    → x ≡ x′ → y ≡ y′ → Ran (chiRow (sharedRow x y)) r ws cs o r′ ws′ cs
+    → Ran (chiRow (sharedRow x′ y′)) r ws cs o r′ ws′ cs
 rows-ran e g h = rw (e, g) at h

@@ -1,15 +1,20 @@
--- The code's form of chi on two shares, five rows of five lanes. Nothing here need be believed: the code's `chi` promises MaskedKeccak's.
+-- The code's form of two shares of a state, and of chi on them, five rows of five lanes. Nothing here need be believed: the code's
+-- `chi` promises MaskedKeccak's.
 use mathlib.Core.Path.{_≡_, refl}
 use mathlib.Core.List.{List, [], _∷_, _++_}
 use Prim.Native.Nat.{ℕ, _+_, _%_}
 use Rattle.keccak.specs.Rows.{rowOf}
 use Rattle.keccak.specs.declared.row.Row.{Row}
+use Rattle.keccak.specs.declared.state.State.{State}
 use Rattle.worksheet.specs.declared.Shares.{Shares}
 use Rattle.worksheet.specs.Prog.{Prog, ret, _>>=_, mask, maskLow, entry, loop, times}
 use Rattle.worksheet.specs.SharedList.{SharedList, sharedList, sharedAt}
 use Rattle.worksheet.specs.MaskedAnd.{maskedAnd}
 use Rattle.worksheet.specs.Gates.{maskedNot, maskedXor}
 use Rattle.masked_keccak.specs.MaskedKeccak.{chiLane, chi}
+
+abbrev pub sharedState : State → State → SharedList
+sharedState a b = sharedList (a .lanes) (b .lanes)
 
 -- a row of each share
 abbrev pub sharedRow : Row → Row → SharedList

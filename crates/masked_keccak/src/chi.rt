@@ -3,9 +3,9 @@ ghost use Prim.Native.Nat.{_≤_};
 ghost use lib.ListN.{length};
 ghost use Rattle.worksheet.specs.Prog.{word};
 ghost use Rattle.worksheet.specs.Ran.{MakesWith, Draws};
-ghost use Rattle.worksheet.specs.SharedList.{sharedList, zip};
+ghost use Rattle.worksheet.specs.SharedList.{zip};
 ghost use Rattle.masked_keccak.specs.MaskedKeccak.{chiLane, chi as chiOf};
-ghost use Rattle.masked_keccak.specs.Rows.{sharedRow, chiRow};
+ghost use Rattle.masked_keccak.specs.Rows.{sharedState, sharedRow, chiRow};
 use keccak::row::Row;
 use keccak::state::State;
 use keccak::state::row_at;
@@ -76,7 +76,7 @@ pub struct EnteredStates {
 // With 25 masks.
 pub(crate) fn chi(rec: Recorder, a: State, b: State, ws: &[u64]) -> EnteredStates
     requires { ⌜ 25 ≤ length (now ws) ⌝ }
-    ensures { λ o. ⌜ Draws word 25 (chiOf (sharedList (a .lanes) (b .lanes))) rec (now (ws .entry)) (zip 25 (sharedList (o .s0 .lanes) (o .s1 .lanes))) (o .rec) ⌝ }
+    ensures { λ o. ⌜ Draws word 25 (chiOf (sharedState a b)) rec (now (ws .entry)) (zip 25 (sharedState (o .s0) (o .s1))) (o .rec) ⌝ }
 {
     let ws1 = &ws[5..];
     let ws2 = &ws[10..];

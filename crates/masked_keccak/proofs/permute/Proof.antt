@@ -9,15 +9,15 @@ use Rattle.keccak.specs.KeccakP.{register}
 use Rattle.worksheet.specs.Prog.{loop}
 use Rattle.worksheet.specs.Ran.{Ran, part-words}
 use Rattle.worksheet.specs.RanLoops.{loop-start, loop-turn}
-use Rattle.worksheet.specs.SharedList.{sharedList}
 use Rattle.masked_keccak.specs.MaskedKeccak.{round, maskedKeccakP}
+use Rattle.masked_keccak.specs.Rows.{sharedState}
 use Rattle.masked_keccak.proofs.permute.Statement.{statement}
 use Rattle.masked_keccak.proofs.permute.Tie as tie
 
 abbrev Inv-loop : tie.InvT-loop
 Inv-loop ws rec₀ s₀ t₀ reg₀ i₀ rec s t reg i =
     (i ≤ 24) × (reg ≡ register (7 * i))
-    × ((cs : List ℕ) → Ran (loop i round (sharedList (s₀ .lanes) (t₀ .lanes))) rec₀ ws cs (sharedList (s .lanes) (t .lanes)) rec (drop (25 * i) ws) cs)
+    × ((cs : List ℕ) → Ran (loop i round (sharedState s₀ t₀)) rec₀ ws cs (sharedState s t) rec (drop (25 * i) ws) cs)
 
 abbrev μ-loop : tie.MeasureT-loop
 μ-loop ws rec₀ s₀ t₀ reg₀ i₀ rec s t reg i = 24 - i

@@ -6,7 +6,7 @@ use Rattle.masked_keccak.proofs.Lanes.{pass-makes}
 use Rattle.masked_keccak.proofs.round.Statement.{statement}
 use Rattle.masked_keccak.proofs.round.Tie as tie
 
--- the range of what chi gives has the lengths of its two states
+-- the lengths of the two states stand in the range of what chi gives
 returns : tie.Need-returns
 unfolding round
 returns c cs =
