@@ -3,5 +3,6 @@ pub mod Calls
 pub mod MaskedSponge
 pub mod Padding
 pub mod MaskedSponge
+pub mod MaskedSpongeUses
 pub mod MaskedBlocksSilence
 pub mod MaskedSpongeSilence

@@ -18,7 +18,7 @@ use Rattle.worksheet.specs.Couple.{coupled-bind, coupled-map, sameAt-right, sam
 use Rattle.worksheet.specs.CoupleLoops.{like-loop, coupled-times, like-times, sameAt-times}
 use Rattle.worksheet.specs.Matching.{byXor}
 use Rattle.worksheet.specs.Places.{turns}
-use Rattle.worksheet.specs.Stage.{Stage, andThen, loop-stage}
+use Rattle.worksheet.specs.Stage.{EqualAt, Stage, andThen, loop-stage}
 use Rattle.worksheet.specs.Sharing.{shares, none, joined, share, sharing-joined, sharing-bits, Apart, apart-xor, apart-cong, share-keep}
 use Rattle.worksheet.specs.Sharing.{xorShares, apart-xorShares}
 use Rattle.worksheet.specs.SharedList.{SharedList, sharedAt, unzip, sharedAt-unzip}
@@ -133,21 +133,22 @@ module _ {n : ℕ} {b b′ : ℕ → Shares} (k : BlockBoth n b b′) where
       apart-cong (xor-xor-cancel _ _) (apart-xorShares (r .at j h) (apart-xor (both-lane k j .left) (both-lane k j .right)))
 
   -- entry i of lane j, by the share that it is
-  sameAt-mixLanes : n ≤ 25 → (j i : ℕ) → j < n → i < 2 → {s s′ : SharedList} → LanesApart (beforeBlock (keepLanes (λ l. ltb 0 i))) s s′
-      → SameAt (j * 2 + i) (mixLanes n b s) (mixLanes n b′ s′)
+  sameAt-mixLanes : n ≤ 25 → (j i : ℕ) → j < n → i < 2 → {s s′ : SharedList}
+      → LanesApart (beforeBlock (keepLanes (λ l. ltb 0 i))) s s′ → SameAt (j * 2 + i) (mixLanes n b s) (mixLanes n b′ s′)
   unfolding mixLanes keepLanes
   sameAt-mixLanes u j i h g {s} {s′} r =
       sameAt-map _ _ (sameAt-times n j (λ l q. like-maskedXor _ _ _ _) h
       (sameAt-maskedXor (sharedAt s j) (b j) (sharedAt s′ j) (b′ j) i g
-      (rw (← blockLane-of n b j h, ← blockLane-of n b′ j h) (share-keep (ltb 0 i) (apart-mixed (keepLanes (λ l. ltb 0 i)) r j (omega arith))))))
+      (rw (← blockLane-of n b j h, ← blockLane-of n b′ j h)
+      (share-keep (ltb 0 i) (apart-mixed (keepLanes (λ l. ltb 0 i)) r j (omega arith))))))
 
   mixLanes-stage : n ≤ 25 → Stage LanesApart LanesApart (n * 2) (mixLanes n b) (mixLanes n b′)
   mixLanes-stage u =
       record {
         like = like-mixLanes n b b′;
         entry =
-            turns (λ i. (e : Differences) × ((s s′ : SharedList) → LanesApart e s s′ → SameAt i (mixLanes n b s) (mixLanes n b′ s′))) n 2
-            (λ j i h g. (beforeBlock (keepLanes (λ l. ltb 0 i)), λ s s′ r. sameAt-mixLanes u j i h g r));
+            turns (EqualAt LanesApart (mixLanes n b) (mixLanes n b′)) n 2 (λ j i h g.
+            (beforeBlock (keepLanes (λ l. ltb 0 i)), λ s s′ r. sameAt-mixLanes u j i h g r));
         fresh = λ d. (
           beforeBlock d,
           λ s s′ r.
@@ -164,18 +165,19 @@ pub record BlocksBoth (lanes n : ℕ) (e : Unit {0}) (b b′ : ℕ → ℕ → S
   pub at : (i : ℕ) → i < n → (j : ℕ) → j < lanes → Both 64 (b i j) (b′ i j)
 
 blocks-stage : {lanes n : ℕ} {e : Unit {0}} {b b′ : ℕ → ℕ → Shares} → lanes ≤ 25 → BlocksBoth lanes n e b b′
-    → Stage LanesApart LanesApart (n * (lanes * 2 + 24 * 326)) (loop n (λ i s. mixLanes lanes (b i) s >>= maskedKeccakP))
+    → Stage LanesApart LanesApart (n * (lanes * 2 + 7824)) (loop n (λ i s. mixLanes lanes (b i) s >>= maskedKeccakP))
     (loop n (λ i s. mixLanes lanes (b′ i) s >>= maskedKeccakP))
 blocks-stage {n = n} u k =
     loop-stage {R = λ j. LanesApart} n (λ i h. andThen (mixLanes-stage (record { at = k .at i h }) u) maskedKeccakP-stage)
 
 pub maskedBlocks-stage : (lanes n : ℕ) → lanes ≤ 25
-    → Stage (BlocksBoth lanes n) LanesApart (n * (lanes * 2 + 24 * 326)) (maskedBlocks lanes n) (maskedBlocks lanes n)
+    → Stage (BlocksBoth lanes n) LanesApart (n * (lanes * 2 + 7824)) (maskedBlocks lanes n) (maskedBlocks lanes n)
 unfolding maskedBlocks
 maskedBlocks-stage lanes n u =
     record {
       like = λ b b′. coupled-recount (zero-add _) (coupled-bind (coupled-start (keepLanes (λ k. false))) (λ s s′ r.
-          like-loop n s s′ (λ i h t t′. coupled-bind (like-mixLanes lanes (b i) (b′ i) t t′) (λ v v′ q. maskedKeccakP-stage .like v v′))));
+          like-loop n s s′ (λ i h t t′.
+          coupled-bind (like-mixLanes lanes (b i) (b′ i) t t′) (λ v v′ q. maskedKeccakP-stage .like v v′))));
       entry = λ i h. (
         tt,
         λ b b′ k. let x = blocks-stage u k .entry i h in

@@ -10,12 +10,11 @@ use Rattle.words.specs.Bounded.{Below, below-nil, below-cons, below-append, bel
 use Rattle.words.specs.Numeral.{value-lt}
 use Rattle.words.specs.Word.{Bits}
 use Rattle.worksheet.specs.Prog.{entry}
-use Rattle.worksheet.specs.Couple.{SameAt}
 use Rattle.worksheet.specs.Couple.{coupled-map, sameAt-map}
 use Rattle.worksheet.specs.CoupleLoops.{AllKeep, coupled-chain, like-chain, sameAt-chain}
 use Rattle.worksheet.specs.Places.{turns}
 use Rattle.worksheet.specs.Turns.{Turns}
-use Rattle.worksheet.specs.Stage.{Stage, andThen}
+use Rattle.worksheet.specs.Stage.{EqualAt, Stage, andThen}
 use Rattle.worksheet.specs.Sharing.{shares, share, sharing-joined}
 use Rattle.worksheet.specs.SharedList.{SharedList, sharedAt, sharedAt-unzip}
 use Rattle.worksheet.specs.Choice.{Kept}
@@ -47,24 +46,23 @@ module _ (lanes n : ℕ) (l : 0 < lanes) (u : lanes ≤ 25) where
   stateWords c k = keepLanes (λ j. c (k * lanes + j))
 
   -- each state is fresh, by its own masks
-  keeps : (d : ℕ → Differences) → AllKeep (λ k. LanesApart (d k)) permutes (24 * 326) (λ k. maskedKeccakP) (λ k. maskedKeccakP)
+  keeps : (d : ℕ → Differences) → AllKeep (λ k. LanesApart (d k)) permutes 7824 (λ k. maskedKeccakP) (λ k. maskedKeccakP)
   keeps d k h t t′ r = coupled-maskedKeccakP t t′ (lanes-both r) (d (suc k))
 
-  kept-word : (c : ℕ → Bool) (s s′ : SharedList) {t t′ : List SharedList} → Turns (λ k. LanesApart (stateWords c k)) (suc permutes) t t′
-      → (i : ℕ) → i < n → Kept 64 (c i) (sharedAt (getD t (i / lanes) s) (i % lanes)) (sharedAt (getD t′ (i / lanes) s′) (i % lanes))
+  kept-word : (c : ℕ → Bool) (s s′ : SharedList) {t t′ : List SharedList}
+      → Turns (λ k. LanesApart (stateWords c k)) (suc permutes) t t′ → (i : ℕ) → i < n
+      → Kept 64 (c i) (sharedAt (getD t (i / lanes) s) (i % lanes)) (sharedAt (getD t′ (i / lanes) s′) (i % lanes))
   kept-word c s s′ r i h =
       rw (← ap c (div-add-mod' i lanes))
       (kept-lane (λ j. c (i / lanes * lanes + j)) (r .at s s′ (i / lanes) (state-lt i h)) (i % lanes) (omega (arith, mod-lt i l)))
 
-  pub maskedSqueeze-stage : Stage LanesApart (WordsKept n) (permutes * (24 * 326)) (maskedSqueeze lanes n) (maskedSqueeze lanes n)
+  pub maskedSqueeze-stage : Stage LanesApart (WordsKept n) (permutes * 7824) (maskedSqueeze lanes n) (maskedSqueeze lanes n)
   unfolding maskedSqueeze
   maskedSqueeze-stage =
       record {
         like = λ s s′. coupled-map _ _ (λ t t′ q. q) (like-chain permutes s s′ (λ k h. maskedKeccakP-stage .like));
         entry =
-            turns
-            (λ i. (e : Differences) × ((s s′ : SharedList) → LanesApart e s s′ → SameAt i (maskedSqueeze lanes n s) (maskedSqueeze lanes n s′)))
-            permutes (24 * 326)
+            turns (EqualAt LanesApart (maskedSqueeze lanes n) (maskedSqueeze lanes n)) permutes 7824
             (λ k i h g.
             let x = maskedKeccakP-stage .entry i g in (
               x .0,
@@ -109,8 +107,9 @@ module _ {A B : Type 0} (f : A → SharedList) (f′ : B → SharedList) where
     pub right0 : Below 256 (f′ b .s0)
     pub right1 : Below 256 (f′ b .s1)
 
-  module _ {rate suffix len : ℕ} (e : (a : A) → length (f a .s0) ≡ len) (e′ : (b : B) → length (f′ b .s0) ≡ len) (h : suffix < 128)
-      (l : 8 ≤ rate) (u : rate ≤ 200) where
+  -- all of one length
+  module _ {rate suffix len : ℕ} (e : (a : A) → length (f a .s0) ≡ len) (e′ : (b : B) → length (f′ b .s0) ≡ len)
+      (h : suffix < 128) (l : 8 ≤ rate) (u : rate ≤ 200) where
     both-blocks : {c : Unit {0}} {a : A} {b : B} → BytesBoth c a b → {d : Unit {0}}
         → BlocksBoth (rate / 8) (len / rate + 1) d (sharedBlock rate (padded rate suffix (f a .s0)) (f a .s1))
         (sharedBlock rate (padded rate suffix (f′ b .s0)) (f′ b .s1))
@@ -126,7 +125,7 @@ module _ {A B : Type 0} (f : A → SharedList) (f′ : B → SharedList) where
         part : {p : List ℕ} (i : ℕ) → Below 256 p → Below 256 (take rate (drop (i * rate) p))
         part i b = below-take rate (below-drop (i * rate) b)
 
-    maskedAbsorb-stage : Stage BytesBoth LanesApart ((len / rate + 1) * (rate / 8 * 2 + 24 * 326))
+    maskedAbsorb-stage : Stage BytesBoth LanesApart ((len / rate + 1) * (rate / 8 * 2 + 7824))
         (λ a. maskedAbsorb rate suffix (f a .s0) (f a .s1)) (λ b. maskedAbsorb rate suffix (f′ b .s0) (f′ b .s1))
     unfolding maskedAbsorb
     maskedAbsorb-stage =
@@ -138,7 +137,7 @@ module _ {A B : Type 0} (f : A → SharedList) (f′ : B → SharedList) where
         }
 
     pub maskedSponge-stage : (n : ℕ)
-        → Stage BytesBoth (WordsKept n) ((len / rate + 1) * (rate / 8 * 2 + 24 * 326) + (n - 1) / (rate / 8) * (24 * 326))
+        → Stage BytesBoth (WordsKept n) ((len / rate + 1) * (rate / 8 * 2 + 7824) + (n - 1) / (rate / 8) * 7824)
         (λ a. maskedSponge rate suffix (f a .s0) (f a .s1) n) (λ b. maskedSponge rate suffix (f′ b .s0) (f′ b .s1) n)
     unfolding maskedSponge
     maskedSponge-stage n = andThen maskedAbsorb-stage (maskedSqueeze-stage (rate / 8) n (omega arith) (omega arith))

@@ -40,7 +40,8 @@ chiReadsSecond (suc i) = readsRight i
 
 module _ {X Y Z X′ Y′ Z′ : ℕ} {w u v w′ u′ v′ : Shares} (sw : Sharing 64 X w) (su : Sharing 64 Y u) (sv : Sharing 64 Z v)
     (sw′ : Sharing 64 X′ w′) (su′ : Sharing 64 Y′ u′) (sv′ : Sharing 64 Z′ v′) where
-  pub coupled-chiLane : {d : ℕ} → Bits 64 d → Coupled (Apart 64 d (chiOf X Y Z) (chiOf X′ Y′ Z′)) 11 (chiLane w u v) (chiLane w′ u′ v′)
+  pub coupled-chiLane : {d : ℕ} → Bits 64 d
+      → Coupled (Apart 64 d (chiOf X Y Z) (chiOf X′ Y′ Z′)) 11 (chiLane w u v) (chiLane w′ u′ v′)
   unfolding chiLane maskedNot entry _>>=_
   coupled-chiLane b = enter-c (coupled-xorAnd (omega arith) sw (sharing-notShares su) sv sw′ (sharing-notShares su′) sv′ b)
 
@@ -65,10 +66,14 @@ chiAt X i = chiOf (X i) (X (along 1 i)) (X (along 2 i))
 
 pub chiAt-bits : {X : ℕ → ℕ} → LaneBits X → LaneBits (chiAt X)
 chiAt-bits b =
-    record { at = λ i h. xor-bits (b .at i h) (and-bits (complement-bits (b .at (along 1 i) (omega arith))) (b .at (along 2 i) (omega arith))) }
+    record {
+      at = λ i h.
+          xor-bits (b .at i h) (and-bits (complement-bits (b .at (along 1 i) (omega arith))) (b .at (along 2 i) (omega arith)));
+    }
 
 module _ {X X′ : ℕ → ℕ} {s s′ : SharedList} (l : LaneSharings X s) (r : LaneSharings X′ s′) where
-  pub coupled-chi : {e : ℕ → ℕ} → LaneBits e → Coupled (Turns (λ i. Apart 64 (e i) (chiAt X i) (chiAt X′ i)) 25) (25 * 11) (chi s) (chi s′)
+  pub coupled-chi : {e : ℕ → ℕ} → LaneBits e
+      → Coupled (Turns (λ i. Apart 64 (e i) (chiAt X i) (chiAt X′ i)) 25) (25 * 11) (chi s) (chi s′)
   unfolding chi
   coupled-chi b =
       coupled-times 25 (λ i h.

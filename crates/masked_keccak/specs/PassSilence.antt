@@ -9,12 +9,12 @@ use Rattle.keccak.specs.Pass.{passAt, LaneBits, pass-is, pass-cong, pass-bits, 
 use Rattle.keccak.specs.Aim.{aimed, aimed-bits, aimed-1, aimed-2}
 use Rattle.worksheet.specs.declared.Shares.{Shares}
 use Rattle.worksheet.specs.Prog.{Prog, ret, _>>=_, entry}
-use Rattle.worksheet.specs.Couple.{Coupled, ret-c, enter-c, Like, Silent, SameAt, here}
+use Rattle.worksheet.specs.Couple.{Coupled, ret-c, enter-c, Like, Silent, here}
 use Rattle.worksheet.specs.Couple.{coupled-weaken, sameAt-recount, coupled-bind, coupled-map, sameAt-left, sameAt-right, sameAt-map}
 use Rattle.worksheet.specs.CoupleLoops.{coupled-times, like-times, silent-times}
 use Rattle.worksheet.specs.Places.{cut}
 use Rattle.worksheet.specs.Turns.{Turns}
-use Rattle.worksheet.specs.Stage.{Stage}
+use Rattle.worksheet.specs.Stage.{EqualAt, Stage}
 use Rattle.worksheet.specs.Sharing.{shares, share, Sharing, Apart, apart-cong, keep, keep-bits, share-keep}
 use Rattle.worksheet.specs.SharedList.{SharedList, sharedList, sharedAt}
 use Rattle.masked_keccak.specs.MaskedKeccak.{pass, along}
@@ -163,11 +163,7 @@ operands-aimed o r u =
 
 -- ---- as a stage
 
--- at some choice of differences, entry i is equal
-abbrev Entry : ℕ → Type 0
-Entry i = (d : Differences) × ((s s′ : SharedList) → LanesApart d s s′ → SameAt i (passes s) (passes s′))
-
-entry-share0 : (i : ℕ) → i < 25 * 1 → Entry i
+entry-share0 : (i : ℕ) → i < 25 * 1 → EqualAt LanesApart passes passes i
 unfolding passes
 entry-share0 i h = (
   keepLanes (λ k. false),
@@ -176,7 +172,7 @@ entry-share0 i h = (
       (λ a a′. coupled-map _ _ (λ b b′ u. u) (like-pass _ _)),
 )
 
-entry-share1 : (i : ℕ) → i < 25 * 1 → Entry (25 * 1 + i)
+entry-share1 : (i : ℕ) → i < 25 * 1 → EqualAt LanesApart passes passes (25 * 1 + i)
 unfolding passes
 entry-share1 i h = (
   keepLanes (λ k. true),
@@ -189,6 +185,6 @@ pub passes-stage : Stage LanesApart OperandsKept (25 * 1 + 25 * 1) passes passes
 passes-stage =
     record {
       like = like-passes;
-      entry = cut Entry (25 * 1) (25 * 1) entry-share0 entry-share1;
+      entry = cut (EqualAt LanesApart passes passes) (25 * 1) (25 * 1) entry-share0 entry-share1;
       fresh = λ o. (aimOperands o, λ s s′ r. coupled-weaken (λ t t′ u. operands-aimed o r u) (coupled-passes s s′));
     }

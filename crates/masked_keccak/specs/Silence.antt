@@ -19,7 +19,7 @@ use Rattle.worksheet.specs.Couple.{coupled-weaken, coupled-bind, sameAt-recount
 use Rattle.worksheet.specs.CoupleLoops.{coupled-loop}
 use Rattle.worksheet.specs.Places.{cut, turns}
 use Rattle.worksheet.specs.Turns.{Turns}
-use Rattle.worksheet.specs.Stage.{Stage, andThen, loop-stage}
+use Rattle.worksheet.specs.Stage.{EqualAt, Stage, andThen, loop-stage}
 use Rattle.worksheet.specs.Sharing.{shares, none, Apart, share-keep, xorPublic, apart-xorPublic}
 use Rattle.worksheet.specs.SharedList.{SharedList, sharedList, sharedAt, unzip}
 use Rattle.masked_keccak.specs.MaskedKeccak.{pass, chi, round, maskedKeccakP}
@@ -63,10 +63,13 @@ iotaAt-bits i {X} b = record { at = go }
     go zero h = xor-bits (b .at 0 h) (constant-bits i)
     go (suc j) h = b .at (suc j) h
 
-apart-iota : {k : ℕ} {e X X′ : ℕ → ℕ} {c c′ : List Shares} → Bits 64 k → Turns (λ j. Apart 64 (e j) (X j) (X′ j)) 25 c c′
-    → (j : ℕ) → j < 25 → Apart 64 (e j) (iotaAt k X j) (iotaAt k X′ j) (sharedAt (withConstant k c) j) (sharedAt (withConstant k c′) j)
-apart-iota {k} {c = c} {c′ = c′} b t zero h = rw (withConstant-zero k c, withConstant-zero k c′) (apart-xorPublic b (t .at none none 0 h))
-apart-iota {k} {c = c} {c′ = c′} b t (suc j) h = rw (withConstant-suc k c j h, withConstant-suc k c′ j h) (t .at none none (suc j) h)
+apart-iota : {k : ℕ} {e X X′ : ℕ → ℕ} {c c′ : List Shares} → Bits 64 k
+    → Turns (λ j. Apart 64 (e j) (X j) (X′ j)) 25 c c′ → (j : ℕ) → j < 25
+    → Apart 64 (e j) (iotaAt k X j) (iotaAt k X′ j) (sharedAt (withConstant k c) j) (sharedAt (withConstant k c′) j)
+apart-iota {k} {c = c} {c′ = c′} b t zero h =
+    rw (withConstant-zero k c, withConstant-zero k c′) (apart-xorPublic b (t .at none none 0 h))
+apart-iota {k} {c = c} {c′ = c′} b t (suc j) h =
+    rw (withConstant-suc k c j h, withConstant-suc k c′ j h) (t .at none none (suc j) h)
 
 like-iota : (i : ℕ) (c c′ : List Shares) → Like 1 (iota i c) (iota i c′)
 unfolding iota
@@ -101,8 +104,8 @@ module _ (i : ℕ) where
   nonlinear-stage =
       record {
         like = λ s s′. coupled-bind (like-chi s s′) (λ c c′ t. like-iota i c c′);
-        entry = cut Entry (25 * 11) 1
-            (turns Entry 25 11 (λ l j h g. (
+        entry = cut (EqualAt OperandsKept nonlinear nonlinear) (25 * 11) 1
+            (turns (EqualAt OperandsKept nonlinear nonlinear) 25 11 (λ l j h g. (
               record { lane = l; within = h; p = chiReadsFirst j; q = chiReadsSecond j },
               λ s s′ r.
                   sameAt-left (sameAt-chi (r .both .left) (r .both .right) l j h g (r .first) (r .second)) (like-iota i),
@@ -110,9 +113,6 @@ module _ (i : ℕ) where
             (λ j h. (anyOperands, λ s s′ r. sameAt-recount (omega arith) (last-nonlinear (r .both))));
         fresh = λ d. (anyOperands, λ s s′ r. coupled-nonlinear (r .both) d);
       }
-    where
-      Entry : ℕ → Type 0
-      Entry k = (o : Operands) × ((s s′ : SharedList) → OperandsKept o s s′ → SameAt k (nonlinear s) (nonlinear s′))
 
   -- ---- a round
 
@@ -129,19 +129,22 @@ module _ (i : ℕ) where
       (andThen passes-stage nonlinear-stage)
 
   -- fresh, however the states before are related
-  coupled-round : (s s′ : SharedList) → LanesBoth s s′ → (d : Differences) → Coupled (LanesApart d) 326 (round i s) (round i s′)
-  coupled-round s s′ r d = rw (← round-is s, ← round-is s′) (coupled-bind (both-passes s s′ r) (λ t t′ q. coupled-nonlinear q d))
+  coupled-round : (s s′ : SharedList) → LanesBoth s s′ → (d : Differences)
+      → Coupled (LanesApart d) 326 (round i s) (round i s′)
+  coupled-round s s′ r d =
+      rw (← round-is s, ← round-is s′) (coupled-bind (both-passes s s′ r) (λ t t′ q. coupled-nonlinear q d))
 
 -- ---- the permutation
 
-pub maskedKeccakP-stage : Stage LanesApart LanesApart (24 * 326) maskedKeccakP maskedKeccakP
+pub maskedKeccakP-stage : Stage LanesApart LanesApart 7824 maskedKeccakP maskedKeccakP
 unfolding maskedKeccakP
 maskedKeccakP-stage = loop-stage {R = λ j. LanesApart} 24 (λ j h. round-stage j)
 
 pub coupled-maskedKeccakP : (s s′ : SharedList) → LanesBoth s s′ → (d : Differences)
-    → Coupled (LanesApart d) (24 * 326) (maskedKeccakP s) (maskedKeccakP s′)
+    → Coupled (LanesApart d) 7824 (maskedKeccakP s) (maskedKeccakP s′)
 unfolding maskedKeccakP loop
 coupled-maskedKeccakP s s′ r d =
     coupled-bind
-    (coupled-loop (λ j. LanesBoth) 23 (λ j h t t′ q. coupled-weaken (λ u u′ a. lanes-both a) (coupled-round j t t′ q (keepLanes (λ k. false)))) r)
+    (coupled-loop (λ j. LanesBoth) 23 (λ j h t t′ q.
+    coupled-weaken (λ u u′ a. lanes-both a) (coupled-round j t t′ q (keepLanes (λ k. false)))) r)
     (λ t t′ q. coupled-round 23 t t′ q d)

@@ -7,6 +7,10 @@ use Rattle.worksheet.specs.Couple.{Coupled, ret-c, Like, SameAt}
 use Rattle.worksheet.specs.Couple.{coupled-bind, coupled-map, sameAt-left, sameAt-right, sameAt-map}
 use Rattle.worksheet.specs.Places.{cut}
 
+-- for some choice R e of how what comes in is related, entry i is equal
+abbrev pub EqualAt : {A B C D E : Type 0} → (E → A → B → Type 0) → (A → Prog C) → (B → Prog D) → ℕ → Type 0
+EqualAt {A} {B} {E = E} R f f′ i = (e : E) × ((a : A) (b : B) → R e a b → SameAt i (f a) (f′ b))
+
 -- f and f′ run on what comes in under the one key and under the other, and make m entries. R e is a choice of how what comes
 -- in is related, S d of how what goes out is.
 pub record Stage {A B C D E F : Type 0} (R : E → A → B → Type 0) (S : F → C → D → Type 0) (m : ℕ)
@@ -14,7 +18,7 @@ pub record Stage {A B C D E F : Type 0} (R : E → A → B → Type 0) (S : F �
   -- whatever comes in, they draw and enter alike
   pub like : (a : A) (b : B) → Like m (f a) (f′ b)
   -- for each entry there is a choice under which it is equal
-  pub entry : (i : ℕ) → i < m → (e : E) × ((a : A) (b : B) → R e a b → SameAt i (f a) (f′ b))
+  pub entry : (i : ℕ) → i < m → EqualAt R f f′ i
   -- for each choice of what goes out there is one of what comes in
   pub fresh : (d : F) → (e : E) × ((a : A) (b : B) → R e a b → Coupled (S d) m (f a) (f′ b))
 
@@ -25,7 +29,7 @@ module _ {A B C D G H E F K : Type 0} {R : E → A → B → Type 0} {S : F → 
       record {
         like = λ a b. coupled-bind (s .like a b) (λ c d u. t .like c d);
         entry =
-            cut (λ i. (e : E) × ((a : A) (b : B) → R e a b → SameAt i (f a >>= g) (f′ b >>= g′))) m n
+            cut (EqualAt R (λ a. f a >>= g) (λ b. f′ b >>= g′)) m n
             (λ i h. let x = s .entry i h in (x .0, λ a b r. sameAt-left (x .1 a b r) (t .like)))
             (λ i h.
             let y = t .entry i h in
