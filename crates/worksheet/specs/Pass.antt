@@ -1,13 +1,14 @@
 -- Passes that get one share alone: their outcomes are entered, and a pass asks for and hands on one choice of share.
 use Prim.Native.Nat.{ℕ, zero, suc, _+_, _*_, _<_}
-use mathlib.Core.Path.{_≡_, refl, sym, _∙_}
+use mathlib.Core.Path.{_≡_, refl, sym, ap, _∙_}
 use mathlib.Core.Bool.{Bool, true, false}
 use mathlib.Core.List.{List}
 use native.Mathlib.Omega.{arith}
+use lib.ListN.{getD}
 use Rattle.words.specs.Tab.{tab, tab-of, tab-cong}
 use Rattle.worksheet.specs.Prog.{Prog, ret, _>>=_, entry, times}
 use Rattle.worksheet.specs.Couple.{Coupled, ret-c, enter-c, Like, Silent, SameAt, here}
-use Rattle.worksheet.specs.Couple.{coupled-weaken, coupled-recount, coupled-bind, sameAt-left, sameAt-right}
+use Rattle.worksheet.specs.Couple.{coupled-weaken, coupled-bind, coupled-map, sameAt-left, sameAt-right, sameAt-map}
 use Rattle.worksheet.specs.CoupleLoops.{coupled-times, like-times, silent-times}
 use Rattle.worksheet.specs.Places.{cut}
 use Rattle.worksheet.specs.Stage.{Stage}
@@ -18,11 +19,11 @@ use Rattle.worksheet.specs.Choice.{SameShare}
 abbrev pub entries : ℕ → (ℕ → ℕ) → Prog (List ℕ)
 entries n f = times n (λ i. entry (f i))
 
--- n outcomes of a pass on share 0, then n of a pass on share 1
-unfoldable pub enterBoth : ℕ → (ℕ → ℕ) → (ℕ → ℕ) → Prog SharedList
+-- the outcome of a pass on each share: its n values are entered, share 0 then share 1
+unfoldable pub enterBoth : ℕ → List ℕ → List ℕ → Prog SharedList
 enterBoth n f g = do
-  a ← entries n f
-  b ← entries n g
+  a ← entries n (λ i. getD f i 0)
+  b ← entries n (λ i. getD g i 0)
   ret (sharedList a b)
 
 -- ---- values on one share
@@ -61,21 +62,26 @@ module _ (n : ℕ) (f f′ : ℕ → ℕ) where
 
 -- ---- a pass on each share
 
-outcomes-same : {n : ℕ} {f f′ : ℕ → ℕ} {a a′ : List ℕ} → Outcomes n f f′ a a′ → ((i : ℕ) → i < n → f i ≡ f′ i) → a ≡ a′
-outcomes-same {n} r e = r .left ∙ tab-cong n e ∙ sym (r .right)
+abbrev element : List ℕ → ℕ → ℕ
+element l i = getD l i 0
+
+same-element : {l l′ : List ℕ} → l ≡ l′ → (n i : ℕ) → i < n → element l i ≡ element l′ i
+same-element e n i h = ap (λ (l : List ℕ). getD l i 0) e
+
+outcomes-same : {n : ℕ} {f f′ : List ℕ} {a a′ : List ℕ} → Outcomes n (element f) (element f′) a a′ → f ≡ f′ → a ≡ a′
+outcomes-same {n} r e = r .left ∙ tab-cong n (same-element e n) ∙ sym (r .right)
 
 -- where choice false makes the outcomes on share 0 equal, and choice true those on share 1
-module _ {A B : Type 0} (R : Bool → A → B → Type 0) (n : ℕ) (f g : A → ℕ → ℕ) (f′ g′ : B → ℕ → ℕ)
-    (same0 : (a : A) (b : B) → R false a b → (i : ℕ) → i < n → f a i ≡ f′ b i)
-    (same1 : (a : A) (b : B) → R true a b → (i : ℕ) → i < n → g a i ≡ g′ b i) where
-  both-c : {S : SharedList → SharedList → Type 0} (a : A) (b : B)
-      → ((x x′ y y′ : List ℕ) → Outcomes n (f a) (f′ b) x x′ → Outcomes n (g a) (g′ b) y y′ → S (sharedList x y) (sharedList x′ y′))
+module _ {A B : Type 0} (R : Bool → A → B → Type 0) (n : ℕ) (f g : A → List ℕ) (f′ g′ : B → List ℕ)
+    (same0 : (a : A) (b : B) → R false a b → f a ≡ f′ b) (same1 : (a : A) (b : B) → R true a b → g a ≡ g′ b) where
+  coupled-both : {S : SharedList → SharedList → Type 0} (a : A) (b : B)
+      → ((x x′ y y′ : List ℕ) → Outcomes n (element (f a)) (element (f′ b)) x x′ → Outcomes n (element (g a)) (element (g′ b)) y y′
+      → S (sharedList x y) (sharedList x′ y′))
       → Coupled S (n * 1 + n * 1) (enterBoth n (f a) (g a)) (enterBoth n (f′ b) (g′ b))
   unfolding enterBoth
-  both-c a b s =
-      coupled-recount (omega arith)
-      (coupled-bind (coupled-entries n (f a) (f′ b)) (λ x x′ r.
-      coupled-bind (coupled-entries n (g a) (g′ b)) (λ y y′ t. ret-c (s x x′ y y′ r t))))
+  coupled-both a b s =
+      coupled-bind (coupled-entries n (element (f a)) (element (f′ b))) (λ x x′ r.
+      coupled-map _ _ (λ y y′ t. s x x′ y y′ r t) (coupled-entries n (element (g a)) (element (g′ b))))
 
   abbrev Entry : ℕ → Type 0
   Entry i = (c : Bool) × ((a : A) (b : B) → R c a b → SameAt i (enterBoth n (f a) (g a)) (enterBoth n (f′ b) (g′ b)))
@@ -84,25 +90,26 @@ module _ {A B : Type 0} (R : Bool → A → B → Type 0) (n : ℕ) (f g : A →
   unfolding enterBoth
   pass-stage =
       record {
-        like = λ a b. both-c a b (λ x x′ y y′ r t. tt);
+        like = λ a b. coupled-both a b (λ x x′ y y′ r t. tt);
         entry =
             cut Entry (n * 1) (n * 1)
             (λ i h. (
               false,
               λ a b r.
-                  sameAt-left (silent-entries n (f a) (f′ b) (same0 a b r) i h)
-                  (λ x x′. coupled-bind (like-entries n (g a) (g′ b)) (λ y y′ t. ret-c tt)),
+                  sameAt-left (silent-entries n (element (f a)) (element (f′ b)) (same-element (same0 a b r) n) i h)
+                  (λ x x′. coupled-map _ _ (λ y y′ t. t) (like-entries n (element (g a)) (element (g′ b)))),
             ))
             (λ i h. (
               true,
               λ a b r.
-                  sameAt-right (like-entries n (f a) (f′ b)) (λ x x′ t.
-                  sameAt-left (silent-entries n (g a) (g′ b) (same1 a b r) i h) (λ y y′. ret-c tt)),
+                  sameAt-right (like-entries n (element (f a)) (element (f′ b))) (λ x x′ t.
+                  sameAt-map _ _ (silent-entries n (element (g a)) (element (g′ b)) (same-element (same1 a b r) n) i h)),
             ));
-        fresh = go;
+        fresh = fresh;
       }
     where
-      go : (c : Bool) → (e : Bool)
-          × ((a : A) (b : B) → R e a b → Coupled (SameShare c) (n * 1 + n * 1) (enterBoth n (f a) (g a)) (enterBoth n (f′ b) (g′ b)))
-      go false = (false, λ a b r. both-c a b (λ x x′ y y′ o u. record { same = outcomes-same o (same0 a b r) }))
-      go true = (true, λ a b r. both-c a b (λ x x′ y y′ o u. record { same = outcomes-same u (same1 a b r) }))
+      fresh : (c : Bool) → (e : Bool)
+          × ((a : A) (b : B) → R e a b
+          → Coupled (SameShare c) (n * 1 + n * 1) (enterBoth n (f a) (g a)) (enterBoth n (f′ b) (g′ b)))
+      fresh false = (false, λ a b r. coupled-both a b (λ x x′ y y′ o u. record { same = outcomes-same o (same0 a b r) }))
+      fresh true = (true, λ a b r. coupled-both a b (λ x x′ y y′ o u. record { same = outcomes-same u (same1 a b r) }))

@@ -79,7 +79,8 @@ moves h =
     }
 
 -- what comes in, read otherwise
-pub comap : {A B C D E F G H K : Type 0} {R : E → A → B → Type 0} {S : F → C → D → Type 0} {m : ℕ} {f : A → Prog C} {f′ : B → Prog D}
+pub comap : {A B C D E F G H K : Type 0} {R : E → A → B → Type 0} {S : F → C → D → Type 0} {m : ℕ}
+    {f : A → Prog C} {f′ : B → Prog D}
     (Q : K → G → H → Type 0) (g : G → A) (g′ : H → B) (k : E → K)
     → ((e : E) (a : G) (b : H) → Q (k e) a b → R e (g a) (g′ b)) → Stage R S m f f′
     → Stage Q S m (λ a. f (g a)) (λ b. f′ (g′ b))
