@@ -10,7 +10,8 @@ use Rattle.words.specs.WordLaws.{xor-bits, zero-bits, xor-zero, zero-xor, xor-c
 use Rattle.worksheet.specs.declared.Shares.{Shares}
 use Rattle.worksheet.specs.Prog.{_>>=_}
 use Rattle.worksheet.specs.Couple.{Coupled, Like, Silent, SameAt, coupled-bind, sameAt-left, sameAt-right}
-use Rattle.worksheet.specs.CoupleLoops.{coupled-times, like-times, sameAt-times, silent-times, coupled-chain, like-chain, sameAt-chain}
+use Rattle.worksheet.specs.CoupleLoops.{coupled-times, like-times, sameAt-times, silent-times}
+use Rattle.worksheet.specs.CoupleLoops.{coupled-chain, like-chain, sameAt-chain}
 use Rattle.worksheet.specs.Places.{cut, turns}
 use Rattle.worksheet.specs.Turns.{Turns}
 use Rattle.worksheet.specs.Sharing.{Apart, apart-cong, apart-xorShares, sharing-bits, none, sharing-none}
@@ -18,8 +19,8 @@ use Rattle.worksheet.specs.Sharing.{keep, share-keep, keep-bits, keep-xor, keep
 use Rattle.gadgets.specs.Adder.{carryStep, at, maskPlanes, carries, sumPlanes, adder}
 use Rattle.gadgets.specs.PlaneSum.{plainCarry, plainSum}
 use Rattle.gadgets.specs.AdderStepsSilence.{like-maskPlane, coupled-maskPlane, silent-maskPlane}
-use Rattle.gadgets.specs.AdderStepsSilence.{sumRead, carryRead, like-carryStep, coupled-carryStep, sameAt-carryStep, bits-carry}
-use Rattle.gadgets.specs.AdderStepsSilence.{sumShares, like-sumPlane, coupled-sumPlane, sameAt-sumPlane}
+use Rattle.gadgets.specs.AdderStepsSilence.{sumRead, carryRead, like-carryStep, coupled-carryStep, sameAt-carryStep}
+use Rattle.gadgets.specs.AdderStepsSilence.{bits-carry, sumShares, like-sumPlane, coupled-sumPlane, sameAt-sumPlane}
 
 abbrev pub adderEntries : ℕ → ℕ
 adderEntries n = n * 1 + (n * 1 + ((n - 1) * 14 + n * 2))
@@ -34,7 +35,8 @@ module _ (n : ℕ) where
   like-sumPlanes : (a b c a′ b′ c′ : List Shares) → Like (n * 2) (sumPlanes n a b c) (sumPlanes n a′ b′ c′)
   like-sumPlanes a b c a′ b′ c′ = like-times n (λ j h. like-sumPlane _ _ _ _ _ _)
 
-  like-rest : (a b a′ b′ : List Shares) → Like ((n - 1) * 14 + n * 2) (carries n a b >>= sumPlanes n a b) (carries n a′ b′ >>= sumPlanes n a′ b′)
+  like-rest : (a b a′ b′ : List Shares)
+      → Like ((n - 1) * 14 + n * 2) (carries n a b >>= sumPlanes n a b) (carries n a′ b′ >>= sumPlanes n a′ b′)
   like-rest a b a′ b′ = coupled-bind (like-carries a b a′ b′) (λ c c′ t. like-sumPlanes a b c a′ b′ c′)
 
   pub like-adder : (x y x′ y′ : ℕ → ℕ) → Like (adderEntries n) (adder n x y) (adder n x′ y′)

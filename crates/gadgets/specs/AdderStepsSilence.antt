@@ -82,7 +82,8 @@ module _ {A B C A′ B′ C′ : ℕ} {a b c a′ b′ c′ : Shares} (sa : Shar
       coupled-xorAnd (omega arith) sa (r .left) (s .left) sa′ (r .right) (s .right) w))
 
   pub sameAt-carryStep : (i : ℕ) → i < 14 → share (sumRead i) (xorShares a b) ≡ share (sumRead i) (xorShares a′ b′)
-      → share (carryRead i) (xorShares a c) ≡ share (carryRead i) (xorShares a′ c′) → SameAt i (carryStep a b c) (carryStep a′ b′ c′)
+      → share (carryRead i) (xorShares a c) ≡ share (carryRead i) (xorShares a′ c′)
+      → SameAt i (carryStep a b c) (carryStep a′ b′ c′)
   unfolding carryStep maskedXor entry _>>=_
   sameAt-carryStep zero h p q = here p (enter-c (enter-c (enter-c (like-xorAnd 64 _ _ _ _ _ _))))
   sameAt-carryStep (suc zero) h p q = there (here p (enter-c (enter-c (like-xorAnd 64 _ _ _ _ _ _))))

@@ -1,4 +1,5 @@
--- Couplings of bit to coefficient: every entry can be made equal, whatever the bits are, and the result set apart by any difference.
+-- Couplings of bit to coefficient: every entry can be made equal, whatever the bits are, and the result set apart by any
+-- difference.
 use Prim.Native.Nat.{ℕ, zero, suc, _+_, _-_, _*_, _%_, _<_}
 use mathlib.Core.Path.{_≡_, refl, sym, ap, _∙_, subst}
 use mathlib.Core.Bool.{Bool, true, false, cond}

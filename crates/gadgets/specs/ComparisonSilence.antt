@@ -87,11 +87,13 @@ allZero-stage n pos =
     (andThen (halves-stage 6 (omega arith))
     (comap (KeptHalves 0) (λ b. b) (λ b. b) (λ q. (q, q)) (λ q b b′ k. k) (maskedNot-stage 1)))
 
--- n words and n public words compared
-pub comparison-stage : (n : ℕ) (c : ℕ → ℕ) → 1 < n → ((j : ℕ) → Bits 64 (c j))
-    → Stage (KeptWords n) (Kept 1) (n * 1 + allZeroEntries (n - 1)) (λ w. addPublic n c w >>= λ d. allZero (n - 1) (λ j. getD d j none))
-    (λ w. addPublic n c w >>= λ d. allZero (n - 1) (λ j. getD d j none))
-comparison-stage n c pos bits =
+-- n words compared with n public words
+abbrev pub compare : ℕ → (ℕ → ℕ) → (ℕ → Shares) → Prog Shares
+compare n c w = addPublic n c w >>= λ d. allZero (n - 1) (λ j. getD d j none)
+
+pub compare-stage : (n : ℕ) (c : ℕ → ℕ) → 1 < n → ((j : ℕ) → Bits 64 (c j))
+    → Stage (KeptWords n) (Kept 1) (n * 1 + allZeroEntries (n - 1)) (compare n c) (compare n c)
+compare-stage n c pos bits =
     andThen (addPublic-stage n c bits)
     (comap (KeptList n) _ _ (λ e. e) (λ e d d′ r. record { at = λ j h. r .at none none j (omega arith) })
     (allZero-stage (n - 1) (omega arith)))

@@ -45,7 +45,9 @@ module _ (d : ℕ) (v w v′ w′ : ℕ → ℕ) where
   coupled-topPlanes : (c : ℕ → Bool) → Coupled (KeptList d c) (adderEntries (d + 13)) (topPlanes d v w) (topPlanes d v′ w′)
   coupled-topPlanes c =
       coupled-map _ _
-      (λ s s′ r. turns-weaken (λ j h z z′ a. subst (λ (k : ℕ). Kept 64 (c k) z z′) (omega arith) (chosen (c (13 + j - 13)) a)) (turns-drop 13 r))
+      (λ s s′ r.
+      turns-weaken (λ j h z z′ a. subst (λ (k : ℕ). Kept 64 (c k) z z′) (omega arith) (chosen (c (13 + j - 13)) a))
+      (turns-drop 13 r))
       (coupled-adder (d + 13) (plane-bits 64 v) (plane-bits 64 w) (plane-bits 64 v′) (plane-bits 64 w′)
       {d = λ j. keep (c (j - 13)) (plainSum (plane 64 v) (plane 64 w) j) (plainSum (plane 64 v′) (plane 64 w′) j)}
       (λ j. keep-bits (c (j - 13)) (plainSum-bits v w j) (plainSum-bits v′ w′ j)))

@@ -27,8 +27,8 @@ module _ {n : ℕ} {u v u′ v′ : Shares} (h : n ≤ 64) (bu : Both n u u′) 
       (or-bits (sharing-bits (bu .right)) (sharing-bits (bv .right)))
       (λ d w. coupled-maskedOr h (bu .left) (bv .left) (bu .right) (bv .right) w)
 
-pub sameAt-maskedOr-kept : {n i : ℕ} {u v u′ v′ : Shares} → n ≤ 64 → i < 11 → Kept n (orReadsLeft i) u u′ → Kept n (orReadsRight i) v v′
-    → SameAt i (maskedOr n u v) (maskedOr n u′ v′)
+pub sameAt-maskedOr-kept : {n i : ℕ} {u v u′ v′ : Shares} → n ≤ 64 → i < 11 → Kept n (orReadsLeft i) u u′
+    → Kept n (orReadsRight i) v v′ → SameAt i (maskedOr n u v) (maskedOr n u′ v′)
 sameAt-maskedOr-kept {i = i} h g ku kv =
     sameAt-maskedOr h (ku .both .left) (kv .both .left) (ku .both .right) (kv .both .right) i g (ku .same) (kv .same)
 

@@ -114,7 +114,8 @@ pub halves-stage : (n : ℕ) → n ≤ 6 → Stage (KeptHalves n) (KeptHalves 0)
 unfolding halves
 halves-stage n le = rw (sub-self n, sub-zero n) at (loop-stage {R = λ j. KeptHalves (n - j)} n turn)
   where
-    turn : (j : ℕ) → j < n → Stage (KeptHalves (n - j)) (KeptHalves (n - suc j)) 11 (halve (2 ^ (n - 1 - j))) (halve (2 ^ (n - 1 - j)))
+    turn : (j : ℕ) → j < n
+        → Stage (KeptHalves (n - j)) (KeptHalves (n - suc j)) 11 (halve (2 ^ (n - 1 - j))) (halve (2 ^ (n - 1 - j)))
     turn j h =
         let a : n - j ≡ suc (n - 1 - j) = omega arith in
         let b : n - suc j ≡ n - 1 - j = omega arith in

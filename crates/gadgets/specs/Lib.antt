@@ -8,6 +8,7 @@ pub mod CompressionLaws
 pub mod Coefficient
 pub mod CoefficientSilence
 pub mod SamplerSilence
+pub mod PolynomialSilence
 pub mod Comparison
 pub mod AdderStepsSilence
 pub mod AdderSilence

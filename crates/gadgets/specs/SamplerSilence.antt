@@ -15,7 +15,8 @@ use Rattle.worksheet.specs.CoupleLoops.{coupled-loop, like-loop, silent-loop, c
 use Rattle.worksheet.specs.Places.{cut}
 use Rattle.worksheet.specs.Turns.{Turns}
 use Rattle.worksheet.specs.Sharing.{shares, share, none}
-use Rattle.worksheet.specs.CoeffSharing.{CoeffApart, coeffKeep, coeffKeep-lt, share-coeffKeep, coeffApart-cong, coeffApart-addShares}
+use Rattle.worksheet.specs.CoeffSharing.{CoeffApart, coeffApart-cong, coeffApart-addShares}
+use Rattle.worksheet.specs.CoeffSharing.{coeffKeep, coeffKeep-lt, share-coeffKeep}
 use Rattle.gadgets.specs.Coefficient.{bitToCoeff, sums, weight, sampler}
 use Rattle.gadgets.specs.CoefficientSilence.{coeffOf, like-bitToCoeff, coupled-bitToCoeff, silent-bitToCoeff}
 

@@ -27,7 +27,8 @@ copies-bits a = let h = a .lt in record { lt = omega arith }
 both-copies : {b b′ : Shares} → Both 1 b b′ → Both 64 (copies b) (copies b′)
 unfolding copies
 both-copies r =
-    both-bits (copies-bits (r .left .bits0)) (copies-bits (r .left .bits1)) (copies-bits (r .right .bits0)) (copies-bits (r .right .bits1))
+    both-bits (copies-bits (r .left .bits0)) (copies-bits (r .left .bits1)) (copies-bits (r .right .bits0))
+    (copies-bits (r .right .bits1))
 
 share-copies : (q : Bool) (b b′ : Shares) → share q b ≡ share q b′ → share q (copies b) ≡ share q (copies b′)
 unfolding copies
