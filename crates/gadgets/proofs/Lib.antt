@@ -1,3 +1,4 @@
 pub mod Strip
 pub mod FixedPoint
 pub mod PlaneTurn
+pub mod SumsZip

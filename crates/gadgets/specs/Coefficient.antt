@@ -1,13 +1,19 @@
 -- Bit to coefficient, and the sampler (document 01, The gadgets).
 use mathlib.Core.Bool.{cond}
+use mathlib.Core.List.{List}
 use Prim.Native.Nat.{ℕ, _+_, _-_, _*_, _%_}
 use lib.Dec.{eqb, ltb}
 use lib.ListN.{getD}
 use Rattle.words.specs.Word.{xor}
+use Rattle.words.specs.Digit.{digit}
 use Rattle.words.specs.Residue.{q}
 use Rattle.worksheet.specs.declared.Shares.{Shares}
 use Rattle.worksheet.specs.Prog.{Prog, coeff, ret, _>>=_, mask, entry, loop, times}
 use Rattle.worksheet.specs.Sharing.{shares, none}
+
+-- bit j of a word in two shares
+abbrev pub bitOf : Shares → ℕ → Shares
+bitOf w j = shares (digit j (w .s0)) (digit j (w .s1))
 
 -- T[i]
 abbrev pub tableValue : ℕ → ℕ → ℕ → ℕ → ℕ
@@ -30,10 +36,14 @@ sums n x = loop n (λ j s. entry ((s + x (j + 1)) % q)) (x 0)
 abbrev pub weight : ℕ → ℕ → ℕ
 weight eta j = cond (ltb j eta) 1 (q - 1)
 
+-- the bits as coefficients
+abbrev pub conversions : ℕ → (ℕ → Shares) → Prog (List Shares)
+conversions eta b = times (2 * eta) (λ j. bitToCoeff (weight eta j) (b j))
+
 -- 2 eta conversions, then the sums of their shares 0, then those of their shares 1
 unfoldable pub sampler : ℕ → (ℕ → Shares) → Prog Shares
 sampler eta b = do
-  z ← times (2 * eta) (λ j. bitToCoeff (weight eta j) (b j))
+  z ← conversions eta b
   s0 ← sums (2 * eta - 1) (λ j. getD z j none .s0)
   s1 ← sums (2 * eta - 1) (λ j. getD z j none .s1)
   ret (shares s0 s1)

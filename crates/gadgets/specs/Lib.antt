@@ -6,6 +6,7 @@ pub mod AdderSilence
 pub mod Compression
 pub mod CompressionLaws
 pub mod Coefficient
+pub mod SamplerLaws
 pub mod CoefficientSilence
 pub mod SamplerSilence
 pub mod PolynomialSilence

@@ -1,9 +1,9 @@
-// Bits in two shares to coefficients in two shares, and the sampler.
+// A bit in two shares becomes a coefficient in two shares.
 ghost use mathlib.Core.Bool.{cond};
 ghost use mathlib.Core.Path.{_≡_};
 ghost use Prim.Native.Nat.{_+_, _*_, _-_, _%_, _<_};
 ghost use lib.Dec.{eqb};
-ghost use Rattle.gadgets.specs.Coefficient.{tableValue, bitToCoeff};
+ghost use Rattle.gadgets.specs.Coefficient.{bitOf, tableValue, bitToCoeff};
 ghost use Rattle.words.specs.Residue.{q};
 ghost use Rattle.worksheet.specs.Prog.{coeff, entry};
 ghost use Rattle.worksheet.specs.Ran.{Makes, MakesWith};
@@ -20,6 +20,17 @@ pub struct EnteredCoeffs {
     pub s0: u16,
     pub s1: u16,
     pub rec: Recorder,
+}
+
+// Bit j of both shares.
+pub fn bit_of(w: Shares, j: usize) -> Shares
+    requires { ⌜ j < 64 ⌝ }
+    ensures { λ r. ⌜ (r ≡ bitOf w j) × (r .s0 < 2) × (r .s1 < 2) ⌝ }
+{
+    Shares {
+        s0: (w.s0 >> j) % 2,
+        s1: (w.s1 >> j) % 2,
+    }
 }
 
 fn enter_coeff(rec: Recorder, v: u16) -> EnteredCoeff
@@ -62,7 +73,7 @@ fn enter_negated(rec: Recorder, r: u16) -> EnteredCoeff
     enter_reduced(rec, 3329 - (r as u32))
 }
 
-fn enter_sum(rec: Recorder, x: u16, y: u16) -> EnteredCoeff
+pub fn enter_sum(rec: Recorder, x: u16, y: u16) -> EnteredCoeff
     ensures { λ r. ⌜ Makes (entry ((x + y) % q)) rec (r .value) (r .rec) ⌝ }
 {
     enter_reduced(rec, (x as u32) + (y as u32))

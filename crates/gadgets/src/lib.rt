@@ -2,3 +2,4 @@
 pub mod adder; // the adder on bit planes
 pub mod compression; // fixed point and masked compression
 pub mod coefficient; // bit to coefficient
+pub mod sampler; // the binomial distribution
