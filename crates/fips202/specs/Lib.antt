@@ -2,7 +2,6 @@ pub mod Sponge
 pub mod Calls
 pub mod MaskedSponge
 pub mod Padding
-pub mod MaskedSponge
 pub mod MaskedSpongeUses
 pub mod MaskedBlocksSilence
 pub mod MaskedSpongeSilence

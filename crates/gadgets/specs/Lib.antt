@@ -12,12 +12,8 @@ pub mod SamplerSilence
 pub mod PolynomialSilence
 pub mod Comparison
 pub mod AdderStepsSilence
-pub mod AdderSilence
 pub mod CompressionSilence
 pub mod FoldSilence
 pub mod HalvesSilence
 pub mod ComparisonSilence
 pub mod SelectionSilence
-pub mod Stored
-pub mod PlaneSum
-pub mod AdderLaws

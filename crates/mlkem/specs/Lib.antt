@@ -5,3 +5,4 @@ pub mod MlKem
 pub mod Refusals
 pub mod Calls
 pub mod Worksheet
+pub mod Split

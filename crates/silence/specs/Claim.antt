@@ -1,0 +1,24 @@
+-- Demand 3, in document 01's words ("Demand 3 is one claim about this worksheet from its first step to its last").
+use mathlib.Core.List.{List}
+use Prim.Native.Nat.{ℕ, _*_, _^_}
+use lib.ListN.{replicate}
+use Rattle.words.specs.Residue.{q}
+use Rattle.worksheet.specs.Run.{run}
+use Rattle.worksheet.specs.Sum.{when}
+use Rattle.worksheet.specs.Count.{tally, strips, hit}
+use Rattle.mlkem.specs.Parameters.{mlKem768}
+use Rattle.mlkem.specs.MlKem.{publicPart}
+use Rattle.mlkem.specs.Calls.{matrixFull, rhoOf}
+use Rattle.mlkem.specs.Worksheet.{worksheet}
+use Rattle.mlkem.specs.Split.{split}
+
+-- 1 where the worksheet for this split, ciphertext and strip has v as entry t, else 0
+abbrev pub gives : List ℕ → List ℕ → ℕ → ℕ → List ℕ → List ℕ → List ℕ → List ℕ → ℕ
+gives dk c t v a w ws cs = hit t v (run (worksheet mlKem768 (split mlKem768 dk a w) c) ws cs .entries)
+
+-- How many choices give v at step t under the key dk and the ciphertext c. A choice is 768 first coefficients below q, four
+-- first words, and a strip of 11,750 words and 7,424 coefficients below q; where a matrix stream runs dry there is none.
+unfoldable pub choices : List ℕ → List ℕ → ℕ → ℕ → ℕ
+choices dk c t v =
+    when (matrixFull mlKem768 (rhoOf mlKem768 (publicPart mlKem768 dk)))
+    (tally (replicate 768 q) (λ a. tally (replicate 4 (2 ^ 64)) (λ w. strips 11750 7424 (λ ws cs. gives dk c t v a w ws cs))))

@@ -1,0 +1,1 @@
+// Demand 3, in specs/. There is no code here.
