@@ -55,7 +55,7 @@ like-carryStep a b c a′ b′ c′ =
     coupled-bind (like-maskedXor a b a′ b′) (λ x x′ r.
     coupled-bind (like-maskedXor a c a′ c′) (λ y y′ s. like-xorAnd 64 a x y a′ x′ y′))
 
--- the share of a xor b that entry i reads, and the share of a xor carry
+-- the share of a xor b that entry i reads, and the share of a xor carry; share 0 where it reads none
 abbrev pub sumRead : ℕ → Bool
 sumRead zero = false
 sumRead (suc zero) = true

@@ -41,7 +41,7 @@ like-select : (b x y b′ x′ y′ : Shares) → Like 12 (select b x y) (select
 unfolding select
 like-select b x y b′ x′ y′ = coupled-bind (like-maskedXor x y x′ y′) (λ d d′ r. like-xorAnd 64 y (copies b) d y′ (copies b′) d′)
 
--- the share of the bit that entry i reads, and the share of the words
+-- the share of the bit that entry i reads, or share 0 where it reads none, and the share of the words
 abbrev pub bitRead : ℕ → Bool
 bitRead zero = false
 bitRead (suc zero) = false
