@@ -1,6 +1,5 @@
 pub mod Sponge
 pub mod Calls
-pub mod MaskedSponge
 pub mod Padding
 pub mod MaskedSpongeUses
 pub mod MaskedBlocksSilence

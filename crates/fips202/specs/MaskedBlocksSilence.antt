@@ -19,10 +19,10 @@ use Rattle.worksheet.specs.CoupleLoops.{like-loop, coupled-times, like-times, s
 use Rattle.worksheet.specs.Matching.{byXor}
 use Rattle.worksheet.specs.Places.{turns}
 use Rattle.worksheet.specs.Stage.{EqualAt, Stage, andThen, loop-stage}
-use Rattle.worksheet.specs.Sharing.{shares, none, joined, share, sharing-joined, sharing-bits, Apart, apart-xor, apart-cong, share-keep}
+use Rattle.worksheet.specs.Sharing.{shares, none, joined, sharing-bits, Apart, apart-xor, apart-cong, share-keep}
 use Rattle.worksheet.specs.Sharing.{xorShares, apart-xorShares}
 use Rattle.worksheet.specs.SharedList.{SharedList, sharedAt, unzip, sharedAt-unzip}
-use Rattle.worksheet.specs.Choice.{Both}
+use Rattle.worksheet.specs.Choice.{Both, both-bits}
 use Rattle.worksheet.specs.Gates.{maskedXor}
 use Rattle.worksheet.specs.GatesSilence.{like-maskedXor, sameAt-maskedXor}
 use Rattle.masked_keccak.specs.MaskedKeccak.{maskedKeccakP}
@@ -107,7 +107,7 @@ both-lane {n} {b} {b′} k j = go (ltb j n) refl
   where
     go : (c : Bool) → ltb j n ≡ c → Both 64 (cond c (b j) none) (cond c (b′ j) none)
     go true e = k .at j (ltb-true j n e)
-    go false e = record { left = sharing-joined zero-bits zero-bits; right = sharing-joined zero-bits zero-bits }
+    go false e = both-bits zero-bits zero-bits zero-bits zero-bits
 
 module _ {n : ℕ} {b b′ : ℕ → Shares} (k : BlockBoth n b b′) where
   -- the joined lanes X after the block

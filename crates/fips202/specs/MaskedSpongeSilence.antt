@@ -9,15 +9,15 @@ use lib.ListN.{length, getD, take, drop, replicate, length-take}
 use Rattle.words.specs.Bounded.{Below, below-nil, below-cons, below-append, below-zeros, below-drop, below-take}
 use Rattle.words.specs.Numeral.{value-lt}
 use Rattle.words.specs.Word.{Bits}
-use Rattle.worksheet.specs.Prog.{entry}
-use Rattle.worksheet.specs.Couple.{coupled-map, sameAt-map}
+use Rattle.worksheet.specs.declared.Shares.{Shares}
+use Rattle.worksheet.specs.Prog.{Prog}
+use Rattle.worksheet.specs.Couple.{Any, coupled-map, sameAt-map}
 use Rattle.worksheet.specs.CoupleLoops.{AllKeep, coupled-chain, like-chain, sameAt-chain}
 use Rattle.worksheet.specs.Places.{turns}
 use Rattle.worksheet.specs.Turns.{Turns}
 use Rattle.worksheet.specs.Stage.{EqualAt, Stage, andThen}
-use Rattle.worksheet.specs.Sharing.{shares, share, sharing-joined}
 use Rattle.worksheet.specs.SharedList.{SharedList, sharedAt, sharedAt-unzip}
-use Rattle.worksheet.specs.Choice.{Kept}
+use Rattle.worksheet.specs.Choice.{Kept, KeptShared, both-bits}
 use Rattle.masked_keccak.specs.MaskedKeccak.{maskedKeccakP}
 use Rattle.masked_keccak.specs.Lanes.{Differences, LanesApart, keepLanes, kept-lane, lanes-both}
 use Rattle.masked_keccak.specs.Silence.{maskedKeccakP-stage, coupled-maskedKeccakP}
@@ -26,10 +26,6 @@ use Rattle.fips202.specs.MaskedSponge.{sharedBlock, maskedAbsorb, masked
 use Rattle.fips202.specs.MaskedBlocksSilence.{BlocksBoth, maskedBlocks-stage}
 
 -- ---- n words of output
-
--- for the choice c of a share for each of n words: these are equal
-pub record WordsKept (n : ℕ) (c : ℕ → Bool) (o o′ : SharedList) : Type 0 where
-  pub at : (i : ℕ) → i < n → Kept 64 (c i) (sharedAt o i) (sharedAt o′ i)
 
 -- word i is lane i % lanes of state i / lanes
 module _ (lanes n : ℕ) (l : 0 < lanes) (u : lanes ≤ 25) where
@@ -56,7 +52,7 @@ module _ (lanes n : ℕ) (l : 0 < lanes) (u : lanes ≤ 25) where
       rw (← ap c (div-add-mod' i lanes))
       (kept-lane (λ j. c (i / lanes * lanes + j)) (r .at s s′ (i / lanes) (state-lt i h)) (i % lanes) (omega (arith, mod-lt i l)))
 
-  pub maskedSqueeze-stage : Stage LanesApart (WordsKept n) (permutes * 7824) (maskedSqueeze lanes n) (maskedSqueeze lanes n)
+  pub maskedSqueeze-stage : Stage LanesApart (KeptShared n) (permutes * 7824) (maskedSqueeze lanes n) (maskedSqueeze lanes n)
   unfolding maskedSqueeze
   maskedSqueeze-stage =
       record {
@@ -99,45 +95,47 @@ laneOf-bits {p} j b =
           (pow-le-pow-right (omega arith) {j = 8} (omega (arith, length-take 8 (drop (8 * j) p))));
     }
 
-module _ {A B : Type 0} (f : A → SharedList) (f′ : B → SharedList) where
-  -- the inputs f and f′, of bytes in both shares; there is no choice
-  pub record BytesBoth (e : Unit {0}) (a : A) (b : B) : Type 0 where
-    pub left0 : Below 256 (f a .s0)
-    pub left1 : Below 256 (f a .s1)
-    pub right0 : Below 256 (f′ b .s0)
-    pub right1 : Below 256 (f′ b .s1)
+-- two strings of bytes, one for each share; the first has the length len
+pub record SharedBytes (len : ℕ) : Type 0 where
+  pub in0 : List ℕ
+  pub in1 : List ℕ
+  pub long : length in0 ≡ len
+  pub below0 : Below 256 in0
+  pub below1 : Below 256 in1
 
-  -- all of one length
-  module _ {rate suffix len : ℕ} (e : (a : A) → length (f a .s0) ≡ len) (e′ : (b : B) → length (f′ b .s0) ≡ len)
-      (h : suffix < 128) (l : 8 ≤ rate) (u : rate ≤ 200) where
-    both-blocks : {c : Unit {0}} {a : A} {b : B} → BytesBoth c a b → {d : Unit {0}}
-        → BlocksBoth (rate / 8) (len / rate + 1) d (sharedBlock rate (padded rate suffix (f a .s0)) (f a .s1))
-        (sharedBlock rate (padded rate suffix (f′ b .s0)) (f′ b .s1))
-    both-blocks r =
-        record {
-          at = λ i k j g.
-              record {
-                left = sharing-joined (laneOf-bits j (part i (below-padded rate h (r .left0)))) (laneOf-bits j (part i (r .left1)));
-                right = sharing-joined (laneOf-bits j (part i (below-padded rate h (r .right0)))) (laneOf-bits j (part i (r .right1)));
-              };
-        }
-      where
-        part : {p : List ℕ} (i : ℕ) → Below 256 p → Below 256 (take rate (drop (i * rate) p))
-        part i b = below-take rate (below-drop (i * rate) b)
+module _ (rate suffix len : ℕ) (h : suffix < 128) (l : 8 ≤ rate) (u : rate ≤ 200) where
+  abbrev absorb : SharedBytes len → Prog SharedList
+  absorb a = maskedAbsorb rate suffix (a .in0) (a .in1)
 
-    maskedAbsorb-stage : Stage BytesBoth LanesApart ((len / rate + 1) * (rate / 8 * 2 + 7824))
-        (λ a. maskedAbsorb rate suffix (f a .s0) (f a .s1)) (λ b. maskedAbsorb rate suffix (f′ b .s0) (f′ b .s1))
-    unfolding maskedAbsorb
-    maskedAbsorb-stage =
-        let s = maskedBlocks-stage (rate / 8) (len / rate + 1) (omega arith) in
-        record {
-          like = λ a b. rw (e a, e′ b) (s .like _ _);
-          entry = λ i k. (tt, λ a b r. rw (e a, e′ b) (s .entry i k .1 _ _ (both-blocks r)));
-          fresh = λ d. (tt, λ a b r. rw (e a, e′ b) (s .fresh d .1 _ _ (both-blocks r)));
-        }
+  blocksOf : SharedBytes len → ℕ → ℕ → Shares
+  blocksOf a = sharedBlock rate (padded rate suffix (a .in0)) (a .in1)
 
-    pub maskedSponge-stage : (n : ℕ)
-        → Stage BytesBoth (WordsKept n) ((len / rate + 1) * (rate / 8 * 2 + 7824) + (n - 1) / (rate / 8) * 7824)
-        (λ a. maskedSponge rate suffix (f a .s0) (f a .s1) n) (λ b. maskedSponge rate suffix (f′ b .s0) (f′ b .s1) n)
-    unfolding maskedSponge
-    maskedSponge-stage n = andThen maskedAbsorb-stage (maskedSqueeze-stage (rate / 8) n (omega arith) (omega arith))
+  both-blocks : (a b : SharedBytes len) {e : Unit {0}} → BlocksBoth (rate / 8) (len / rate + 1) e (blocksOf a) (blocksOf b)
+  unfolding blocksOf
+  both-blocks a b =
+      record {
+        at = λ i k j g.
+            both-bits (lane i j (below-padded rate h (a .below0))) (lane i j (a .below1))
+            (lane i j (below-padded rate h (b .below0))) (lane i j (b .below1));
+      }
+    where
+      lane : {p : List ℕ} (i j : ℕ) → Below 256 p → Bits 64 (laneOf (take rate (drop (i * rate) p)) j)
+      lane i j b = laneOf-bits j (below-take rate (below-drop (i * rate) b))
+
+  maskedAbsorb-stage : Stage (λ (e : Unit {0}). Any) LanesApart ((len / rate + 1) * (rate / 8 * 2 + 7824)) absorb absorb
+  unfolding maskedAbsorb blocksOf
+  maskedAbsorb-stage =
+      let s = maskedBlocks-stage (rate / 8) (len / rate + 1) (omega arith) in
+      record {
+        like = λ a b. rw (a .long, b .long) (s .like (blocksOf a) (blocksOf b));
+        entry = λ i k. (tt, λ a b r. rw (a .long, b .long) (s .entry i k .1 (blocksOf a) (blocksOf b) (both-blocks a b)));
+        fresh = λ d. (tt, λ a b r. rw (a .long, b .long) (s .fresh d .1 (blocksOf a) (blocksOf b) (both-blocks a b)));
+      }
+
+  -- nothing is asked of the inputs; n words come out
+  pub maskedSponge-stage : (n : ℕ)
+      → Stage (λ (e : Unit {0}). Any) (KeptShared n) ((len / rate + 1) * (rate / 8 * 2 + 7824) + (n - 1) / (rate / 8) * 7824)
+      (λ (a : SharedBytes len). maskedSponge rate suffix (a .in0) (a .in1) n)
+      (λ (b : SharedBytes len). maskedSponge rate suffix (b .in0) (b .in1) n)
+  unfolding maskedSponge
+  maskedSponge-stage n = andThen maskedAbsorb-stage (maskedSqueeze-stage (rate / 8) n (omega arith) (omega arith))

@@ -52,6 +52,9 @@ coupled-way s a b c = coupled-weaken (λ z z′ r. s .holds r) (c _ (s .bits a b
 pub record KeptWords (n : ℕ) (c : ℕ → Bool) (w w′ : ℕ → Shares) : Type 0 where
   pub at : (j : ℕ) → j < n → Kept 64 (c j) (w j) (w′ j)
 
+abbrev pub KeptShared : ℕ → (ℕ → Bool) → SharedList → SharedList → Type 0
+KeptShared n c s s′ = KeptWords n c (sharedAt s) (sharedAt s′)
+
 -- n words in a list
 abbrev pub KeptList : ℕ → (ℕ → Bool) → List Shares → List Shares → Type 0
 KeptList n c = Turns (λ j. Kept 64 (c j)) n
