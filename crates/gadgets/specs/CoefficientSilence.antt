@@ -14,18 +14,8 @@ use Rattle.worksheet.specs.Couple.{Coupled, ret-c, draw-c, enter-c, coupled-wea
 use Rattle.worksheet.specs.Matching.{identity, byAdding}
 use Rattle.worksheet.specs.Sharing.{shares, share}
 use Rattle.worksheet.specs.CoeffSharing.{CoeffSharing, CoeffApart, coeffKeep, share-coeffKeep}
-use Rattle.gadgets.specs.Coefficient.{bitToCoeff, tableValue}
-
-mod-q-lt : (x : ℕ) → x % q < q
-mod-q-lt x = mod-lt x (omega arith)
-
--- what the result is a sharing of, modulo q
-unfoldable pub coeffOf : ℕ → Shares → ℕ
-coeffOf w b = cond (eqb (b .s0) 0) (xor 0 (b .s1)) (xor 1 (b .s1)) * w
-
-cond-table : (c : Bool) (u v w r : ℕ) → cond c ((u * w + r) % q) ((v * w + r) % q) ≡ (cond c u v * w + r) % q
-cond-table true u v w r = refl
-cond-table false u v w r = refl
+use Rattle.gadgets.specs.Coefficient.{bitToCoeff}
+use Rattle.gadgets.specs.CoefficientLaws.{mod-q-lt, coeffOf, cond-table, coeffSharing-result}
 
 -- the constant by which masks are matched so that v and v′ masked differ by d
 abbrev constant : ℕ → ℕ → ℕ → ℕ
@@ -54,24 +44,9 @@ add-constant v v′ d r =
 same-masked : (v v′ r : ℕ) → (v + r) % q ≡ (v′ + (r + constant v v′ 0) % q) % q
 same-masked v v′ r = sym (add-constant v v′ 0 r ∙ ap (λ (t : ℕ). t % q) (add-zero ((v + r) % q)) ∙ mod-mod (v + r) q)
 
-sum-masked : (v r : ℕ) → r < q → ((v + r) % q + (q - r) % q) % q ≡ v % q
-sum-masked v r h = omega arith
-
 pub like-bitToCoeff : (w : ℕ) (b b′ : Shares) → Like 4 (bitToCoeff w b) (bitToCoeff w b′)
 unfolding bitToCoeff mask entry _>>=_ identity
 like-bitToCoeff w b b′ = draw-c identity (λ r h. enter-c (enter-c (enter-c (enter-c (ret-c tt)))))
-
-coeffSharing-result : (w : ℕ) (b : Shares) (r : ℕ) → r < q
-    → CoeffSharing q (coeffOf w b % q)
-    (shares (cond (eqb (b .s0) 0) (tableValue 0 (b .s1) w r) (tableValue 1 (b .s1) w r)) ((q - r) % q))
-unfolding coeffOf
-coeffSharing-result w b r h =
-    let e = cond-table (eqb (b .s0) 0) (xor 0 (b .s1)) (xor 1 (b .s1)) w r in
-    record {
-      lt0 = subst (λ (t : ℕ). t < q) (sym e) (mod-q-lt _);
-      lt1 = mod-q-lt _;
-      sums = ap (λ (t : ℕ). (t + (q - r) % q) % q) e ∙ sum-masked _ r h;
-    }
 
 -- the result is fresh
 pub coupled-bitToCoeff : (w : ℕ) (b b′ : Shares) (d : ℕ)

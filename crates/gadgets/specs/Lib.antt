@@ -8,6 +8,7 @@ pub mod Compression
 pub mod CompressionLaws
 pub mod CompressionSilence
 pub mod Coefficient
+pub mod CoefficientLaws
 pub mod SamplerLaws
 pub mod CoefficientSilence
 pub mod SamplerSilence

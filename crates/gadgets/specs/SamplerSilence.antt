@@ -18,14 +18,11 @@ use Rattle.worksheet.specs.Sharing.{shares, share, none}
 use Rattle.worksheet.specs.CoeffSharing.{CoeffApart, coeffApart-cong, coeffApart-addShares}
 use Rattle.worksheet.specs.CoeffSharing.{coeffKeep, coeffKeep-lt, share-coeffKeep}
 use Rattle.gadgets.specs.Coefficient.{bitToCoeff, sums, weight, sampler}
-use Rattle.gadgets.specs.CoefficientSilence.{coeffOf, like-bitToCoeff, coupled-bitToCoeff, silent-bitToCoeff}
+use Rattle.gadgets.specs.CoefficientLaws.{coeffOf}
+use Rattle.gadgets.specs.SamplerLaws.{sumTo}
+use Rattle.gadgets.specs.CoefficientSilence.{like-bitToCoeff, coupled-bitToCoeff, silent-bitToCoeff}
 
 -- ---- sums
-
--- x 0, .., x n added modulo q from the left
-unfoldable pub sumTo : (ℕ → ℕ) → ℕ → ℕ
-sumTo x zero = x 0
-sumTo x (suc n) = (sumTo x n + x (n + 1)) % q
 
 pub record Sums (x x′ : ℕ → ℕ) (n s s′ : ℕ) : Type 0 where
   pub left : s ≡ sumTo x n

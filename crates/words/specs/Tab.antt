@@ -46,11 +46,13 @@ module _ {A : Type 0} where
       (λ i g. let k : i < n = omega arith in h i k ∙ sym (getD-tab n f i d k))
 
   -- n elements from a on
+  pub tab-part : (d : A) (a n : ℕ) (l : List A) → a + n ≤ length l → take n (drop a l) ≡ tab n (λ i. getD l (a + i) d)
+  tab-part d a n l h =
+      tab-of d _ n (length-take n (drop a l) ∙ omega (arith, length-drop a l)) (λ i g. getD-take n (drop a l) i d g ∙ getD-drop a l i d)
+
   pub part-tab : (a n m : ℕ) (f : ℕ → A) → a + n ≤ m → take n (drop a (tab m f)) ≡ tab n (λ i. f (a + i))
   part-tab a n m f h =
-      tab-of (f 0) _ n
-      (length-take n (drop a (tab m f)) ∙ omega (arith, length-drop a (tab m f), length-tab m f))
-      (λ i g. getD-take n (drop a (tab m f)) i (f 0) g ∙ getD-drop a (tab m f) i (f 0) ∙ getD-tab m f (a + i) (f 0) (omega arith))
+      tab-part (f 0) a n (tab m f) (omega (arith, length-tab m f)) ∙ tab-cong n (λ i g. getD-tab m f (a + i) (f 0) (omega arith))
 
 pub map-tab : {A B : Type 0} (g : A → B) (n : ℕ) (f : ℕ → A) → map g (tab n f) ≡ tab n (λ i. g (f i))
 map-tab {A} {B} g n f =
