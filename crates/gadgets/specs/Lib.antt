@@ -9,8 +9,8 @@ pub mod CompressionLaws
 pub mod CompressionSilence
 pub mod Coefficient
 pub mod CoefficientLaws
-pub mod SamplerLaws
 pub mod CoefficientSilence
+pub mod SamplerLaws
 pub mod SamplerSilence
 pub mod PolynomialSilence
 pub mod Comparison
