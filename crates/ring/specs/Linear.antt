@@ -11,7 +11,7 @@ use Rattle.words.specs.Tab.{tab, length-tab, getD-tab, tab-of}
 use Rattle.words.specs.Iterate.{iterate}
 use Rattle.words.specs.Bounded.{Below, below-set, below-tab}
 use Rattle.ring.specs.Polynomial.{minus, add}
-use Rattle.ring.specs.Sum.{length-add, below-add, getD-add, add-swap, add-set}
+use Rattle.ring.specs.Sum.{minus-mod, length-add, below-add, getD-add, add-swap, add-set}
 use Rattle.ring.specs.Transform.{zeta, gamma, butterfly, block, layer, ntt, inverseButterfly, inverseBlock, inverseLayer, inverseNtt, baseCaseMultiply, multiplyNtts}
 
 -- F keeps the length and coefficients below q, and takes a sum to the sum of the results
@@ -131,11 +131,7 @@ minus-twisted z =
     record {
       left = 1;
       right = (q - 1) * z;
-      is = λ x y.
-          add-mod x ((q - 1) * (z * y % q)) q
-          ∙ ap (λ (n : ℕ). (x % q + n) % q) (mul-mod-mod (q - 1) (z * y) q)
-          ∙ sym (add-mod x ((q - 1) * (z * y)) q)
-          ∙ ap (λ (n : ℕ). n % q) (omega arith);
+      is = λ x y. minus-mod x (z * y) ∙ ap (λ (n : ℕ). n % q) (omega arith);
     }
 
 butterfly-linear : {n : ℕ} (z len j : ℕ) → Linear n (butterfly z len j)

@@ -2,15 +2,21 @@
 use mathlib.Core.Path.{_≡_, refl, sym, ap, ap₂, _∙_}
 use mathlib.Core.List.{List}
 use Prim.Native.Nat.{ℕ, _+_, _-_, _*_, _%_, _<_}
-use native.Mathlib.Nat.{mod-lt}
+use native.Mathlib.Nat.{add-mod, mod-lt}
 use native.Mathlib.Decide.{decLt, ℕ-discrete}
 use native.Mathlib.Omega.{arith}
 use lib.ListN.{length, getD, set, length-set, List·getD-eq-default}
 use lib.Seq.{getD-set-same, getD-set-other, ext-getD}
-use Rattle.words.specs.Residue.{q, add-swap-mod}
+use Rattle.words.specs.Residue.{q, mul-mod-mod, add-swap-mod}
 use Rattle.words.specs.Tab.{tab, length-tab, getD-tab, tab-cong, tab-of}
 use Rattle.words.specs.Bounded.{Below, below-tab}
 use Rattle.ring.specs.Polynomial.{minus, add, sub}
+
+pub minus-mod : (x y : ℕ) → minus x (y % q) ≡ minus x y
+minus-mod x y =
+    add-mod x ((q - 1) * (y % q)) q
+    ∙ ap (λ (n : ℕ). (x % q + n) % q) (mul-mod-mod (q - 1) y q)
+    ∙ sym (add-mod x ((q - 1) * y) q)
 
 pub length-add : (f g : List ℕ) → length (add f g) ≡ length f
 unfolding add

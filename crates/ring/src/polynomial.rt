@@ -1,5 +1,6 @@
 // Sums and differences of polynomials, in place.
 use super::residue::difference;
+use super::residue::remainder;
 use super::residue::sum;
 ghost use mathlib.Core.Path.{_≡_};
 ghost use lib.ListN.{length};
@@ -19,6 +20,6 @@ pub fn sub_from(f: &mut [u16], g: &[u16])
     ensures { λ _. ⌜ now (f .exit) ≡ sub (now (f .entry)) (now (g .entry)) ⌝ }
 {
     for i in 0..f.len() {
-        f[i] = difference(f[i], g[i]);
+        f[i] = difference(f[i], remainder(g[i]));
     }
 }

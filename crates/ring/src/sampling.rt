@@ -90,7 +90,7 @@ pub fn sample_ntt(stream: &[u8], f: &mut [u16]) -> Sampled
 
 // the sum of three bits
 fn ones(v: u16) -> u16
-    ensures { λ r. ⌜ r ≡ sum (digits 2 3 v) ⌝ }
+    ensures { λ r. ⌜ (r ≡ sum (digits 2 3 v)) × (r ≤ 3) ⌝ }
 {
     v % 2 + v / 2 % 2 + v / 4 % 2
 }

@@ -2,6 +2,7 @@
 use super::bits::pow2;
 use super::residue::difference;
 use super::residue::product;
+use super::residue::remainder;
 use super::residue::sum;
 use super::tables::ZETAS;
 ghost use mathlib.Core.Path.{_≡_};
@@ -56,7 +57,7 @@ fn inverse_butterfly_at(f: &mut [u16], z: u16, len: usize, j: usize)
     let a = f[j];
     let b = f[j + len];
     f[j] = sum(a, b);
-    f[j + len] = product(z, difference(b, a));
+    f[j + len] = product(z, difference(b, remainder(a)));
 }
 
 fn inverse_block_at(f: &mut [u16], z: u16, len: usize, start: usize)

@@ -1,9 +1,10 @@
-use mathlib.Core.Path.{_≡_, refl, ap, _∙_}
-use Prim.Native.Nat.{ℕ, _≤_, _+_, _-_}
+use mathlib.Core.Path.{_≡_, refl, ap₂, _∙_}
+use Prim.Native.Nat.{_≤_, _-_}
 use native.Mathlib.Omega.{arith}
 use lib.ListN.{length, getD, length-set}
 use Rattle.words.specs.Fill.{Replaced, replaced-start, replaced-turn, replaced-end}
 use Rattle.ring.specs.Polynomial.{minus, sub}
+use Rattle.ring.specs.Sum.{minus-mod}
 use Rattle.ring.proofs.polynomial.sub_from.Statement.{statement}
 use Rattle.ring.proofs.polynomial.sub_from.Tie as tie
 
@@ -16,13 +17,15 @@ abbrev μ-loop : tie.MeasureT-loop
 
 loop-again : tie.Need-loop-again Inv-loop μ-loop
 loop-again c =
-    let s = c .before .before .before .before .before .before .before in
-    let a = c .before .before .before .before .loop in (
+    let a = c .before .before .before .before .before .loop in
+    let y = getD (c .before .before .before .before .before .before .before .before .args .g .now) (a .i) 0 in (
       refl,
       omega arith,
       simp length-set (omega arith),
       replaced-turn (a .inv .3) (omega arith)
-          (c .difference .ensures ∙ ap (λ (x : ℕ). minus x (getD (s .args .g .now) (a .i) 0)) (a .inv .3 .rest (a .i) (omega arith))),
+          (c .difference .ensures
+          ∙ ap₂ minus (a .inv .3 .rest (a .i) (omega arith)) (c .before .remainder .ensures)
+          ∙ minus-mod _ y),
     )
 
 returns : tie.Need-returns Inv-loop μ-loop
@@ -40,6 +43,7 @@ sub-from-spec =
     (λ c. omega arith)
     (λ c. omega arith)
     (λ c. omega arith)
+    (λ c κs. omega arith)
     (λ c κs. omega arith)
     (λ c. omega arith)
     (λ c. omega arith)

@@ -41,11 +41,11 @@ returns c =
     let eta = s .args .eta in
     c .difference .ensures
     ∙ ap₂ minus
-    (c .before .before .before .before .ones .ensures
+    (c .before .before .before .before .ones .ensures .0
     ∙ ap (λ (n : ℕ). sum (digits 2 3 n))
     (c .before .before .before .before .before .low .ensures ∙ ap (λ (n : ℕ). n % 2 ^ eta) (c .before .before .before .before .before .before .wide16 .ensures))
     ∙ sum-digits eta (v % 2 ^ eta) (s .pre .0) (mod-lt v (pow-pos eta)))
-    (c .before .ones2 .ensures
+    (c .before .ones2 .ensures .0
     ∙ ap (λ (n : ℕ). sum (digits 2 3 n)) (upper (c .before .before))
     ∙ sum-digits eta (v / 2 ^ eta) (s .pre .0) (upper-lt v eta (s .pre .1)))
 

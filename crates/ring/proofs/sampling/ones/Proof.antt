@@ -7,7 +7,7 @@ use Rattle.ring.proofs.sampling.ones.Tie as tie
 
 returns : tie.Need-returns
 unfolding sum digits
-returns c = omega arith
+returns c = (omega arith, omega arith)
 
 pub ones-spec : {M : Type 1} → statement M
 ones-spec = tie.close (tie.spec (λ c. search needs) (λ c. search needs) returns)
