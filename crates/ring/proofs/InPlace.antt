@@ -6,7 +6,7 @@ use native.Mathlib.Omega.{arith}
 use lib.ListN.{getD, set}
 use lib.Seq.{getD-set-other}
 use Rattle.words.specs.Residue.{q}
-use Rattle.words.specs.Iterate.{iterate, Reached, reached-start, reached-turn, reached-end}
+use Rattle.words.specs.Iterate.{Reached, reached-start, reached-turn, reached-end}
 use Rattle.ring.specs.Transform.{gamma, baseCaseMultiply, multiplyNtts}
 
 -- i of 128 turns took f₀ to f

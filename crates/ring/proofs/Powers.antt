@@ -2,7 +2,6 @@
 use mathlib.Core.Path.{_≡_}
 use mathlib.Core.List.{List, [], _∷_}
 use Prim.Native.Nat.{ℕ}
-use lib.ListN.{getD}
 use Rattle.words.specs.Tab.{tab}
 use Rattle.words.specs.Table.{table-tab}
 use Rattle.words.specs.Numeral.{value}

@@ -1,20 +1,20 @@
 -- Sampling: what it yields is below q, and the binomial coefficients are made of decoded numbers one by one.
-use mathlib.Core.Path.{_≡_, refl, sym, ap, ap₂, _∙_}
+use mathlib.Core.Path.{_≡_, sym, ap, ap₂, _∙_}
 use mathlib.Core.List.{List, [], _∷_, _++_, append-assoc, map}
 use mathlib.Core.Bool.{Bool, true, false, cond}
-use Prim.Native.Nat.{ℕ, zero, suc, _+_, _-_, _*_, _/_, _%_, _^_, _<_, _≤_}
+use Prim.Native.Nat.{ℕ, zero, suc, _+_, _*_, _/_, _%_, _^_, _<_, _≤_}
 use native.Mathlib.Nat.{mod-lt, mul-le-mul-right}
 use native.Mathlib.Numerals.{add-one}
 use native.Mathlib.Omega.{arith}
 use lib.Dec.{T, ltb, ltb→lt}
-use lib.ListN.{length, getD, take, drop, length-take, length-drop, length-append, length-map, List·getD-map}
+use lib.ListN.{length, take, drop, length-take, length-drop, length-append, length-map, List·getD-map}
 use lib.Seq.{take-at, drop-at, take-add, drop-drop}
 use Rattle.words.specs.Residue.{q}
 use Rattle.words.specs.Tab.{length-tab, tab-of}
 use Rattle.words.specs.Bounded.{Below, below-nil, below-cons, below-append, below-take, below-drop, below-tab}
 use Rattle.words.specs.Numeral.{value, digits, length-digits, digits-split, digits-value}
 use Rattle.ring.specs.Polynomial.{minus}
-use Rattle.ring.specs.Bytes.{bitsOf, numbersOf, byteDecode}
+use Rattle.ring.specs.Bytes.{bitsOf, byteDecode}
 use Rattle.ring.specs.BytesLaws.{length-bitsOf, below-bitsOf, getD-numbersOf, length-byteDecode}
 use Rattle.ring.specs.Sample.{first, second, kept, accepted, sampleNtt, sum, samplePolyCbd}
 

@@ -1,5 +1,5 @@
 -- The laws of sums and differences of polynomials.
-use mathlib.Core.Path.{_≡_, refl, sym, ap, ap₂, _∙_}
+use mathlib.Core.Path.{_≡_, sym, ap, ap₂, _∙_}
 use mathlib.Core.List.{List}
 use Prim.Native.Nat.{ℕ, _+_, _-_, _*_, _%_, _<_}
 use native.Mathlib.Nat.{add-mod, mod-lt}
@@ -8,7 +8,7 @@ use native.Mathlib.Omega.{arith}
 use lib.ListN.{length, getD, set, length-set, List·getD-eq-default}
 use lib.Seq.{getD-set-same, getD-set-other, ext-getD}
 use Rattle.words.specs.Residue.{q, mul-mod-mod, add-swap-mod}
-use Rattle.words.specs.Tab.{tab, length-tab, getD-tab, tab-cong, tab-of}
+use Rattle.words.specs.Tab.{tab, length-tab, getD-tab}
 use Rattle.words.specs.Bounded.{Below, below-tab}
 use Rattle.ring.specs.Polynomial.{minus, add, sub}
 
