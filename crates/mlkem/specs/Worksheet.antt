@@ -7,13 +7,15 @@ use lib.ListN.{getD, length, drop, replicate}
 use Rattle.words.specs.Digit.{digit}
 use Rattle.words.specs.Numeral.{digits}
 use Rattle.words.specs.Plane.{plane}
+use Rattle.words.specs.Tab.{tab}
 use Rattle.ring.specs.Bytes.{byteDecode, byteDecode12}
 use Rattle.ring.specs.Polynomial.{add, sub}
 use Rattle.ring.specs.Transform.{ntt, inverseNtt}
 use Rattle.worksheet.specs.declared.Shares.{Shares}
-use Rattle.worksheet.specs.Prog.{Prog, ret, _>>=_, entry, times}
+use Rattle.worksheet.specs.Prog.{Prog, ret, _>>=_, times}
 use Rattle.worksheet.specs.Sharing.{shares, none}
 use Rattle.worksheet.specs.SharedList.{SharedList, sharedList, sharedAt, unzip}
+use Rattle.worksheet.specs.Pass.{enterBoth}
 use Rattle.fips202.specs.MaskedSponge.{maskedSponge}
 use Rattle.gadgets.specs.Compression.{maskedCompress}
 use Rattle.gadgets.specs.Coefficient.{bitToCoeff, sampler}
@@ -54,6 +56,10 @@ unfoldable pub bytesOf : List ℕ → List ℕ
 bytesOf [] = []
 bytesOf (w ∷ l) = digits 256 8 w ++ bytesOf l
 
+-- the first four words of a list
+abbrev pub four : List ℕ → List ℕ
+four l = tab 4 (λ i. getD l i 0)
+
 -- a list of shared polynomials, one share of it
 abbrev pub first : List SharedList → ℕ → List ℕ
 first l i = getD l i nothing .s0
@@ -67,21 +73,14 @@ bitOf w i = shares (digit (i % 64) (getD (w .s0) (i / 64) 0)) (digit (i % 64) (g
 
 -- ---- parts common to several stages
 
--- the outcome of a pass on each share: its n values are entered, share 0 then share 1
-unfoldable pub enterBoth : ℕ → List ℕ → List ℕ → Prog SharedList
-enterBoth n f0 f1 = do
-  a ← times n (λ i. entry (getD f0 i 0))
-  b ← times n (λ i. entry (getD f1 i 0))
-  ret (sharedList a b)
-
 -- masked compression of a polynomial, group by group: d planes for each of four groups
 unfoldable pub compressPoly : ℕ → SharedList → Prog (List (List Shares))
 compressPoly d f = times 4 (λ g. maskedCompress d (λ i. sharedAt f (64 * g + i)))
 
--- the hash of a shared string of words and a public string
+-- the hash of four shared words and a public string
 unfoldable pub hashShared : ℕ → ℕ → SharedList → List ℕ → ℕ → Prog SharedList
 hashShared rate suffix w public n =
-    maskedSponge rate suffix (bytesOf (w .s0) ++ public) (bytesOf (w .s1) ++ replicate (length public) 0) n
+    maskedSponge rate suffix (bytesOf (four (w .s0)) ++ public) (bytesOf (four (w .s1)) ++ replicate (length public) 0) n
 
 module _ (p : Parameters) where
   -- ---- stage 1: the noisy message; the ciphertext's second part enters share 0
