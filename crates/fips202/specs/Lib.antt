@@ -1,6 +1,7 @@
 pub mod Sponge
-pub mod Calls
 pub mod Padding
+pub mod Calls
+pub mod MaskedSponge
 pub mod MaskedSpongeUses
 pub mod MaskedBlocksSilence
 pub mod MaskedSpongeSilence
