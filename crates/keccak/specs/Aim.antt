@@ -1,13 +1,14 @@
 -- Lanes that theta, rho and pi take to given words at the two lanes that chi reads beside its own.
 use mathlib.Core.Path.{_≡_, refl, ap, ap₂, _∙_}
 use mathlib.Core.Bool.{Bool, true, false, cond, not, _||_, xor as differs}
-use Prim.Native.Nat.{ℕ, _+_, _-_, _*_, _/_, _%_, _<_}
+use Prim.Native.Nat.{ℕ, _+_, _-_, _*_, _%_, _<_}
 use native.Mathlib.Omega.{arith}
 use lib.Dec.{T, eqb}
 use Rattle.words.specs.Word.{Bits, xor, rotl}
 use Rattle.words.specs.WordLaws.{xor-bits, zero-bits, xor-same, xor-zero, zero-xor}
 use Rattle.words.specs.Rotation.{rotl-bits, rotl-rotl, rotl-zero}
 use Rattle.words.specs.Table.{every, every-at}
+use Rattle.keccak.specs.KeccakP.{along}
 use Rattle.keccak.specs.Pass.{passAt, LaneBits, source, turn, turn-le, sum5, pass-even, pass-xor}
 
 -- lane k is the source of lane l, or the next lane of that column
@@ -81,10 +82,6 @@ aim-off l m a h g n =
     ∙ rotl-zero (turn m) (turn-le m g)
 
 -- ---- both lanes at once
-
--- the lane n places along the row of lane i
-abbrev pub along : ℕ → ℕ → ℕ
-along n i = (i % 5 + n) % 5 + 5 * (i / 5)
 
 -- a comes to the next lane after lane i, b to the one after that
 pub aimed : ℕ → ℕ → ℕ → ℕ → ℕ

@@ -16,6 +16,10 @@ lane s x y = getD s (x + 5 * y) 0
 abbrev pub lanes : (ℕ → ℕ → ℕ) → List ℕ
 lanes f = tab 25 (λ i. f (i % 5) (i / 5))
 
+-- the place of the lane n further along the row of the lane at i
+abbrev pub along : ℕ → ℕ → ℕ
+along n i = (i % 5 + n) % 5 + 5 * (i / 5)
+
 -- ---- Algorithm 1, theta
 
 -- C[x]

@@ -16,7 +16,8 @@ use Rattle.worksheet.specs.SharedList.{SharedList, sharedAt}
 use Rattle.worksheet.specs.Gates.{maskedNot}
 use Rattle.worksheet.specs.MaskedAndSilence.{readsLeft, readsRight}
 use Rattle.worksheet.specs.GatesSilence.{like-maskedNot, like-xorAnd, coupled-xorAnd, sameAt-xorAnd}
-use Rattle.masked_keccak.specs.MaskedKeccak.{chiLane, along, chi}
+use Rattle.keccak.specs.KeccakP.{along}
+use Rattle.masked_keccak.specs.MaskedKeccak.{chiLane, chi}
 use Rattle.masked_keccak.specs.Lanes.{LaneSharings}
 
 -- ---- one lane

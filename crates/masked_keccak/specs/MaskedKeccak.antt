@@ -1,9 +1,9 @@
 -- Keccak-p[1600, 24] on two shares of a state, every result entered (document 01, The gadgets: Hash).
 use mathlib.Core.List.{List}
-use Prim.Native.Nat.{ℕ, _+_, _*_, _/_, _%_}
+use Prim.Native.Nat.{ℕ}
 use lib.ListN.{getD, set}
 use Rattle.words.specs.Word.{xor}
-use Rattle.keccak.specs.KeccakP.{theta, rho, pi, constant}
+use Rattle.keccak.specs.KeccakP.{along, theta, rho, pi, constant}
 use Rattle.worksheet.specs.declared.Shares.{Shares}
 use Rattle.worksheet.specs.Prog.{Prog, ret, _>>=_, entry, loop, times}
 use Rattle.worksheet.specs.Sharing.{none}
@@ -21,10 +21,6 @@ chiLane w u v = do
   n ← maskedNot 64 u
   z ← maskedAnd 64 n v
   maskedXor w z
-
--- the lane n places along the row of lane i
-abbrev pub along : ℕ → ℕ → ℕ
-along n i = (i % 5 + n) % 5 + 5 * (i / 5)
 
 -- chi in lane order
 unfoldable pub chi : SharedList → Prog (List Shares)

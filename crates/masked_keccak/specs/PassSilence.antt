@@ -17,7 +17,8 @@ use Rattle.worksheet.specs.Turns.{Turns}
 use Rattle.worksheet.specs.Stage.{EqualAt, Stage}
 use Rattle.worksheet.specs.Sharing.{shares, share, Sharing, Apart, apart-cong, keep, keep-bits, share-keep}
 use Rattle.worksheet.specs.SharedList.{SharedList, sharedList, sharedAt}
-use Rattle.masked_keccak.specs.MaskedKeccak.{pass, along}
+use Rattle.keccak.specs.KeccakP.{along}
+use Rattle.masked_keccak.specs.MaskedKeccak.{pass}
 use Rattle.masked_keccak.specs.Lanes.{LaneSharings, LanesBoth, lane-bits, Differences, LanesApart, keepLanes, kept-lane}
 use Rattle.masked_keccak.specs.Lanes.{lanes-both, difference-bits}
 
