@@ -1,6 +1,5 @@
 -- SampleNTT's loop: numbers are collected in 256 places, and those that find no place are dropped.
 use mathlib.Core.Path.{_≡_, refl, sym, ap, _∙_}
-use mathlib.Core.Bool.{Bool, true, false}
 use mathlib.Core.List.{List, [], _∷_, _++_, append-nil}
 use Prim.Native.Nat.{ℕ, _+_, _<_, _≤_}
 use native.Mathlib.Numerals.{add-one}
@@ -10,13 +9,6 @@ use lib.ListN.{length, take, set, length-set, length-take, length-append}
 use lib.Seq.{take-all, take-suc-set, take-append-le}
 use Rattle.words.specs.Residue.{q}
 use Rattle.ring.specs.Sample.{kept}
-use Rattle.ring.specs.declared.sampling.Sampled.{Sampled}
-use Rattle.ring.specs.declared.sampling.Sampled.the-variants.{Full, Short}
-
--- what sampling answers
-abbrev pub answerOf : Bool → Sampled
-answerOf true = Full
-answerOf false = Short
 
 -- the first k places of f hold the first 256 numbers of l
 pub record Collected (l f : List ℕ) (k : ℕ) : Type 0 where

@@ -6,6 +6,7 @@ pub mod Polynomial
 pub mod Sum
 pub mod Transform
 pub mod Linear
+pub mod MultiplyLaws
 pub mod Sample
 pub mod SampleLaws
 pub mod Collect

@@ -17,7 +17,7 @@ use Rattle.ring.specs.Transform.{zeta, gamma, butterfly, block, layer, n
 -- F keeps the length and coefficients below q, and takes a sum to the sum of the results
 pub record Linear (n : ℕ) (F : List ℕ → List ℕ) : Type 0 where
   pub long : (f : List ℕ) → length f ≡ n → length (F f) ≡ n
-  pub below : (f : List ℕ) → Below q f → Below q (F f)
+  pub below : (f : List ℕ) → length f ≡ n → Below q f → Below q (F f)
   pub adds : (f g : List ℕ) → length f ≡ n → length g ≡ n → F (add f g) ≡ add (F f) (F g)
 
 -- ---- linear combinations of two numbers
@@ -57,13 +57,13 @@ module _ {h : ℕ → ℕ → ℕ} (c : Combination h) where
 -- ---- maps made of linear maps
 
 pub id-linear : {n : ℕ} → Linear n (λ f. f)
-id-linear = record { long = λ f h. h; below = λ f h. h; adds = λ f g h k. refl }
+id-linear = record { long = λ f h. h; below = λ f e h. h; adds = λ f g h k. refl }
 
 pub comp-linear : {n : ℕ} (F G : List ℕ → List ℕ) → Linear n F → Linear n G → Linear n (λ f. F (G f))
 comp-linear F G a b =
     record {
       long = λ f h. a .long (G f) (b .long f h);
-      below = λ f h. a .below (G f) (b .below f h);
+      below = λ f e h. a .below (G f) (b .long f e) (b .below f e h);
       adds = λ f g h k. ap F (b .adds f g h k) ∙ a .adds (G f) (G g) (b .long f h) (b .long g k);
     }
 
@@ -71,7 +71,7 @@ pub add-linear : {n : ℕ} (F G : List ℕ → List ℕ) → Linear n F → Line
 add-linear F G a b =
     record {
       long = λ f h. length-add (F f) (G f) ∙ a .long f h;
-      below = λ f h. below-add (F f) (G f);
+      below = λ f e h. below-add (F f) (G f);
       adds = λ f g h k.
           ap₂ add (a .adds f g h k) (b .adds f g h k)
           ∙ add-swap (F f) (F g) (G f) (G g)
@@ -89,7 +89,7 @@ set-linear : {n : ℕ} (F : List ℕ → List ℕ) {h k : ℕ → ℕ → ℕ} (
 set-linear F {h} {k} i j a b l c d =
     record {
       long = λ f e. simp length-set (l .long f e);
-      below = λ f e. below-set _ j (combination-lt d _ _) (below-set (F f) i (combination-lt c _ _) (l .below f e));
+      below = λ f e h. below-set _ j (combination-lt d _ _) (below-set (F f) i (combination-lt c _ _) (l .below f e h));
       adds = λ f g e e′.
           let w = e ∙ sym e′ in
           let v = l .long f e ∙ sym (l .long g e′) in
@@ -104,7 +104,7 @@ scale-linear : (n z : ℕ) → Linear n (λ f. tab n (λ i. getD f i 0 * z % q))
 scale-linear n z =
     record {
       long = λ f e. length-tab n (scaled f);
-      below = λ f e. below-tab n (omega arith) (λ i h. mod-lt _ (omega arith));
+      below = λ f e h. below-tab n (omega arith) (λ i g. mod-lt _ (omega arith));
       adds = λ f g e e′.
           sym
           (tab-of 0 (add (tab n (scaled f)) (tab n (scaled g))) n (length-add _ _ ∙ length-tab n (scaled f))

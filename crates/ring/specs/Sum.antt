@@ -1,11 +1,11 @@
 -- The laws of sums and differences of polynomials.
-use mathlib.Core.Path.{_≡_, sym, ap, ap₂, _∙_}
+use mathlib.Core.Path.{_≡_, refl, sym, ap, ap₂, _∙_}
 use mathlib.Core.List.{List}
 use Prim.Native.Nat.{ℕ, _+_, _-_, _*_, _%_, _<_}
 use native.Mathlib.Nat.{add-mod, mod-lt}
 use native.Mathlib.Decide.{decLt, ℕ-discrete}
 use native.Mathlib.Omega.{arith}
-use lib.ListN.{length, getD, set, length-set, List·getD-eq-default}
+use lib.ListN.{length, getD, replicate, length-replicate, getD-replicate, set, length-set, List·getD-eq-default}
 use lib.Seq.{getD-set-same, getD-set-other, ext-getD}
 use Rattle.words.specs.Residue.{q, mul-mod-mod, add-swap-mod}
 use Rattle.words.specs.Tab.{tab, length-tab, getD-tab}
@@ -34,18 +34,31 @@ pub below-sub : (f g : List ℕ) → Below q (sub f g)
 unfolding sub
 below-sub f g = below-tab (length f) (omega arith) (λ i h. mod-lt _ (omega arith))
 
-pub getD-add : (f g : List ℕ) (k : ℕ) → length f ≡ length g → getD (add f g) k 0 ≡ (getD f k 0 + getD g k 0) % q
-unfolding add
-getD-add f g k e = go (decLt k (length f))
+-- an operation that takes zeros to zero, coefficient by coefficient
+getD-both : (op : ℕ → ℕ → ℕ) → op 0 0 ≡ 0 → (f g : List ℕ) (k : ℕ) → length f ≡ length g
+    → getD (tab (length f) (λ i. op (getD f i 0) (getD g i 0))) k 0 ≡ op (getD f k 0) (getD g k 0)
+getD-both op z f g k e = go (decLt k (length f))
   where
-    go : Dec (k < length f) → getD (tab (length f) (λ i. (getD f i 0 + getD g i 0) % q)) k 0 ≡ (getD f k 0 + getD g k 0) % q
-    go (yes h) = getD-tab (length f) _ k 0 h
-    go (no h) =
+    h : ℕ → ℕ
+    h i = op (getD f i 0) (getD g i 0)
+
+    go : Dec (k < length f) → getD (tab (length f) h) k 0 ≡ op (getD f k 0) (getD g k 0)
+    go (yes l) = getD-tab (length f) h k 0 l
+    go (no l) =
         rw (
-          List·getD-eq-default (tab (length f) (λ i. (getD f i 0 + getD g i 0) % q)) 0 {n = k} (omega (arith, length-tab (length f) (λ i. (getD f i 0 + getD g i 0) % q))),
+          List·getD-eq-default (tab (length f) h) 0 {n = k} (omega (arith, length-tab (length f) h)),
           List·getD-eq-default f 0 {n = k} (omega arith),
           List·getD-eq-default g 0 {n = k} (omega arith),
         )
+        (sym z)
+
+pub getD-add : (f g : List ℕ) (k : ℕ) → length f ≡ length g → getD (add f g) k 0 ≡ (getD f k 0 + getD g k 0) % q
+unfolding add
+getD-add f g k e = getD-both (λ x y. (x + y) % q) refl f g k e
+
+pub getD-sub : (f g : List ℕ) (k : ℕ) → length f ≡ length g → getD (sub f g) k 0 ≡ minus (getD f k 0) (getD g k 0)
+unfolding sub
+getD-sub f g k e = getD-both minus refl f g k e
 
 -- sums of two, regrouped
 pub add-swap : (a b c d : List ℕ) → length a ≡ length b → length c ≡ length d → length a ≡ length c → add (add a b) (add c d) ≡ add (add a c) (add b d)
@@ -74,3 +87,19 @@ add-set f g i x y e =
     go k h (no p) =
         ap₂ (λ (m n : ℕ). (m + n) % q) (getD-set-other f i k x 0 p) (getD-set-other g i k y 0 p)
         ∙ sym (getD-set-other (add f g) i k ((x + y) % q) 0 p ∙ getD-add f g k e)
+
+-- a sum of two shares is taken away share by share
+pub sub-shares : (f g g′ : List ℕ) → length f ≡ length g → length g ≡ length g′
+    → add (sub f g) (sub (replicate (length f) 0) g′) ≡ sub f (add g g′)
+sub-shares f g g′ e e′ =
+    let z : List ℕ = replicate (length f) 0 in
+    let l : length z ≡ length g′ = length-replicate (length f) 0 ∙ e ∙ e′ in
+    ext-getD 0 _ _ (length-add (sub f g) (sub z g′) ∙ length-sub f g ∙ sym (length-sub f (add g g′)))
+    (λ k h.
+    getD-add (sub f g) (sub z g′) k (length-sub f g ∙ sym (length-sub z g′ ∙ length-replicate (length f) 0))
+    ∙ ap₂ (λ (x y : ℕ). (x + y) % q) (getD-sub f g k e) (getD-sub z g′ k l ∙ ap (λ (x : ℕ). minus x (getD g′ k 0)) (getD-replicate (length f) k 0 0 (omega (arith, length-add (sub f g) (sub z g′), length-sub f g))))
+    ∙ regroup (getD f k 0) (getD g k 0) (getD g′ k 0)
+    ∙ sym (getD-sub f (add g g′) k (e ∙ sym (length-add g g′)) ∙ ap (minus (getD f k 0)) (getD-add g g′ k e′)))
+  where
+    regroup : (x y y′ : ℕ) → (minus x y + minus 0 y′) % q ≡ minus x ((y + y′) % q)
+    regroup x y y′ = sym (add-mod (x + (q - 1) * y) (0 + (q - 1) * y′) q) ∙ ap (λ (n : ℕ). n % q) (omega arith) ∙ sym (minus-mod x (y + y′))

@@ -11,9 +11,9 @@ ghost use Prim.Native.Nat.{ℕ, _+_, _*_, _/_, _%_, _^_, _<_, _≤_};
 ghost use lib.ListN.{length};
 ghost use Rattle.words.specs.Bounded.{Below};
 ghost use Rattle.words.specs.Numeral.{digits};
-ghost use Rattle.ring.specs.Sample.{kept, accepted, full, sampleNtt, sum, samplePolyCbd};
+ghost use Rattle.ring.specs.Sample.{kept, accepted, full, answerOf, sampleNtt, sum, samplePolyCbd};
 ghost use Rattle.ring.specs.SampleLaws.{centred};
-ghost use Rattle.ring.specs.Collect.{Collected, answerOf};
+ghost use Rattle.ring.specs.Collect.{Collected};
 
 pub enum Sampled {
     Full,

@@ -4,8 +4,7 @@ use native.Mathlib.Omega.{arith}
 use borrow.Author.Needs.{needs}
 use borrow.Author.Tests.{le-leb, lt-leb}
 use lib.ListN.{length}
-use Rattle.ring.specs.Sample.{accepted, full, sampleNtt}
-use Rattle.ring.specs.Collect.{answerOf}
+use Rattle.ring.specs.Sample.{accepted, full, answerOf, sampleNtt}
 use Rattle.ring.proofs.sampling.sample_ntt.Statement.{statement}
 use Rattle.ring.proofs.sampling.sample_ntt.Tie as tie
 
