@@ -1,5 +1,5 @@
 -- Sharings that code keeps in two arrays, one for each share.
-use mathlib.Core.Path.{_≡_, refl, ap₂}
+use mathlib.Core.Path.{_≡_, refl, ap, ap₂, _∙_}
 use mathlib.Core.List.{List, [], _∷_, _++_}
 use Prim.Native.Nat.{ℕ, _+_, _<_}
 use native.Mathlib.Numerals.{add-one}
@@ -30,12 +30,21 @@ pub getD-zip : (n : ℕ) (l m : List ℕ) (i : ℕ) (d : Shares) → i < n → g
 unfolding zip
 getD-zip n l m i d h = getD-tab n (sharesAt l m) i d h
 
--- one more is stored
+-- one more
+pub zip-suc : (l m l′ m′ : List ℕ) (i : ℕ) → ((k : ℕ) → k < i → sharesAt l′ m′ k ≡ sharesAt l m k)
+    → zip (i + 1) l′ m′ ≡ zip i l m ++ sharesAt l′ m′ i ∷ []
+unfolding zip tab
+zip-suc l m l′ m′ i e = rw (add-one i) (ap (λ (s : List Shares). s ++ sharesAt l′ m′ i ∷ []) (tab-cong i e))
+
+-- one more is stored, in both arrays or in that of share 0 only
 pub zip-set : (l m : List ℕ) (i : ℕ) (a b : ℕ) → i < length l → i < length m
     → zip (i + 1) (set l i a) (set m i b) ≡ zip i l m ++ shares a b ∷ []
-unfolding zip tab
 zip-set l m i a b h g =
-    rw (add-one i)
-    (ap₂ (λ (s : List Shares) (z : Shares). s ++ z ∷ [])
-    (tab-cong i (λ k q. ap₂ shares (getD-set-other l i k a 0 (omega arith)) (getD-set-other m i k b 0 (omega arith))))
-    (ap₂ shares (getD-set-same l i a 0 h) (getD-set-same m i b 0 g)))
+    zip-suc l m (set l i a) (set m i b) i
+    (λ k f. ap₂ shares (getD-set-other l i k a 0 (omega arith)) (getD-set-other m i k b 0 (omega arith)))
+    ∙ ap (λ (z : Shares). zip i l m ++ z ∷ []) (ap₂ shares (getD-set-same l i a 0 h) (getD-set-same m i b 0 g))
+
+pub zip-set0 : (l m : List ℕ) (i a : ℕ) → i < length l → zip (i + 1) (set l i a) m ≡ zip i l m ++ shares a (getD m i 0) ∷ []
+zip-set0 l m i a h =
+    zip-suc l m (set l i a) m i (λ k f. ap (λ (x : ℕ). shares x (getD m k 0)) (getD-set-other l i k a 0 (omega arith)))
+    ∙ ap (λ (x : ℕ). zip i l m ++ shares x (getD m i 0) ∷ []) (getD-set-same l i a 0 h)

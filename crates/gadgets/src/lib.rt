@@ -3,3 +3,5 @@ pub mod adder; // the adder on bit planes
 pub mod compression; // fixed point and masked compression
 pub mod coefficient; // bit to coefficient
 pub mod sampler; // the binomial distribution
+pub mod comparison; // folding of words to one bit
+pub mod selection; // one of two words by a bit
