@@ -14,48 +14,27 @@ use Rattle.worksheet.specs.Sharing.{shares, Sharing, Apart, apart-cong, keep, k
 use Rattle.worksheet.specs.Choice.{Kept, chosen, Way, keeping}
 use Rattle.worksheet.specs.GatesSilence.{orReadsLeft, orReadsRight, like-maskedOr}
 use Rattle.gadgets.specs.Comparison.{halve, halves}
+use Rattle.gadgets.specs.ComparisonLaws.{lowHalf, highHalf, sharing-lowHalf, sharing-highHalf}
 use Rattle.gadgets.specs.FoldSilence.{coupled-maskedOr-way, sameAt-maskedOr-kept}
 
 -- ---- the halves of a word of h + h bits
 
 module _ (h : ℕ) where
-  abbrev pub lowHalf : Shares → Shares
-  lowHalf z = shares (low h (z .s0)) (low h (z .s1))
-
-  abbrev pub highHalf : Shares → Shares
-  highHalf z = shares (z .s0 / 2 ^ h) (z .s1 / 2 ^ h)
-
-  sharing-lowHalf : {X : ℕ} {z : Shares} → Sharing (h + h) X z → Sharing h (low h X) (lowHalf z)
-  sharing-lowHalf {z = z} s =
-      record {
-        bits0 = low-bits (z .s0);
-        bits1 = low-bits (z .s1);
-        joins = sym (low-xor h (z .s0) (z .s1)) ∙ ap (low h) (s .joins);
-      }
-
-  sharing-highHalf : {X : ℕ} {z : Shares} → Sharing (h + h) X z → Sharing h (X / 2 ^ h) (highHalf z)
-  sharing-highHalf {z = z} s =
-      record {
-        bits0 = high-bits h (s .bits0);
-        bits1 = high-bits h (s .bits1);
-        joins = sym (xor-shift h (z .s0) (z .s1)) ∙ ap (λ (t : ℕ). t / 2 ^ h) (s .joins);
-      }
-
   apart-lowHalf : {d X X′ : ℕ} {z z′ : Shares} → Apart (h + h) d X X′ z z′
-      → Apart h (low h d) (low h X) (low h X′) (lowHalf z) (lowHalf z′)
+      → Apart h (low h d) (low h X) (low h X′) (lowHalf h z) (lowHalf h z′)
   apart-lowHalf {d} {z = z} a =
       record {
-        left = sharing-lowHalf (a .left);
-        right = sharing-lowHalf (a .right);
+        left = sharing-lowHalf h (a .left);
+        right = sharing-lowHalf h (a .right);
         by = ap (low h) (a .by) ∙ low-xor h (z .s0) d;
       }
 
   apart-highHalf : {d X X′ : ℕ} {z z′ : Shares} → Apart (h + h) d X X′ z z′
-      → Apart h (d / 2 ^ h) (X / 2 ^ h) (X′ / 2 ^ h) (highHalf z) (highHalf z′)
+      → Apart h (d / 2 ^ h) (X / 2 ^ h) (X′ / 2 ^ h) (highHalf h z) (highHalf h z′)
   apart-highHalf {d} {z = z} a =
       record {
-        left = sharing-highHalf (a .left);
-        right = sharing-highHalf (a .right);
+        left = sharing-highHalf h (a .left);
+        right = sharing-highHalf h (a .right);
         by = ap (λ (t : ℕ). t / 2 ^ h) (a .by) ∙ xor-shift h (z .s0) d;
       }
 

@@ -14,6 +14,8 @@ pub mod SamplerLaws
 pub mod SamplerSilence
 pub mod PolynomialSilence
 pub mod Comparison
+pub mod ComparisonLaws
+pub mod SelectionLaws
 pub mod FoldSilence
 pub mod HalvesSilence
 pub mod ComparisonSilence

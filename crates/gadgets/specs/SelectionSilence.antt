@@ -18,11 +18,9 @@ use Rattle.worksheet.specs.MaskedAndSilence.{readsLeft, readsRight}
 use Rattle.worksheet.specs.Gates.{maskedXor}
 use Rattle.worksheet.specs.GatesSilence.{like-maskedXor, coupled-maskedXor, like-xorAnd, coupled-xorAnd, sameAt-xorAnd}
 use Rattle.gadgets.specs.Comparison.{copies, select}
+use Rattle.gadgets.specs.SelectionLaws.{copies-bits}
 
 -- ---- 64 copies of a bit
-
-copies-bits : {x : ℕ} → Bits 1 x → Bits 64 (x * (2 ^ 64 - 1))
-copies-bits a = let h = a .lt in record { lt = omega arith }
 
 both-copies : {b b′ : Shares} → Both 1 b b′ → Both 64 (copies b) (copies b′)
 unfolding copies

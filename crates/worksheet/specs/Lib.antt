@@ -22,4 +22,5 @@ pub mod Pass
 pub mod MaskedAnd
 pub mod Gates
 pub mod MaskedAndSilence
+pub mod GatesSharing
 pub mod GatesSilence

@@ -32,7 +32,7 @@ pub like-maskedAnd : (w : ℕ) (u v u′ v′ : Shares) → Like 8 (maskedAnd w 
 unfolding maskedAnd maskLow mask entry _>>=_ identity
 like-maskedAnd w u v u′ v′ = draw-c identity (λ x h. coupled-enterAll (entries _ u v) (entries _ u′ v′) refl (ret-c tt))
 
-sharing-result : {n X Y r : ℕ} {u v : Shares} → Sharing n X u → Sharing n Y v → Bits n r → Sharing n (and X Y) (result r u v)
+pub sharing-result : {n X Y r : ℕ} {u v : Shares} → Sharing n X u → Sharing n Y v → Bits n r → Sharing n (and X Y) (result r u v)
 sharing-result {r = r} {u = u} {v = v} s t b =
     record {
       bits0 = xor-bits (and-bits (s .bits0) (t .bits0)) (xor-bits (and-bits (s .bits0) (t .bits1)) b);
