@@ -1,6 +1,6 @@
 -- Lists whose elements are all below a bound. Past its end a list reads as 0, so the bound is positive.
 use mathlib.Core.Path.{subst}
-use mathlib.Core.List.{List, [], _∷_, _++_}
+use mathlib.Core.List.{List, [], _∷_, _++_, map}
 use Prim.Native.Nat.{ℕ, zero, suc, _+_, _<_}
 use native.Mathlib.Decide.{decLt}
 use native.Mathlib.Omega.{arith}
@@ -60,3 +60,8 @@ module _ {b : ℕ} where
   below-set [] i h g = g
   below-set (x ∷ l) zero h g = below-cons h (below-tail g)
   below-set (x ∷ l) (suc i) h g = below-cons (below-head g) (below-set l i h (below-tail g))
+
+  -- g takes numbers below a to numbers below b
+  pub below-map : {a : ℕ} (g : ℕ → ℕ) → 0 < b → ((x : ℕ) → x < a → g x < b) → (l : List ℕ) → Below a l → Below b (map g l)
+  below-map g p h [] k = below-nil p
+  below-map g p h (x ∷ l) k = below-cons (h x (k .at 0)) (below-map g p h l (record { at = λ i. k .at (suc i) }))
