@@ -2,13 +2,13 @@
 use mathlib.Core.Path.{_≡_, refl, sym, ap, ap₂, _∙_}
 use mathlib.Core.List.{List, [], _∷_, _++_, append-assoc, map}
 use Prim.Native.Nat.{ℕ, zero, suc, _+_, _*_, _%_, _^_, _<_}
-use native.Mathlib.Nat.{mod-eq-of-lt}
+use native.Mathlib.Nat.{mod-eq-of-lt, mod-lt}
 use native.Mathlib.Omega.{arith}
 use lib.Pow.{pow-pos}
-use lib.ListN.{length, getD, take, drop, length-append, length-take, length-drop, take-append-drop}
+use lib.ListN.{length, getD, take, drop, length-append, length-take, length-drop, take-append-drop, length-map}
 use lib.Seq.{take-at, drop-at, drop-drop}
 use Rattle.words.specs.Residue.{q}
-use Rattle.words.specs.Bounded.{Below, below-nil, below-cons, below-head, below-tail, below-append, below-take, below-drop}
+use Rattle.words.specs.Bounded.{Below, below-nil, below-cons, below-head, below-tail, below-append, below-take, below-drop, below-map}
 use Rattle.words.specs.Numeral.{value, digits, length-digits, below-digits, value-digits, digits-value, value-lt}
 use Rattle.ring.specs.Bytes.{bitsOf, numbersOf, byteEncode, byteDecode, byteDecode12}
 
@@ -102,6 +102,15 @@ byteEncode-byteDecode d b e h =
     ∙ numbersOf-bitsOf 8 b h
 
 -- ---- ByteDecode_12
+
+pub length-byteDecode12 : (b : List ℕ) → length (byteDecode12 b) ≡ 256
+unfolding byteDecode12
+length-byteDecode12 b = length-map (byteDecode 12 b) (λ x. x % q) ∙ length-byteDecode 12 b
+
+pub below-byteDecode12 : (b : List ℕ) → length b ≡ 384 → Below q (byteDecode12 b)
+unfolding byteDecode12
+below-byteDecode12 b e =
+    below-map (λ x. x % q) (omega arith) (λ x l. mod-lt x (omega arith)) (byteDecode 12 b) (below-byteDecode 12 b e)
 
 -- numbers below q are left as they are
 mod-of-below : (l : List ℕ) → Below q l → map (λ x. x % q) l ≡ l

@@ -1,15 +1,20 @@
 -- Compression: its range, from two shares, and after decompression.
 use mathlib.Core.Path.{_≡_, ap, _∙_}
+use mathlib.Core.List.{List, map}
 use Prim.Native.Nat.{ℕ, _+_, _*_, _/_, _%_, _^_, _<_, _≤_}
 use native.Mathlib.Nat.{mod-lt, mod-eq-of-lt, div-lt-iff-lt-mul, div-add-mod', add-mul-mod-self-left}
 use native.Mathlib.Omega.{arith}
 use lib.Pow.{pow-pos, pow-add, pow-mono, field}
 use Rattle.words.specs.Residue.{q}
+use Rattle.words.specs.Bounded.{Below, below-map}
 use Rattle.ring.specs.Compress.{compress, decompress}
 
 pub compress-lt : (d x : ℕ) → compress d x < 2 ^ d
 unfolding compress
 compress-lt d x = mod-lt _ (pow-pos d)
+
+pub below-compress : {a : ℕ} (d : ℕ) (f : List ℕ) → Below a f → Below (2 ^ d) (map (compress d) f)
+below-compress d f h = below-map (compress d) (pow-pos d) (λ x l. compress-lt d x) f h
 
 -- a, b and y are 2^d times two shares and their sum modulo q, v is 2^d where the sum wrapped
 module _ (a b y v : ℕ) (h : a + b ≡ y + q * v) where
@@ -61,3 +66,6 @@ module _ (d y : ℕ) (h : d ≤ 11) (g : y < 2 ^ d) where
       let l = mod-lt n {m = 2 * p} (omega (arith, pow-pos d)) in
       let b = pow-mono {i = d} {j = 11} h in
       ap (λ (m : ℕ). m % p) (nearest (p * x) (n % (2 * p)) p y e l (omega arith)) ∙ mod-eq-of-lt g
+
+pub below-decompress : (d : ℕ) (f : List ℕ) → d ≤ 11 → Below (2 ^ d) f → Below q (map (decompress d) f)
+below-decompress d f h b = below-map (decompress d) (omega arith) (λ y l. decompress-lt d y h l) f b
