@@ -1,6 +1,6 @@
 -- How much the adder does, and that it adds.
-use Prim.Native.Nat.{ℕ, zero, suc, _+_, _*_, _-_, _<_}
-use mathlib.Core.Path.{_≡_, refl, sym, ap, ap₂, _∙_}
+use Prim.Native.Nat.{ℕ, _+_, _*_, _-_, _<_}
+use mathlib.Core.Path.{_≡_, ap, ap₂, _∙_}
 use native.Mathlib.Omega.{arith}
 use Rattle.words.specs.Word.{xor, and}
 use Rattle.words.specs.WordLaws.{xor-same, xor-xor-cancel, xor-swap}

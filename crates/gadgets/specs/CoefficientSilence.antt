@@ -1,9 +1,9 @@
 -- Couplings of bit to coefficient: every entry can be made equal, whatever the bits are, and the result set apart by any
 -- difference.
 use Prim.Native.Nat.{ℕ, zero, suc, _+_, _-_, _*_, _%_, _<_}
-use mathlib.Core.Path.{_≡_, refl, sym, ap, _∙_, subst}
-use mathlib.Core.Bool.{Bool, true, false, cond}
-use native.Mathlib.Nat.{mod-lt, mod-mod, mod-add-mod, add-mod-mod, add-zero}
+use mathlib.Core.Path.{_≡_, refl, sym, ap, _∙_}
+use mathlib.Core.Bool.{Bool}
+use native.Mathlib.Nat.{mod-mod, mod-add-mod, add-mod-mod, add-zero}
 use native.Mathlib.Omega.{arith}
 use lib.Dec.{eqb}
 use Rattle.words.specs.Word.{xor}
@@ -12,8 +12,8 @@ use Rattle.worksheet.specs.declared.Shares.{Shares}
 use Rattle.worksheet.specs.Prog.{_>>=_, mask, entry}
 use Rattle.worksheet.specs.Couple.{Coupled, ret-c, draw-c, enter-c, coupled-weaken, Like, Silent, here, there, under}
 use Rattle.worksheet.specs.Matching.{identity, byAdding}
-use Rattle.worksheet.specs.Sharing.{shares, share}
-use Rattle.worksheet.specs.CoeffSharing.{CoeffSharing, CoeffApart, coeffKeep, share-coeffKeep}
+use Rattle.worksheet.specs.Sharing.{share}
+use Rattle.worksheet.specs.CoeffSharing.{CoeffApart, coeffKeep, share-coeffKeep}
 use Rattle.gadgets.specs.Coefficient.{bitToCoeff}
 use Rattle.gadgets.specs.CoefficientLaws.{mod-q-lt, coeffOf, cond-table, coeffSharing-result}
 

@@ -8,17 +8,18 @@ use native.Mathlib.Numerals.{add-one}
 use native.Mathlib.Omega.{arith}
 use lib.Pow.{split}
 use Rattle.words.specs.Word.{Bits, xor, and, or, ones, complement, low}
-use Rattle.words.specs.WordLaws.{xor-same, xor-zero, zero-xor, xor-bits, and-comm, and-ones, low-bits, high-bits, low-xor, xor-shift}
+use Rattle.words.specs.WordLaws.{xor-same, and-comm, and-ones, low-bits, high-bits, low-xor, xor-shift}
 use Rattle.words.specs.Formula.{boole, at, _⊕_, _⊗_}
 use Rattle.words.specs.Table.{every}
 use Rattle.worksheet.specs.declared.Shares.{Shares}
 use Rattle.worksheet.specs.Prog.{_>>=_, entry}
 use Rattle.worksheet.specs.Uses.{Uses, ret-u, enter-u, uses-bind, uses-loop, uses-times, uses-recount}
-use Rattle.worksheet.specs.Gives.{Gives, gives-bind, gives-weaken, gives-loop}
-use Rattle.worksheet.specs.Sharing.{shares, Sharing, sharing-bits}
+use Rattle.worksheet.specs.Turns.{Each}
+use Rattle.worksheet.specs.Gives.{Gives, ret-g, enter-g, gives-bind, gives-weaken, gives-loop, gives-times}
+use Rattle.worksheet.specs.Sharing.{shares, Sharing, sharing-bits, sharing-xorPublic}
 use Rattle.worksheet.specs.MaskedAnd.{uses-maskedAnd}
 use Rattle.worksheet.specs.Gates.{maskedOr, uses-maskedNot, uses-maskedXor, uses-maskedOr}
-use Rattle.worksheet.specs.GatesSharing.{sharing-maskedNot, sharing-maskedXor, sharing-maskedAnd, sharing-maskedOr}
+use Rattle.worksheet.specs.GatesSharing.{sharing-maskedNot, sharing-maskedOr}
 use Rattle.gadgets.specs.Comparison.{addPublic, foldOr, halve, halves, allZero, copies, select}
 
 -- ---- how much they do
@@ -118,6 +119,11 @@ module _ (h : ℕ) where
       (λ e f. sym (split x h) ∙ rw (f, e) (omega arith))
 
 -- ---- what they join to
+
+pub gives-addPublic : (n : ℕ) (c X : ℕ → ℕ) (w : ℕ → Shares) → ((j : ℕ) → j < n → Bits 64 (c j)) → ((j : ℕ) → j < n → Sharing 64 (X j) (w j))
+    → Gives (Each (λ j. Sharing 64 (xor (X j) (c j))) n) (addPublic n c w)
+unfolding addPublic entry _>>=_
+gives-addPublic n c X w b s = gives-times _ n (λ j h. enter-g (ret-g (sharing-xorPublic (b j h) (s j h))))
 
 -- a sharing of a word of n bits that is 0 exactly where b says so
 pub record ZeroWhere (n : ℕ) (b : Bool) (z : Shares) : Type 0 where

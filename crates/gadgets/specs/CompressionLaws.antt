@@ -1,10 +1,9 @@
 -- How much masked compression does, and that it compresses.
 use Prim.Native.Nat.{ℕ, _+_, _*_, _-_, _/_, _%_, _^_, _<_}
-use mathlib.Core.Path.{_≡_, refl, sym, ap, ap₂, _∙_}
+use mathlib.Core.Path.{_≡_, refl, sym, ap, _∙_}
 use native.Mathlib.Nat.{add-mod}
 use native.Mathlib.Omega.{arith}
-use lib.ListN.{getD, drop, length-drop}
-use lib.Seq.{getD-drop}
+use lib.ListN.{getD, drop}
 use Rattle.words.specs.Digit.{digit, digit-div, digit-mod}
 use Rattle.words.specs.Plane.{plane, plane-cong}
 use Rattle.words.specs.Residue.{q}

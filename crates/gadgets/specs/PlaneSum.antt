@@ -1,10 +1,10 @@
 -- The plain adder on bit planes, and that it adds.
-use mathlib.Core.Path.{_≡_, refl, sym, ap, ap₂, _∙_}
+use mathlib.Core.Path.{_≡_, sym, ap, _∙_}
 use Prim.Native.Nat.{ℕ, zero, suc, _+_, _*_, _/_, _%_, _^_, _<_, min}
 use native.Mathlib.Numerals.{add-one}
 use native.Mathlib.Omega.{arith}
 use lib.Bits.{differ}
-use lib.Dec.{T, eqb, eqb→eq}
+use lib.Dec.{eqb, eqb→eq}
 use lib.Pow.{shr-shr}
 use Rattle.words.specs.Word.{Bits, xor, and}
 use Rattle.words.specs.WordLaws.{xor-bits, and-bits, zero-bits}

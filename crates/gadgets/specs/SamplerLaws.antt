@@ -15,12 +15,12 @@ use Rattle.ring.specs.Bytes.{bitsOf}
 use Rattle.ring.specs.BytesLaws.{length-bitsOf}
 use Rattle.ring.specs.Sample.{sum, samplePolyCbd}
 use Rattle.worksheet.specs.declared.Shares.{Shares}
-use Rattle.worksheet.specs.Prog.{entry, loop-cong}
+use Rattle.worksheet.specs.Prog.{entry, loop-cong, times-cong}
 use Rattle.worksheet.specs.Uses.{Uses, ret-u, enter-u, uses-bind, uses-map, uses-loop, uses-times, uses-recount}
-use Rattle.worksheet.specs.Gives.{Gives, ret-g, enter-g, gives-bind, gives-weaken, gives-loop, gives-times}
+use Rattle.worksheet.specs.Gives.{Gives, ret-g, enter-g, gives-bind, gives-loop, gives-times}
 use Rattle.worksheet.specs.Sharing.{shares, joined, none}
 use Rattle.worksheet.specs.CoeffSharing.{CoeffSharing, coeffSharing-addShares}
-use Rattle.gadgets.specs.Coefficient.{sums, weight, sampler}
+use Rattle.gadgets.specs.Coefficient.{bitToCoeff, sums, weight, sampler}
 use Rattle.gadgets.specs.CoefficientLaws.{uses-bitToCoeff, gives-bitToCoeff}
 
 pub weight-lt : (eta j : ℕ) → j < eta → weight eta j ≡ 1
@@ -91,6 +91,11 @@ uses-sampler eta b =
     (uses-bind (uses-times (2 * eta) (λ j. uses-bitToCoeff (weight eta j) (b j))) (λ z.
     uses-bind (uses-sums (2 * eta - 1) (λ j. getD z j none .s0)) (λ s.
     uses-map _ (uses-sums (2 * eta - 1) (λ j. getD z j none .s1)))))
+
+-- the first 2 eta bits are read
+pub sampler-cong : (eta : ℕ) (b b′ : ℕ → Shares) → ((j : ℕ) → j < 2 * eta → b j ≡ b′ j) → sampler eta b ≡ sampler eta b′
+unfolding sampler
+sampler-cong eta b b′ e = rw (times-cong (2 * eta) (λ j h. ap (bitToCoeff (weight eta j)) (e j h)))
 
 -- FIPS 203, Algorithm 8: eta bits less eta bits
 unfoldable pub binomial : ℕ → (ℕ → ℕ) → ℕ

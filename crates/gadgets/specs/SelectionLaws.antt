@@ -1,6 +1,6 @@
 -- Selection: what it joins to.
 use Prim.Native.Nat.{ℕ, zero, suc, _-_, _*_, _^_, _<_}
-use mathlib.Core.Path.{_≡_, refl, ap, ap₂, _∙_}
+use mathlib.Core.Path.{_≡_, ap, _∙_}
 use mathlib.Core.Bool.{cond}
 use mathlib.Core.List.{[], _∷_}
 use native.Mathlib.Omega.{arith}

@@ -4,7 +4,7 @@ use mathlib.Core.Path.{_≡_, ap, ap₂}
 use mathlib.Core.Bool.{Bool, true, false}
 use mathlib.Core.List.{List}
 use native.Mathlib.Omega.{arith}
-use Rattle.words.specs.Word.{Bits, xor}
+use Rattle.words.specs.Word.{xor}
 use Rattle.words.specs.WordLaws.{xor-bits, and-bits}
 use Rattle.worksheet.specs.declared.Shares.{Shares}
 use Rattle.worksheet.specs.Prog.{Prog, _>>=_, entry, times}

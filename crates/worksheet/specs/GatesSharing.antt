@@ -1,5 +1,4 @@
 -- What the gates make of sharings: shares of the same width, and the words that they stand for.
-use mathlib.Core.Path.{_≡_}
 use Prim.Native.Nat.{ℕ}
 use Rattle.words.specs.Word.{xor, and, or, complement}
 use Rattle.words.specs.WordLaws.{low-bits}
