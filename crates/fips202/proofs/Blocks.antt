@@ -1,7 +1,7 @@
 -- The blocks of a padded message: those of the message, and its rest with the padding.
 use mathlib.Core.Path.{_≡_, refl, sym, ap, _∙_}
 use mathlib.Core.List.{List, [], _∷_, _++_}
-use Prim.Native.Nat.{ℕ, zero, suc, _+_, _-_, _*_, _%_, _<_, _≤_}
+use Prim.Native.Nat.{ℕ, zero, suc, _+_, _-_, _*_, _/_, _%_, _<_, _≤_}
 use native.Mathlib.Nat.{suc-mul, mul-le-mul-right, mul-div-cancel}
 use native.Mathlib.Numerals.{add-one}
 use native.Mathlib.Omega.{arith}
@@ -9,15 +9,22 @@ use lib.Arith.{digits-mod}
 use lib.ListN.{length, take, drop, replicate, length-append, length-drop, length-replicate}
 use lib.Seq.{take-all, drop-append-le}
 use Rattle.words.specs.Iterate.{iterate, iterate-cong, ReachedBy, reached-by-start, reached-by-turn}
-use Rattle.words.specs.Part.{part-append, part-rest}
+use Rattle.words.specs.Numeral.{value}
+use Rattle.words.specs.Part.{part-take, part-append, part-rest}
 use Rattle.keccak.specs.KeccakP.{keccak-p}
-use Rattle.fips202.specs.Sponge.{padding, padded, mixed, absorbed}
+use Rattle.fips202.specs.Sponge.{padding, padded, laneOf, mixed, absorbed}
 
 length-padding : (suffix q : ℕ) → length (padding suffix q) ≡ q
 length-padding suffix zero = refl
 length-padding suffix (suc zero) = refl
 length-padding suffix (suc (suc z)) =
     ap suc (length-append (replicate z 0) (0x80 ∷ []) ∙ rw (length-replicate {A = ℕ} z 0) (add-one z))
+
+-- eight bytes of p are a lane of its first block
+pub lane-part : (rate : ℕ) (p : List ℕ) (j : ℕ) {w : ℕ} → j < rate / 8 → w ≡ value 256 (take (8 * j + 8 - 8 * j) (drop (8 * j) p)) → w ≡ laneOf (take rate p) j
+lane-part rate p j h e =
+    let d : 8 * j + 8 - 8 * j ≡ 8 = omega arith in
+    e ∙ ap (value 256) (rw d (sym (part-take (8 * j) 8 rate p (omega arith))))
 
 -- the state with block i of m taken in
 abbrev taken : ℕ → List ℕ → ℕ → List ℕ → List ℕ
@@ -45,12 +52,12 @@ module _ (rate suffix : ℕ) (m : List ℕ) (q : ℕ) (h : q * rate ≤ length m
   length-padded =
       rw (padded-is, length-append m pad, length-padding suffix (rate - length rest), suc-mul q rate) (omega (arith, length-rest))
 
-  block-padded : (i : ℕ) → i < q → take rate (drop (i * rate) (padded rate suffix m)) ≡ take rate (drop (i * rate) m)
+  pub block-padded : (i : ℕ) → i < q → take rate (drop (i * rate) (padded rate suffix m)) ≡ take rate (drop (i * rate) m)
   block-padded i l =
       let e : suc i * rate ≤ q * rate = mul-le-mul-right {m = suc i} {n = q} rate l in
       rw padded-is (part-append (i * rate) rate m pad (omega (arith, suc-mul i rate)))
 
-  last-padded : take rate (drop (q * rate) (padded rate suffix m)) ≡ rest ++ pad
+  pub last-padded : take rate (drop (q * rate) (padded rate suffix m)) ≡ rest ++ pad
   last-padded =
       rw (padded-is, drop-append-le (q * rate) m pad h)
       (take-all rate (rest ++ pad)

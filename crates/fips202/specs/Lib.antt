@@ -1,7 +1,9 @@
 pub mod Sponge
 pub mod Padding
 pub mod Calls
+pub mod Lanes
 pub mod MaskedSponge
 pub mod MaskedSpongeUses
+pub mod MaskedBytes
 pub mod MaskedBlocksSilence
 pub mod MaskedSpongeSilence

@@ -2,7 +2,7 @@
 ghost use mathlib.Core.List.{_++_};
 ghost use mathlib.Core.Path.{_≡_};
 ghost use Prim.Native.Nat.{_-_, _%_, _<_, _≤_};
-ghost use lib.ListN.{length, take};
+ghost use lib.ListN.{length, take, replicate};
 ghost use Rattle.fips202.specs.Sponge.{padding, padded, mixed, absorbed};
 use crate::bytes;
 use keccak::state::State;
@@ -23,10 +23,10 @@ fn mix_block(s: State, p: &[u8], rate: usize) -> State
     t
 }
 
-// The message's rest p, which is shorter than a block, and its padding.
-fn last_block(p: &[u8], rate: usize, suffix: u8) -> [u8; 200]
-    requires { ⌜ (length (now p) < rate) × (rate ≤ 200) × (suffix < 128) ⌝ }
-    ensures { λ r. ⌜ take rate r ≡ now (p .entry) ++ padding suffix (rate - length (now (p .entry))) ⌝ }
+// A string shorter than a block, and zeros.
+pub(crate) fn zero_filled(p: &[u8]) -> [u8; 200]
+    requires { ⌜ length (now p) ≤ 200 ⌝ }
+    ensures { λ r. ⌜ r ≡ now (p .entry) ++ replicate (200 - length (now (p .entry))) 0 ⌝ }
 {
     let mut b = [0u8; 200];
     let mut i: usize = 0;
@@ -34,7 +34,17 @@ fn last_block(p: &[u8], rate: usize, suffix: u8) -> [u8; 200]
         b[i] = p[i];
         i += 1;
     }
-    b[i] = suffix;
+    b
+}
+
+// The message's rest p, which is shorter than a block, and its padding.
+pub(crate) fn last_block(p: &[u8], rate: usize, suffix: u8) -> [u8; 200]
+    requires { ⌜ (length (now p) < rate) × (rate ≤ 200) × (suffix < 128) ⌝ }
+    ensures { λ r. ⌜ take rate r ≡ now (p .entry) ++ padding suffix (rate - length (now (p .entry))) ⌝ }
+{
+    let mut b = zero_filled(p);
+    let n = p.len();
+    b[n] = suffix;
     b[rate - 1] = b[rate - 1] ^ 0x80;
     b
 }

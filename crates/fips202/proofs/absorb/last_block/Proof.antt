@@ -17,15 +17,6 @@ take-replicate zero n h = refl
 take-replicate (suc k) zero h = absurd (omega arith)
 take-replicate (suc k) (suc n) h = ap (λ (l : List ℕ). 0 ∷ l) (take-replicate k n (omega arith))
 
--- one more byte of p is copied over the zeros
-copy-turn : (p : List ℕ) (n i : ℕ) → i < length p → i < n
-    → set (take i p ++ replicate (n - i) 0) i (getD p i 0) ≡ take (i + 1) p ++ replicate (n - (i + 1)) 0
-copy-turn p n i h g =
-    let w : n - i ≡ suc (n - (i + 1)) = omega arith in
-    rw w
-    (set-at (take i p) 0 (replicate (n - (i + 1)) 0) (getD p i 0) i (length-take-le i p (omega arith))
-    ∙ rw (add-one i, take-suc p i 0 h) (sym (append-snoc (take i p) (getD p i 0) (replicate (n - suc i) 0))))
-
 -- what the two last stores leave in the first r of n zeros after p
 abbrev stored : ℕ → List ℕ → List ℕ → ℕ → List ℕ
 stored s p b r = let l = set b (length p) s in take r (set l (r - 1) (bitXor (getD l (r - 1) 0) 0x80))
@@ -53,38 +44,16 @@ stores s (suc n) (suc (suc r)) (x ∷ p) h g k =
     let e : suc r - 1 ≡ r = omega arith in
     rw (a, b, d) (ap (λ (l : List ℕ). x ∷ l) (rw e at (stores s n (suc r) p h (omega arith) (omega arith))))
 
-abbrev Inv-loop : tie.InvT-loop
-Inv-loop p rate suffix b₀ i₀ b i = (i ≤ length p) × (b ≡ take i p ++ replicate (200 - i) 0)
-
-abbrev μ-loop : tie.MeasureT-loop
-μ-loop p rate suffix b₀ i₀ b i = length p - i
-
-loop-holds : tie.Need-loop-holds Inv-loop μ-loop
-loop-holds c = (search needs, refl)
-
-loop-again : tie.Need-loop-again Inv-loop μ-loop
-loop-again c =
-    let l = c .before .before in
-    (search needs, rw (l .loop .inv .1) (copy-turn (l .before .args .p .now) 200 (l .loop .i) (search needs) (search needs)))
-
-returns : tie.Need-returns Inv-loop μ-loop
+returns : tie.Need-returns
 returns c =
     let a = c .before .before .args in
-    let w : c .before .loop .i ≡ length (a .p .now) = omega arith in
-    rw (c .before .loop .inv .1, w, take-length (a .p .now)) (stores (a .suffix) 200 (a .rate) (a .p .now) (search needs) (search needs) (search needs))
+    rw (c .zero-filled .ensures) (stores (a .suffix) 200 (a .rate) (a .p .now) (search needs) (search needs) (search needs))
 
 pub last-block-spec : {M : Type 1} → statement M
 last-block-spec =
     tie.close
     (tie.spec
-    Inv-loop
-    μ-loop
-    loop-holds
-    (λ c. search needs)
-    (λ c. search needs)
-    (λ c. search needs)
-    (λ c. search needs)
-    loop-again
+    (λ c κs. search needs)
     (λ c. search needs)
     (λ c. search needs)
     (λ c. search needs)

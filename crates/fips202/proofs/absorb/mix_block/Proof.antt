@@ -1,15 +1,15 @@
-use Prim.Native.Nat.{ℕ, _+_, _-_, _*_, _/_, _%_, _<_, _≤_}
-use mathlib.Core.Path.{_≡_, sym, ap, _∙_}
+use Prim.Native.Nat.{ℕ, _-_, _*_, _/_, _%_, _≤_}
+use mathlib.Core.Path.{_≡_, sym}
 use mathlib.Core.List.{List}
 use borrow.Author.Needs.{needs}
 use native.Mathlib.Omega.{arith}
-use lib.ListN.{getD, take, drop, length-take, drop-of-length-le}
+use lib.ListN.{getD, take, length-take, drop-of-length-le}
 use Rattle.words.specs.Word.{xor}
 use Rattle.words.specs.WordLaws.{xor-zero}
 use Rattle.words.specs.Numeral.{value}
-use Rattle.words.specs.Part.{part-take}
 use Rattle.words.specs.Fill.{Replaced, replaced-start, replaced-turn, replaced-stop}
 use Rattle.fips202.specs.Sponge.{laneOf, mixed}
+use Rattle.fips202.proofs.Blocks.{lane-part}
 use Rattle.fips202.proofs.absorb.mix_block.Statement.{statement}
 use Rattle.fips202.proofs.absorb.mix_block.Tie as tie
 
@@ -21,11 +21,6 @@ lane-past : (rate : ℕ) (p s : List ℕ) (k : ℕ) → rate % 8 ≡ 0 → rate 
 unfolding value
 lane-past rate p s k d h =
     rw (drop-of-length-le (take rate p) {i = 8 * k} (omega (arith, length-take rate p))) (sym (xor-zero (getD s k 0)))
-
-mix-lane : (rate : ℕ) (p : List ℕ) (j : ℕ) {w : ℕ} → j < rate / 8 → w ≡ value 256 (take (8 * j + 8 - 8 * j) (drop (8 * j) p)) → w ≡ laneOf (take rate p) j
-mix-lane rate p j h e =
-    let d : 8 * j + 8 - 8 * j ≡ 8 = omega arith in
-    e ∙ ap (value 256) (rw d (sym (part-take (8 * j) 8 rate p (omega arith))))
 
 abbrev Inv-loop : tie.InvT-loop
 Inv-loop p rate t₀ j₀ t j = Replaced 25 (lanesOf rate p (t₀ .lanes)) 0 (t₀ .lanes) j (t .lanes) × (j ≤ rate / 8)
@@ -43,7 +38,7 @@ loop-again c =
     let a = l .before .before .args in
     let i = l .loop .inv .0 in (
       replaced-turn i (omega arith)
-          (rw (i .rest (l .loop .j) (omega arith), mix-lane (a .rate) (a .p .now) (l .loop .j) (search needs) (c .load .ensures))),
+          (rw (i .rest (l .loop .j) (omega arith), lane-part (a .rate) (a .p .now) (l .loop .j) (search needs) (c .load .ensures))),
       search needs,
     )
 
