@@ -1,3 +1,5 @@
-pub mod Blocks
+pub mod Absorbing
 pub mod MaskedLanes
 pub mod MaskedBlocks
+pub mod Output
+pub mod MaskedOutput

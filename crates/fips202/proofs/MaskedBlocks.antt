@@ -17,12 +17,17 @@ use Rattle.fips202.specs.Sponge.{padding, padded, laneOf}
 use Rattle.fips202.specs.Lanes.{laneOf-zeros}
 use Rattle.fips202.specs.MaskedSponge.{start, sharedBlock, maskedBlocks, maskedAbsorb}
 use Rattle.fips202.specs.MaskedBytes.{sharedLane, takeIn}
-use Rattle.fips202.proofs.Blocks.{block-padded, last-padded}
+use Rattle.fips202.specs.Blocks.{block-padded, last-padded}
 
 -- a whole block lies within n bytes
 pub block-within : (rate n i : ℕ) → i < n / rate → i * rate + rate ≤ n
 block-within rate n i h =
     omega (arith, suc-mul i rate, mul-le-mul-right {m = suc i} {n = n / rate} rate h, div-mul-le-self n rate)
+
+-- after m whole blocks of n bytes, the last of which is left, there is at most one more
+pub rest-within : (rate n m : ℕ) → 0 < rate → m ≡ (n - 1) / rate → (m * rate ≤ n) × (n ≤ m * rate + rate)
+rest-within rate n m h e =
+    rw e (omega (arith, div-mul-le-self (n - 1) rate), omega (arith, lt-div-mul-add {a = n - 1} {b = rate} h))
 
 loop-cong : {S : Type 0} (n : ℕ) {f g : ℕ → S → Prog S} (s : S) → ((j : ℕ) → j < n → (t : S) → f j t ≡ g j t) → loop n f s ≡ loop n g s
 unfolding loop

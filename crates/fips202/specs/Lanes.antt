@@ -1,11 +1,12 @@
 -- Lanes of a string of bytes. Past its end a string reads as zeros.
 use mathlib.Core.Path.{_≡_, refl, sym, ap, _∙_}
 use mathlib.Core.List.{List, [], _∷_, _++_}
-use Prim.Native.Nat.{ℕ, zero, suc, _+_, _-_, _*_, _^_, _<_, _≤_}
+use Prim.Native.Nat.{ℕ, zero, suc, _+_, _-_, _*_, _/_, _%_, _^_, _<_, _≤_}
 use native.Mathlib.Decide.{decLt}
-use native.Mathlib.Nat.{add-zero, zero-mul}
+use native.Mathlib.Nat.{add-zero, zero-mul, mul-assoc, mod-lt, div-add-mod', div-lt-iff-lt-mul, lt-div-mul-add, suc-mul}
 use native.Mathlib.Omega.{arith}
-use lib.ListN.{length, getD, take, drop, replicate, length-append, length-take, length-replicate, List·getD-eq-default}
+use lib.Arith.{digits-div, digits-mod}
+use lib.ListN.{length, getD, take, drop, replicate, length-append, length-take, length-replicate, List·getD-eq-default, drop-of-length-le}
 use lib.Seq.{getD-take, getD-drop}
 use Rattle.words.specs.Tab.{tab, tab-cong, tab-of}
 use Rattle.words.specs.Numeral.{value, value-append, value-zeros}
@@ -55,3 +56,27 @@ laneOf-zeros n l m j =
     at : (x : ℕ) → Dec (x < n) → getD (take n (l ++ replicate m 0)) x 0 ≡ getD (take n l) x 0
     at x (yes h) = getD-take n (l ++ replicate m 0) x 0 h ∙ getD-append-zeros l m x ∙ sym (getD-take n l x 0 h)
     at x (no h) = past (l ++ replicate m 0) x (omega arith) ∙ sym (past l x (omega arith))
+
+-- past a block's bytes there are none
+pub laneOf-past : (rate : ℕ) (p : List ℕ) (j : ℕ) → rate % 8 ≡ 0 → rate / 8 ≤ j → laneOf (take rate p) j ≡ 0
+unfolding value
+laneOf-past rate p j d h = rw (drop-of-length-le (take rate p) {i = 8 * j} (omega (arith, length-take rate p)))
+
+-- byte x of an output, whose blocks are of rate bytes: the block, its word and the word's byte
+pub byte-place : (rate x : ℕ) → 0 < rate → rate % 8 ≡ 0
+    → (x / 8 / (rate / 8) ≡ x / rate) × (x / 8 % (rate / 8) ≡ x % rate / 8) × (x % 8 ≡ x % rate % 8)
+byte-place rate x h d =
+    let l = rate / 8 in
+    let q = x / rate in
+    let r = x % rate in
+    let w : l * 8 ≡ rate = omega arith in
+    let s : r < rate = mod-lt x h in
+    let e : q * l * 8 + r ≡ x = ap (λ (k : ℕ). k + r) (mul-assoc q l 8 ∙ ap (λ (k : ℕ). q * k) w) ∙ div-add-mod' x rate in
+    let t : x / 8 ≡ q * l + r / 8 = omega (arith, e) in
+    let u : r / 8 < l = omega arith in
+    (rw t (digits-div q u), rw t (digits-mod q u), omega (arith, e))
+
+-- n bytes lie in the first block and (n - 1) / rate others
+pub block-lt : (rate n x : ℕ) → 0 < rate → x < n → x / rate < suc ((n - 1) / rate)
+block-lt rate n x h g =
+    div-lt-iff-lt-mul {k = rate} h .1 (omega (arith, suc-mul ((n - 1) / rate) rate, lt-div-mul-add {a = n - 1} {b = rate} h))

@@ -10,6 +10,7 @@ use crate::squeeze::squeeze;
 mod absorb; // a message taken in
 mod bytes; // a lane and its bytes
 pub mod masked_absorb; // a message taken in on two shares
+pub mod masked_squeeze; // output given out on two shares
 mod squeeze; // output given out
 
 // A call's answer; specs/Calls.antt gives document 01's number for each.

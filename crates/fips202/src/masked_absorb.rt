@@ -5,7 +5,7 @@ ghost use lib.ListN.{length, take};
 ghost use Rattle.worksheet.specs.declared.Recorder.{Recorder as AnyRecorder};
 ghost use Rattle.worksheet.specs.Prog.{word, loop};
 ghost use Rattle.worksheet.specs.Ran.{Makes, Draws};
-ghost use Rattle.worksheet.specs.SharedList.{sharedList};
+ghost use Rattle.masked_keccak.specs.Rows.{sharedState};
 ghost use Rattle.fips202.specs.MaskedSponge.{start as startOf, mixLanes, sharedBlock, maskedAbsorb};
 ghost use Rattle.fips202.specs.MaskedBytes.{sharedLane, takeIn};
 use crate::absorb::last_block;
@@ -20,7 +20,7 @@ use worksheet::masked_xor;
 // Either share of the zero state, under 25 masks.
 fn start(ws: &[u64]) -> State
     requires { ⌜ 25 ≤ length (now ws) ⌝ }
-    ensures { λ s. ⌜ ((r : AnyRecorder) → Draws word 25 startOf r (now (ws .entry)) (sharedList (s .lanes) (s .lanes)) r) ⌝ }
+    ensures { λ s. ⌜ ((r : AnyRecorder) → Draws word 25 startOf r (now (ws .entry)) (sharedState s s) r) ⌝ }
 {
     let mut s = State { lanes: [0u64; 25] };
     for i in 0..25 {
@@ -32,7 +32,7 @@ fn start(ws: &[u64]) -> State
 // The first rate bytes of p and q are added to the shares s and t of the state.
 fn mix_lanes(rec: Recorder, s: State, t: State, p: &[u8], q: &[u8], rate: usize) -> EnteredStates
     requires { ⌜ (rate ≤ 200) × (rate % 8 ≡ 0) × (rate ≤ length (now p)) × (rate ≤ length (now q)) ⌝ }
-    ensures { λ o. ⌜ Makes (mixLanes (rate / 8) (sharedLane (take rate (now (p .entry))) (take rate (now (q .entry)))) (sharedList (s .lanes) (t .lanes))) rec (sharedList (o .s0 .lanes) (o .s1 .lanes)) (o .rec) ⌝ }
+    ensures { λ o. ⌜ Makes (mixLanes (rate / 8) (sharedLane (take rate (now (p .entry))) (take rate (now (q .entry)))) (sharedState s t)) rec (sharedState (o .s0) (o .s1)) (o .rec) ⌝ }
 {
     let mut rec = rec;
     let mut s0 = s;
@@ -69,7 +69,7 @@ fn take_in(
     ws: &[u64],
 ) -> EnteredStates
     requires { ⌜ (rate ≤ 200) × (rate % 8 ≡ 0) × (rate ≤ length (now p)) × (rate ≤ length (now q)) × (600 ≤ length (now ws)) ⌝ }
-    ensures { λ o. ⌜ Draws word 600 (takeIn (rate / 8) (sharedLane (take rate (now (p .entry))) (take rate (now (q .entry)))) (sharedList (s .lanes) (t .lanes))) rec (now (ws .entry)) (sharedList (o .s0 .lanes) (o .s1 .lanes)) (o .rec) ⌝ }
+    ensures { λ o. ⌜ Draws word 600 (takeIn (rate / 8) (sharedLane (take rate (now (p .entry))) (take rate (now (q .entry)))) (sharedState s t)) rec (now (ws .entry)) (sharedState (o .s0) (o .s1)) (o .rec) ⌝ }
 {
     let m = mix_lanes(rec, s, t, p, q, rate);
     masked_keccak::permute(m.rec, m.s0, m.s1, ws)
@@ -86,7 +86,7 @@ fn whole_blocks(
     ws: &[u64],
 ) -> EnteredStates
     requires { ⌜ (length (now in0) ≡ length (now in1)) × (0 < rate) × (rate ≤ 200) × (rate % 8 ≡ 0) × (600 * (length (now in0) / rate) ≤ length (now ws)) ⌝ }
-    ensures { λ o. ⌜ Draws word (600 * (length (now (in0 .entry)) / rate)) (loop (length (now (in0 .entry)) / rate) (λ i. takeIn (rate / 8) (sharedBlock rate (now (in0 .entry)) (now (in1 .entry)) i)) (sharedList (s .lanes) (t .lanes))) rec (now (ws .entry)) (sharedList (o .s0 .lanes) (o .s1 .lanes)) (o .rec) ⌝ }
+    ensures { λ o. ⌜ Draws word (600 * (length (now (in0 .entry)) / rate)) (loop (length (now (in0 .entry)) / rate) (λ i. takeIn (rate / 8) (sharedBlock rate (now (in0 .entry)) (now (in1 .entry)) i)) (sharedState s t)) rec (now (ws .entry)) (sharedState (o .s0) (o .s1)) (o .rec) ⌝ }
 {
     let mut rec = rec;
     let mut s0 = s;
@@ -113,7 +113,7 @@ pub fn masked_absorb(
     ws: &[u64],
 ) -> EnteredStates
     requires { ⌜ (length (now in0) ≡ length (now in1)) × (0 < rate) × (rate ≤ 200) × (rate % 8 ≡ 0) × (suffix < 128) × (25 + 600 * (length (now in0) / rate + 1) ≤ length (now ws)) ⌝ }
-    ensures { λ o. ⌜ Draws word (25 + 600 * (length (now (in0 .entry)) / rate + 1)) (maskedAbsorb rate suffix (now (in0 .entry)) (now (in1 .entry))) rec (now (ws .entry)) (sharedList (o .s0 .lanes) (o .s1 .lanes)) (o .rec) ⌝ }
+    ensures { λ o. ⌜ Draws word (25 + 600 * (length (now (in0 .entry)) / rate + 1)) (maskedAbsorb rate suffix (now (in0 .entry)) (now (in1 .entry))) rec (now (ws .entry)) (sharedState (o .s0) (o .s1)) (o .rec) ⌝ }
 {
     let s = start(ws);
     let n = in0.len() / rate;

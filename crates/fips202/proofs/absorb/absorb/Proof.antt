@@ -3,7 +3,7 @@ use mathlib.Core.Path.{ap, _∙_}
 use borrow.Author.Needs.{needs}
 use lib.ListN.{length}
 use Rattle.keccak.specs.KeccakP.{keccak-p}
-use Rattle.fips202.proofs.Blocks.{Absorbing, absorbing-start, absorbing-turn, absorbing-end}
+use Rattle.fips202.proofs.Absorbing.{Absorbing, absorbing-start, absorbing-turn, absorbing-end}
 use Rattle.fips202.proofs.absorb.absorb.Statement.{statement}
 use Rattle.fips202.proofs.absorb.absorb.Tie as tie
 

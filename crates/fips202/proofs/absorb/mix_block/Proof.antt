@@ -3,13 +3,13 @@ use mathlib.Core.Path.{_≡_, sym}
 use mathlib.Core.List.{List}
 use borrow.Author.Needs.{needs}
 use native.Mathlib.Omega.{arith}
-use lib.ListN.{getD, take, length-take, drop-of-length-le}
+use lib.ListN.{getD, take}
 use Rattle.words.specs.Word.{xor}
 use Rattle.words.specs.WordLaws.{xor-zero}
-use Rattle.words.specs.Numeral.{value}
 use Rattle.words.specs.Fill.{Replaced, replaced-start, replaced-turn, replaced-stop}
 use Rattle.fips202.specs.Sponge.{laneOf, mixed}
-use Rattle.fips202.proofs.Blocks.{lane-part}
+use Rattle.fips202.specs.Lanes.{laneOf-past}
+use Rattle.fips202.proofs.Absorbing.{lane-part}
 use Rattle.fips202.proofs.absorb.mix_block.Statement.{statement}
 use Rattle.fips202.proofs.absorb.mix_block.Tie as tie
 
@@ -18,9 +18,7 @@ lanesOf rate p s j = xor (getD s j 0) (laneOf (take rate p) j)
 
 -- past the block nothing is added
 lane-past : (rate : ℕ) (p s : List ℕ) (k : ℕ) → rate % 8 ≡ 0 → rate / 8 ≤ k → getD s k 0 ≡ lanesOf rate p s k
-unfolding value
-lane-past rate p s k d h =
-    rw (drop-of-length-le (take rate p) {i = 8 * k} (omega (arith, length-take rate p))) (sym (xor-zero (getD s k 0)))
+lane-past rate p s k d h = rw (laneOf-past rate p k d h) (sym (xor-zero (getD s k 0)))
 
 abbrev Inv-loop : tie.InvT-loop
 Inv-loop p rate t₀ j₀ t j = Replaced 25 (lanesOf rate p (t₀ .lanes)) 0 (t₀ .lanes) j (t .lanes) × (j ≤ rate / 8)

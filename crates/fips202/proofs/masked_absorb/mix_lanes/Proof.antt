@@ -6,7 +6,7 @@ use lib.ListN.{take}
 use Rattle.worksheet.specs.Sharing.{shares}
 use Rattle.worksheet.specs.SharedList.{sharedList}
 use Rattle.fips202.specs.MaskedBytes.{sharedLane}
-use Rattle.fips202.proofs.Blocks.{lane-part}
+use Rattle.fips202.proofs.Absorbing.{lane-part}
 use Rattle.fips202.proofs.MaskedLanes.{Mixing, mixing-start, mixing-turn, mixing-end}
 use Rattle.fips202.proofs.masked_absorb.mix_lanes.Statement.{statement}
 use Rattle.fips202.proofs.masked_absorb.mix_lanes.Tie as tie
