@@ -10,7 +10,7 @@ use Rattle.words.specs.Residue.{q}
 use Rattle.ring.specs.Compress.{compress}
 use Rattle.ring.specs.CompressLaws.{compress-shares}
 use Rattle.worksheet.specs.declared.Shares.{Shares}
-use Rattle.worksheet.specs.Prog.{_>>=_, entry}
+use Rattle.worksheet.specs.Prog.{entry}
 use Rattle.worksheet.specs.Uses.{Uses, ret-u, enter-u, uses-bind, uses-map, uses-times, uses-recount}
 use Rattle.worksheet.specs.Turns.{Each, each-drop}
 use Rattle.worksheet.specs.Gives.{Gives, ret-g, enter-g, gives-bind, gives-times}

@@ -1,4 +1,3 @@
-pub mod Stored
 pub mod Adder
 pub mod PlaneSum
 pub mod AdderLaws

@@ -5,7 +5,7 @@ ghost use Prim.Native.Nat.{ℕ, _+_, _-_, _^_, _<_, _≤_};
 ghost use lib.ListN.{getD, length};
 ghost use Rattle.gadgets.specs.Comparison;
 ghost use Rattle.gadgets.specs.Comparison.{addPublic, foldOr, allZero};
-ghost use Rattle.gadgets.specs.Stored.{sharesAt, zip};
+ghost use Rattle.worksheet.specs.SharedList.{sharedList, sharedAt, zip};
 ghost use Rattle.words.specs.Word.{low, ones as onesOf};
 ghost use Rattle.worksheet.specs.Prog.{word};
 ghost use Rattle.worksheet.specs.Ran.{Makes, MakesWith, Draws};
@@ -16,7 +16,7 @@ use worksheet::Shares;
 // Public words go into share 0.
 pub fn add_public(rec: Recorder, c: &[u64], w0: &mut [u64]) -> Recorder
     requires { ⌜ length (now c) ≡ length (now w0) ⌝ }
-    ensures { λ r. ⌜ ((w1 : List ℕ) → Makes (addPublic (length (now (c .entry))) (λ j. getD (now (c .entry)) j 0) (sharesAt (now (w0 .entry)) w1)) rec (zip (length (now (c .entry))) (now (w0 .exit)) w1) r) ⌝ }
+    ensures { λ r. ⌜ ((w1 : List ℕ) → Makes (addPublic (length (now (c .entry))) (λ j. getD (now (c .entry)) j 0) (sharedAt (sharedList (now (w0 .entry)) w1))) rec (zip (length (now (c .entry))) (sharedList (now (w0 .exit)) w1)) r) ⌝ }
 {
     let mut rec = rec;
     for j in 0..c.len() {
@@ -30,7 +30,7 @@ pub fn add_public(rec: Recorder, c: &[u64], w0: &mut [u64]) -> Recorder
 // All words are folded into the first by Or.
 fn fold_or(rec: Recorder, n: usize, w0: &[u64], w1: &[u64], ws: &[u64]) -> EnteredShares
     requires { ⌜ (n < length (now w0)) × (n < length (now w1)) × (n ≤ length (now ws)) ⌝ }
-    ensures { λ r. ⌜ Draws word n (foldOr n (sharesAt (now (w0 .entry)) (now (w1 .entry)))) rec (now (ws .entry)) (r .value) (r .rec) ⌝ }
+    ensures { λ r. ⌜ Draws word n (foldOr n (sharedAt (sharedList (now (w0 .entry)) (now (w1 .entry))))) rec (now (ws .entry)) (r .value) (r .rec) ⌝ }
 {
     let mut rec = rec;
     let mut acc = Shares {
@@ -104,7 +104,7 @@ fn halves(rec: Recorder, w: Shares, ws: &[u64]) -> EnteredShares
 // Of n + 1 words.
 pub fn all_zero(rec: Recorder, n: usize, w0: &[u64], w1: &[u64], ws: &[u64]) -> EnteredShares
     requires { ⌜ (n < length (now w0)) × (n < length (now w1)) × (n + 6 ≤ length (now ws)) ⌝ }
-    ensures { λ r. ⌜ Draws word (n + 6) (allZero n (sharesAt (now (w0 .entry)) (now (w1 .entry)))) rec (now (ws .entry)) (r .value) (r .rec) ⌝ }
+    ensures { λ r. ⌜ Draws word (n + 6) (allZero n (sharedAt (sharedList (now (w0 .entry)) (now (w1 .entry))))) rec (now (ws .entry)) (r .value) (r .rec) ⌝ }
 {
     let f = fold_or(rec, n, w0, w1, ws);
     let b = halves(f.rec, f.value, &ws[n..]);

@@ -3,7 +3,7 @@ ghost use mathlib.Core.Path.{_≡_};
 ghost use Prim.Native.Nat.{_+_, _*_, _-_, _/_, _^_, _<_, _≤_};
 ghost use lib.ListN.{drop, getD, length};
 ghost use Rattle.gadgets.specs.Compression.{fixedPoint, fixedPoints, maskedCompress};
-ghost use Rattle.gadgets.specs.Stored.{sharesAt, zip};
+ghost use Rattle.worksheet.specs.SharedList.{sharedList, sharedAt, zip};
 ghost use Rattle.words.specs.Bounded.{Below};
 ghost use Rattle.words.specs.Digit.{digit};
 ghost use Rattle.words.specs.Fill.{Filled};
@@ -101,7 +101,7 @@ fn bit_planes(v: &[u64], n: usize) -> [u64; 24]
 pub fn masked_compress(rec: Recorder, d: usize, x0: &[u16], x1: &[u16], ws: &[u64]) -> EnteredPlanes
     requires { ⌜ (d ≤ 11) × (3 * (d + 13) ≤ length (now ws) + 1) ⌝ }
     requires { ⌜ (length (now x0) ≡ 64) × (length (now x1) ≡ 64) × Below q (now x0) × Below q (now x1) ⌝ }
-    ensures { λ r. ⌜ Draws word (3 * (d + 13) - 1) (maskedCompress d (sharesAt (now (x0 .entry)) (now (x1 .entry)))) rec (now (ws .entry)) (drop 13 (zip (d + 13) (r .value .s0) (r .value .s1))) (r .rec) ⌝ }
+    ensures { λ r. ⌜ Draws word (3 * (d + 13) - 1) (maskedCompress d (sharedAt (sharedList (now (x0 .entry)) (now (x1 .entry))))) rec (now (ws .entry)) (drop 13 (zip (d + 13) (sharedList (r .value .s0) (r .value .s1)))) (r .rec) ⌝ }
 {
     let n = d + 13;
     let a = fixed_points(rec, d, 0, x0);

@@ -4,7 +4,7 @@ ghost use Prim.Native.Nat.{_*_, _-_, _<_, _≤_};
 ghost use lib.ListN.{getD, length};
 ghost use Rattle.gadgets.specs.Coefficient;
 ghost use Rattle.gadgets.specs.Coefficient.{bitOf, conversions, sums};
-ghost use Rattle.gadgets.specs.Stored.{zip};
+ghost use Rattle.worksheet.specs.SharedList.{sharedList, zip};
 ghost use Rattle.words.specs.Bounded.{Below};
 ghost use Rattle.words.specs.Residue.{q};
 ghost use Rattle.worksheet.specs.Prog.{coeff};
@@ -35,7 +35,7 @@ fn weight(eta: usize, j: usize) -> u16
 
 fn convert_bits(rec: Recorder, eta: usize, b: Shares, cs: &[u16]) -> EnteredTerms
     requires { ⌜ (eta ≤ 3) × (2 * eta ≤ length (now cs)) × Below q (now cs) ⌝ }
-    ensures { λ r. ⌜ Draws coeff (2 * eta) (conversions eta (bitOf b)) rec (now (cs .entry)) (zip (2 * eta) (r .s0) (r .s1)) (r .rec) ⌝ }
+    ensures { λ r. ⌜ Draws coeff (2 * eta) (conversions eta (bitOf b)) rec (now (cs .entry)) (zip (2 * eta) (sharedList (r .s0) (r .s1))) (r .rec) ⌝ }
 {
     let mut rec = rec;
     let mut s0 = [0u16; 6];

@@ -8,7 +8,7 @@ use Rattle.worksheet.specs.Ran.{Ran}
 use Rattle.worksheet.specs.RanLoops.{chain-start, chain-turn}
 use Rattle.worksheet.specs.Sharing.{none}
 use Rattle.gadgets.specs.Adder.{at, carryStep}
-use Rattle.gadgets.specs.Stored.{zip, zip-set, getD-zip, zip-one}
+use Rattle.worksheet.specs.SharedList.{sharedList, zip, zip-set, getD-zip, zip-one}
 use Rattle.gadgets.proofs.Strip.{next-bits}
 use borrow.Author.Needs.{needs}
 use Rattle.gadgets.proofs.adder.carry_planes.Statement.{statement}
@@ -18,7 +18,7 @@ abbrev Inv-loop : tie.InvT-loop
 Inv-loop n ws a b rec₀ s0₀ s1₀ i₀ i-end rec s0 s1 i =
     (i-end + 1 ≡ n) × (i ≤ i-end) × (length s0 ≡ 24) × (length s1 ≡ 24)
     × ((cs : List ℕ)
-    → Ran (chain i (λ j c. carryStep (at (zip n (a .s0) (a .s1)) j) (at (zip n (b .s0) (b .s1)) j) c) none) rec₀ ws cs (zip (i + 1) s0 s1) rec (drop i ws) cs)
+    → Ran (chain i (λ j c. carryStep (at (zip n (sharedList (a .s0) (a .s1))) j) (at (zip n (sharedList (b .s0) (b .s1))) j) c) none) rec₀ ws cs (zip (i + 1) (sharedList s0 s1)) rec (drop i ws) cs)
 
 abbrev μ-loop : tie.MeasureT-loop
 μ-loop n ws a b rec₀ s0₀ s1₀ i₀ i-end rec s0 s1 i = i-end - i
@@ -41,8 +41,8 @@ loop-again c =
       simp length-set (omega arith),
       λ cs.
           rw (zip-set (l .s0) (l .s1) (l .i + 1) _ _ (omega arith) (omega arith))
-          (chain-turn _ _ (l .i) (l .inv .4 cs) (getD-zip (l .i + 1) (l .s0) (l .s1) (l .i) _ (omega arith))
-          (rw (getD-zip (g .n) (a .s0) (a .s1) (l .i) _ (omega arith), getD-zip (g .n) (b .s0) (b .s1) (l .i) _ (omega arith))
+          (chain-turn _ _ (l .i) (l .inv .4 cs) (getD-zip (l .i + 1) (sharedList (l .s0) (l .s1)) (l .i) _ (omega arith))
+          (rw (getD-zip (g .n) (sharedList (a .s0) (a .s1)) (l .i) _ (omega arith), getD-zip (g .n) (sharedList (b .s0) (b .s1)) (l .i) _ (omega arith))
           (next-bits 64 (g .ws .now) (l .i) (record { lt = omega (arith, o .before .shared-slice-known2 .given (l .i)) }) (o .carry-step .ensures)))),
     )
 

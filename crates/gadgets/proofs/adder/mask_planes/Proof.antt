@@ -6,7 +6,7 @@ use lib.ListN.{length, length-set, getD, drop}
 use Rattle.worksheet.specs.Ran.{Ran, bind, over, draws-word, next-word}
 use Rattle.worksheet.specs.RanLoops.{times-start, times-turn}
 use Rattle.gadgets.specs.Adder.{maskPlane, maskPlanes}
-use Rattle.gadgets.specs.Stored.{zip, zip-zero, zip-set}
+use Rattle.worksheet.specs.SharedList.{sharedList, zip, zip-zero, zip-set}
 use borrow.Author.Needs.{needs}
 use Rattle.gadgets.proofs.adder.mask_planes.Statement.{statement}
 use Rattle.gadgets.proofs.adder.mask_planes.Tie as tie
@@ -14,7 +14,7 @@ use Rattle.gadgets.proofs.adder.mask_planes.Tie as tie
 abbrev Inv-loop : tie.InvT-loop
 Inv-loop n ws x rec₀ s0₀ s1₀ i₀ rec s0 s1 i =
     (i ≤ n) × (length s0 ≡ 24) × (length s1 ≡ 24)
-    × ((cs : List ℕ) → Ran (maskPlanes i (λ j. getD x j 0)) rec₀ ws cs (zip i s0 s1) rec (drop i ws) cs)
+    × ((cs : List ℕ) → Ran (maskPlanes i (λ j. getD x j 0)) rec₀ ws cs (zip i (sharedList s0 s1)) rec (drop i ws) cs)
 
 abbrev μ-loop : tie.MeasureT-loop
 μ-loop n ws x rec₀ s0₀ s1₀ i₀ rec s0 s1 i = n - i

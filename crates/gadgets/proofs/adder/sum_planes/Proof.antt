@@ -7,7 +7,7 @@ use Rattle.worksheet.specs.Ran.{Ran, bind, over}
 use Rattle.worksheet.specs.RanLoops.{times-start, times-turn}
 use Rattle.worksheet.specs.Prog.{times}
 use Rattle.gadgets.specs.Adder.{at, sumPlane}
-use Rattle.gadgets.specs.Stored.{zip, zip-zero, zip-set, getD-zip}
+use Rattle.worksheet.specs.SharedList.{sharedList, zip, zip-zero, zip-set, getD-zip}
 use borrow.Author.Needs.{needs}
 use Rattle.gadgets.proofs.adder.sum_planes.Statement.{statement}
 use Rattle.gadgets.proofs.adder.sum_planes.Tie as tie
@@ -16,7 +16,7 @@ abbrev Inv-loop : tie.InvT-loop
 Inv-loop n a b c rec₀ s0₀ s1₀ i₀ rec s0 s1 i =
     (i ≤ n) × (length s0 ≡ 24) × (length s1 ≡ 24)
     × ((ws cs : List ℕ)
-    → Ran (times i (λ j. sumPlane (at (zip n (a .s0) (a .s1)) j) (at (zip n (b .s0) (b .s1)) j) (at (zip n (c .s0) (c .s1)) j))) rec₀ ws cs (zip i s0 s1) rec ws cs)
+    → Ran (times i (λ j. sumPlane (at (zip n (sharedList (a .s0) (a .s1))) j) (at (zip n (sharedList (b .s0) (b .s1))) j) (at (zip n (sharedList (c .s0) (c .s1))) j))) rec₀ ws cs (zip i (sharedList s0 s1)) rec ws cs)
 
 abbrev μ-loop : tie.MeasureT-loop
 μ-loop n a b c rec₀ s0₀ s1₀ i₀ rec s0 s1 i = n - i
@@ -42,7 +42,7 @@ loop-again c =
       λ ws cs.
           rw (zip-set (l .s0) (l .s1) (l .i) _ _ (omega arith) (omega arith))
           (times-turn _ (l .i) (l .inv .3 ws cs)
-          (rw (getD-zip (g .n) (a .s0) (a .s1) (l .i) _ h, getD-zip (g .n) (b .s0) (b .s1) (l .i) _ h, getD-zip (g .n) (d .s0) (d .s1) (l .i) _ h)
+          (rw (getD-zip (g .n) (sharedList (a .s0) (a .s1)) (l .i) _ h, getD-zip (g .n) (sharedList (b .s0) (b .s1)) (l .i) _ h, getD-zip (g .n) (sharedList (d .s0) (d .s1)) (l .i) _ h)
           (bind _ (e1 .enter-xor3 .ensures _ _) (bind _ (e2 .enter-xor32 .ensures _ _) over)))),
     )
 

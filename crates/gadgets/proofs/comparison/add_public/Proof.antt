@@ -7,7 +7,7 @@ use lib.Seq.{getD-set-other}
 use Rattle.worksheet.specs.Ran.{Ran, bind, over}
 use Rattle.worksheet.specs.RanLoops.{times-start, times-turn}
 use Rattle.gadgets.specs.Comparison.{addPublic}
-use Rattle.gadgets.specs.Stored.{sharesAt, zip, zip-zero, zip-set0}
+use Rattle.worksheet.specs.SharedList.{sharedList, sharedAt, zip, zip-zero, zip-set0}
 use borrow.Author.Needs.{needs}
 use Rattle.gadgets.proofs.comparison.add_public.Statement.{statement}
 use Rattle.gadgets.proofs.comparison.add_public.Tie as tie
@@ -15,7 +15,7 @@ use Rattle.gadgets.proofs.comparison.add_public.Tie as tie
 abbrev Inv-loop : tie.InvT-loop
 Inv-loop c w0₀ rec₀ j₀ j-end w0 rec j =
     (j-end ≡ length c) × (j ≤ j-end) × (length w0 ≡ length w0₀) × ((k : ℕ) → j ≤ k → getD w0 k 0 ≡ getD w0₀ k 0)
-    × ((w1 ws cs : List ℕ) → Ran (addPublic j (λ k. getD c k 0) (sharesAt w0₀ w1)) rec₀ ws cs (zip j w0 w1) rec ws cs)
+    × ((w1 ws cs : List ℕ) → Ran (addPublic j (λ k. getD c k 0) (sharedAt (sharedList w0₀ w1))) rec₀ ws cs (zip j (sharedList w0 w1)) rec ws cs)
 
 abbrev μ-loop : tie.MeasureT-loop
 μ-loop c w0₀ rec₀ j₀ j-end w0 rec j = j-end - j

@@ -7,14 +7,14 @@ use Rattle.words.specs.Word.{ones}
 use Rattle.worksheet.specs.Ran.{Ran}
 use Rattle.worksheet.specs.RanLoops.{loop-start, loop-turn}
 use Rattle.gadgets.specs.Comparison.{foldOr}
-use Rattle.gadgets.specs.Stored.{sharesAt}
+use Rattle.worksheet.specs.SharedList.{sharedList, sharedAt}
 use Rattle.gadgets.proofs.Strip.{next-bits}
 use borrow.Author.Needs.{needs}
 use Rattle.gadgets.proofs.comparison.fold_or.Statement.{statement}
 use Rattle.gadgets.proofs.comparison.fold_or.Tie as tie
 
 abbrev Inv-loop : tie.InvT-loop
-Inv-loop n w0 w1 ws rec₀ acc₀ j₀ rec acc j = (j ≤ n) × ((cs : List ℕ) → Ran (foldOr j (sharesAt w0 w1)) rec₀ ws cs acc rec (drop j ws) cs)
+Inv-loop n w0 w1 ws rec₀ acc₀ j₀ rec acc j = (j ≤ n) × ((cs : List ℕ) → Ran (foldOr j (sharedAt (sharedList w0 w1))) rec₀ ws cs acc rec (drop j ws) cs)
 
 abbrev μ-loop : tie.MeasureT-loop
 μ-loop n w0 w1 ws rec₀ acc₀ j₀ rec acc j = n - j

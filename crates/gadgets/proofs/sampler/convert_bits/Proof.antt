@@ -7,7 +7,7 @@ use Rattle.worksheet.specs.Prog.{times}
 use Rattle.worksheet.specs.Ran.{Ran, next-coeff}
 use Rattle.worksheet.specs.RanLoops.{times-start, times-turn}
 use Rattle.gadgets.specs.Coefficient.{bitOf, bitToCoeff, weight}
-use Rattle.gadgets.specs.Stored.{zip, zip-zero, zip-set}
+use Rattle.worksheet.specs.SharedList.{sharedList, zip, zip-zero, zip-set}
 use borrow.Author.Needs.{needs}
 use Rattle.gadgets.proofs.sampler.convert_bits.Statement.{statement}
 use Rattle.gadgets.proofs.sampler.convert_bits.Tie as tie
@@ -15,7 +15,7 @@ use Rattle.gadgets.proofs.sampler.convert_bits.Tie as tie
 abbrev Inv-loop : tie.InvT-loop
 Inv-loop eta b cs rec₀ s0₀ s1₀ j₀ j-end rec s0 s1 j =
     (j-end ≡ 2 * eta) × (j ≤ j-end) × (length s0 ≡ 6) × (length s1 ≡ 6)
-    × ((ws : List ℕ) → Ran (times j (λ k. bitToCoeff (weight eta k) (bitOf b k))) rec₀ ws cs (zip j s0 s1) rec ws (drop j cs))
+    × ((ws : List ℕ) → Ran (times j (λ k. bitToCoeff (weight eta k) (bitOf b k))) rec₀ ws cs (zip j (sharedList s0 s1)) rec ws (drop j cs))
 
 abbrev μ-loop : tie.MeasureT-loop
 μ-loop eta b cs rec₀ s0₀ s1₀ j₀ j-end rec s0 s1 j = j-end - j
