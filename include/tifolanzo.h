@@ -21,6 +21,14 @@ uint32_t tifo_sha3_512(const uint8_t *in, size_t in_len, uint8_t *out, size_t ou
 uint32_t tifo_shake128(const uint8_t *in, size_t in_len, uint8_t *out, size_t out_len);
 uint32_t tifo_shake256(const uint8_t *in, size_t in_len, uint8_t *out, size_t out_len);
 
+/* SHA3-512 and SHAKE256 on two shares, which join by exclusive or. Both inputs have one length, both outputs one (SHA3-512: 64), and
+ * the masks are 25 words and 600 for each permutation that FIPS 202 runs: in_len / rate + 1 of them take the input in, at a rate of 72
+ * and 136 bytes, and (out_len - 1) / rate, rounded down, follow for an output that isn't empty. Any other length is refused (1). */
+uint32_t tifo_masked_sha3_512(const uint8_t *in0, size_t in0_len, const uint8_t *in1, size_t in1_len, const uint64_t *masks,
+                              size_t masks_len, uint8_t *out0, size_t out0_len, uint8_t *out1, size_t out1_len);
+uint32_t tifo_masked_shake256(const uint8_t *in0, size_t in0_len, const uint8_t *in1, size_t in1_len, const uint64_t *masks,
+                              size_t masks_len, uint8_t *out0, size_t out0_len, uint8_t *out1, size_t out1_len);
+
 #ifdef __cplusplus
 }
 #endif

@@ -2,6 +2,7 @@
 ghost use mathlib.Core.Path.{_≡_};
 ghost use lib.ListN.{length};
 ghost use Rattle.fips202.specs.Calls.{number, sizedAnswer, sizedOutput};
+ghost use Rattle.fips202.specs.MaskedCalls.{sha3-512Call, shake256Call};
 ghost use Rattle.fips202.specs.Sponge.{sha3-256, sha3-512, shake128, shake256};
 use fips202::Answer;
 
@@ -46,4 +47,34 @@ pub extern "C" fn tifo_shake256(input: &[u8], out: &mut [u8]) -> u32
 {
     fips202::shake256(input, out);
     0
+}
+
+#[no_mangle]
+pub extern "C" fn tifo_masked_sha3_512(
+    in0: &[u8],
+    in1: &[u8],
+    masks: &[u64],
+    out0: &mut [u8],
+    out1: &mut [u8],
+) -> u32
+    ensures { λ r. ⌜ r ≡ number (sha3-512Call (now (in0 .entry)) (now (in1 .entry)) (now (masks .entry)) (now (out0 .entry)) (now (out1 .entry)) .answer) ⌝ }
+    ensures { λ _. ⌜ now (out0 .exit) ≡ sha3-512Call (now (in0 .entry)) (now (in1 .entry)) (now (masks .entry)) (now (out0 .entry)) (now (out1 .entry)) .out0 ⌝ }
+    ensures { λ _. ⌜ now (out1 .exit) ≡ sha3-512Call (now (in0 .entry)) (now (in1 .entry)) (now (masks .entry)) (now (out0 .entry)) (now (out1 .entry)) .out1 ⌝ }
+{
+    refusal(fips202::masked_sha3_512(in0, in1, masks, out0, out1))
+}
+
+#[no_mangle]
+pub extern "C" fn tifo_masked_shake256(
+    in0: &[u8],
+    in1: &[u8],
+    masks: &[u64],
+    out0: &mut [u8],
+    out1: &mut [u8],
+) -> u32
+    ensures { λ r. ⌜ r ≡ number (shake256Call (now (in0 .entry)) (now (in1 .entry)) (now (masks .entry)) (now (out0 .entry)) (now (out1 .entry)) .answer) ⌝ }
+    ensures { λ _. ⌜ now (out0 .exit) ≡ shake256Call (now (in0 .entry)) (now (in1 .entry)) (now (masks .entry)) (now (out0 .entry)) (now (out1 .entry)) .out0 ⌝ }
+    ensures { λ _. ⌜ now (out1 .exit) ≡ shake256Call (now (in0 .entry)) (now (in1 .entry)) (now (masks .entry)) (now (out0 .entry)) (now (out1 .entry)) .out1 ⌝ }
+{
+    refusal(fips202::masked_shake256(in0, in1, masks, out0, out1))
 }

@@ -3,3 +3,4 @@ pub mod MaskedLanes
 pub mod MaskedBlocks
 pub mod Output
 pub mod MaskedOutput
+pub mod MaskedHash

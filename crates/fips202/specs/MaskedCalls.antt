@@ -19,24 +19,34 @@ maskedSha3-512 in0 in1 = maskedHash 72 0x06 in0 in1 64
 unfoldable pub maskedShake256 : List ℕ → List ℕ → ℕ → Prog SharedList
 maskedShake256 in0 in1 d = maskedHash 136 0x1f in0 in1 d
 
+-- a call's answer, and what its two outputs then hold
+pub record Outcome : Type 0 where
+  pub answer : Answer
+  pub out0 : List ℕ
+  pub out1 : List ℕ
+
+-- both outputs are as before
+abbrev pub refused : List ℕ → List ℕ → Outcome
+refused out0 out1 = record { answer = WrongLength; out0 = out0; out1 = out1 }
+
+-- the outputs are the shares of what p gives on the lent masks
+abbrev pub done : Prog SharedList → List ℕ → Outcome
+done p masks = let z = run p masks [] .value in record { answer = Done; out0 = z .s0; out1 = z .s1 }
+
 -- both inputs have one length, both outputs one, and there are 25 masks and 600 for each permutation
 abbrev pub exact : ℕ → List ℕ → List ℕ → List ℕ → List ℕ → List ℕ → Bool
 exact rate in0 in1 masks out0 out1 =
     eqb (length in0) (length in1)
     && (eqb (length out0) (length out1) && eqb (length masks) (25 + 600 * permutations rate (length in0) (length out0)))
 
-abbrev pub exactSha3-512 : List ℕ → List ℕ → List ℕ → List ℕ → List ℕ → Bool
-exactSha3-512 in0 in1 masks out0 out1 = eqb (length out0) 64 && exact 72 in0 in1 masks out0 out1
+abbrev pub hashCall : ℕ → ℕ → List ℕ → List ℕ → List ℕ → List ℕ → List ℕ → Outcome
+hashCall rate suffix in0 in1 masks out0 out1 =
+    cond (exact rate in0 in1 masks out0 out1) (done (maskedHash rate suffix in0 in1 (length out0)) masks) (refused out0 out1)
 
-abbrev pub exactShake256 : List ℕ → List ℕ → List ℕ → List ℕ → List ℕ → Bool
-exactShake256 in0 in1 masks out0 out1 = exact 136 in0 in1 masks out0 out1
+abbrev pub sha3-512Call : List ℕ → List ℕ → List ℕ → List ℕ → List ℕ → Outcome
+sha3-512Call in0 in1 masks out0 out1 =
+    cond (eqb (length out0) 64 && exact 72 in0 in1 masks out0 out1) (done (maskedSha3-512 in0 in1) masks) (refused out0 out1)
 
-abbrev pub answered : Bool → Answer
-answered ok = cond ok Done WrongLength
-
--- an output holds its share of what p gives on the lent masks, or what it held
-abbrev pub written0 : Bool → Prog SharedList → List ℕ → List ℕ → List ℕ
-written0 ok p masks out = cond ok (run p masks [] .value .s0) out
-
-abbrev pub written1 : Bool → Prog SharedList → List ℕ → List ℕ → List ℕ
-written1 ok p masks out = cond ok (run p masks [] .value .s1) out
+abbrev pub shake256Call : List ℕ → List ℕ → List ℕ → List ℕ → List ℕ → Outcome
+shake256Call in0 in1 masks out0 out1 =
+    cond (exact 136 in0 in1 masks out0 out1) (done (maskedShake256 in0 in1 (length out0)) masks) (refused out0 out1)

@@ -9,9 +9,13 @@ use crate::squeeze::squeeze;
 
 mod absorb; // a message taken in
 mod bytes; // a lane and its bytes
+pub mod masked; // SHA3-512 and SHAKE256 on two shares
 pub mod masked_absorb; // a message taken in on two shares
 pub mod masked_squeeze; // output given out on two shares
 mod squeeze; // output given out
+
+pub use masked::masked_sha3_512;
+pub use masked::masked_shake256;
 
 // A call's answer; specs/Calls.antt gives document 01's number for each.
 pub enum Answer {
