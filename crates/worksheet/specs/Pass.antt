@@ -83,6 +83,11 @@ module _ {A B : Type 0} (R : Bool → A → B → Type 0) (n : ℕ) (f g : A →
       coupled-bind (coupled-entries n (element (f a)) (element (f′ b))) (λ x x′ r.
       coupled-map _ _ (λ y y′ t. s x x′ y y′ r t) (coupled-entries n (element (g a)) (element (g′ b))))
 
+  pub coupled-pass : (c : Bool) (a : A) (b : B) → R c a b
+      → Coupled (SameShare c) (n * 1 + n * 1) (enterBoth n (f a) (g a)) (enterBoth n (f′ b) (g′ b))
+  coupled-pass false a b r = coupled-both a b (λ x x′ y y′ o u. record { same = outcomes-same o (same0 a b r) })
+  coupled-pass true a b r = coupled-both a b (λ x x′ y y′ o u. record { same = outcomes-same u (same1 a b r) })
+
   abbrev Entry : ℕ → Type 0
   Entry i = (c : Bool) × ((a : A) (b : B) → R c a b → SameAt i (enterBoth n (f a) (g a)) (enterBoth n (f′ b) (g′ b)))
 
@@ -105,11 +110,5 @@ module _ {A B : Type 0} (R : Bool → A → B → Type 0) (n : ℕ) (f g : A →
                   sameAt-right (like-entries n (element (f a)) (element (f′ b))) (λ x x′ t.
                   sameAt-map _ _ (silent-entries n (element (g a)) (element (g′ b)) (same-element (same1 a b r) n) i h)),
             ));
-        fresh = fresh;
+        fresh = λ c. (c, coupled-pass c);
       }
-    where
-      fresh : (c : Bool) → (e : Bool)
-          × ((a : A) (b : B) → R e a b
-          → Coupled (SameShare c) (n * 1 + n * 1) (enterBoth n (f a) (g a)) (enterBoth n (f′ b) (g′ b)))
-      fresh false = (false, λ a b r. coupled-both a b (λ x x′ y y′ o u. record { same = outcomes-same o (same0 a b r) }))
-      fresh true = (true, λ a b r. coupled-both a b (λ x x′ y y′ o u. record { same = outcomes-same u (same1 a b r) }))

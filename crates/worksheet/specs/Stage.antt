@@ -2,10 +2,12 @@
 use Prim.Native.Nat.{ℕ, zero, suc, _+_, _*_, _<_}
 use native.Mathlib.Nat.{zero-mul, suc-mul}
 use native.Mathlib.Omega.{arith}
-use Rattle.worksheet.specs.Prog.{Prog, ret, _>>=_, loop}
-use Rattle.worksheet.specs.Couple.{Coupled, ret-c, Like, SameAt}
+use Rattle.worksheet.specs.Prog.{Prog, ret, _>>=_, loop, times, bind-assoc}
+use Rattle.worksheet.specs.Couple.{Coupled, ret-c, Any, Like, SameAt}
 use Rattle.worksheet.specs.Couple.{coupled-bind, coupled-map, sameAt-left, sameAt-right, sameAt-map}
-use Rattle.worksheet.specs.Places.{cut}
+use Rattle.worksheet.specs.CoupleLoops.{coupled-times, like-times, sameAt-times}
+use Rattle.worksheet.specs.Places.{cut, turns}
+use Rattle.worksheet.specs.Turns.{Turns}
 
 -- for some choice R e of how what comes in is related, entry i is equal
 abbrev pub EqualAt : {A B C D E : Type 0} → (E → A → B → Type 0) → (A → Prog C) → (B → Prog D) → ℕ → Type 0
@@ -90,3 +92,60 @@ comap Q g g′ k h s =
       entry = λ i l. let x = s .entry i l in (k (x .0), λ a b r. x .1 (g a) (g′ b) (h (x .0) a b r));
       fresh = λ d. let x = s .fresh d in (k (x .0), λ a b r. x .1 (g a) (g′ b) (h (x .0) a b r));
     }
+
+-- what goes out, rearranged
+pub rearrange : {A B C D G H E F K : Type 0} {R : E → A → B → Type 0} {S : F → C → D → Type 0} {m : ℕ}
+    {f : A → Prog C} {f′ : B → Prog D}
+    (Q : K → G → H → Type 0) (g : C → G) (g′ : D → H) (k : K → F)
+    → ((d : K) (x : C) (y : D) → S (k d) x y → Q d (g x) (g′ y)) → Stage R S m f f′
+    → Stage R Q m (λ a. f a >>= λ c. ret (g c)) (λ b. f′ b >>= λ c. ret (g′ c))
+rearrange Q g g′ k h s =
+    record {
+      like = λ a b. coupled-map _ _ (λ c d u. u) (s .like a b);
+      entry = λ i l. let x = s .entry i l in (x .0, λ a b r. sameAt-map _ _ (x .1 a b r));
+      fresh = λ d. let x = s .fresh (k d) in (x .0, λ a b r. coupled-map _ _ (h d) (x .1 a b r));
+    }
+
+-- ---- what is live goes on to the second part
+
+module _ {A B C D G H I J E F K L : Type 0} {R : E → A → B → Type 0} {S : F → C → D → Type 0} {Q : K → G → H → Type 0}
+    {U : L → I → J → Type 0} {m n : ℕ} {f : A → Prog C} {f′ : B → Prog D} {g : C × G → Prog I} {g′ : D × H → Prog J} where
+  -- what is kept beside the first part
+  pub andBeside : (k : K) → Stage R S m f f′ → Stage (Beside S Q) U n g g′
+      → Stage (Beside R Q) U (m + n) (λ a. f (a .0) >>= λ c. g (c, a .1)) (λ b. f′ (b .0) >>= λ d. g′ (d, b .1))
+  unfolding _>>=_
+  andBeside k s t =
+      let x = andThen (frame {Q = Q} k s) t in
+      record {
+        like = λ a b. rw (bind-assoc (f (a .0)), bind-assoc (f′ (b .0))) at (x .like a b);
+        entry = λ i l.
+            let y = x .entry i l in
+            (y .0, λ a b r. rw (bind-assoc (f (a .0)), bind-assoc (f′ (b .0))) at (y .1 a b r));
+        fresh = λ d.
+            let y = x .fresh d in
+            (y .0, λ a b r. rw (bind-assoc (f (a .0)), bind-assoc (f′ (b .0))) at (y .1 a b r));
+      }
+
+-- all that comes in, where the first part asks nothing of it
+pub andAlso : {A B C D I J F K L : Type 0} {S : F → C → D → Type 0} {Q : K → A → B → Type 0} {U : L → I → J → Type 0} {m n : ℕ}
+    {f : A → Prog C} {f′ : B → Prog D} {g : C × A → Prog I} {g′ : D × B → Prog J}
+    (k : K) → Stage (λ (e : Unit {0}). Any) S m f f′ → Stage (Beside S Q) U n g g′
+    → Stage Q U (m + n) (λ a. f a >>= λ c. g (c, a)) (λ b. f′ b >>= λ d. g′ (d, b))
+andAlso {Q = Q} k s t =
+    comap Q (λ a. (a, a)) (λ b. (b, b)) (λ e. e .1) (λ e a b r. record { main = tt; side = r }) (andBeside k s t)
+
+-- ---- n turns on what comes in, of which one choice serves them all
+
+module _ {A B C D E F K : Type 0} {R : E → A → B → Type 0} {S : F → C → D → Type 0} (Q : K → ℕ → C → D → Type 0) (n : ℕ) {m : ℕ}
+    {f : ℕ → A → Prog C} {f′ : ℕ → B → Prog D} where
+  pub times-stage : ((j : ℕ) → j < n → Stage R S m (f j) (f′ j))
+      → ((d : K) → (e : E) × ((a : A) (b : B) → R e a b → (j : ℕ) → j < n → Coupled (Q d j) m (f j a) (f′ j b)))
+      → Stage R (λ d. Turns (Q d) n) (n * m) (λ a. times n (λ j. f j a)) (λ b. times n (λ j. f′ j b))
+  times-stage s c =
+      record {
+        like = λ a b. like-times n (λ j h. s j h .like a b);
+        entry =
+            turns (EqualAt R (λ a. times n (λ j. f j a)) (λ b. times n (λ j. f′ j b))) n m (λ j i h l.
+            let x = s j h .entry i l in (x .0, λ a b r. sameAt-times n j (λ j h. s j h .like a b) h (x .1 a b r)));
+        fresh = λ d. let x = c d in (x .0, λ a b r. coupled-times n (x .1 a b r));
+      }
