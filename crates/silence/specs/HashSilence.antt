@@ -1,0 +1,51 @@
+-- The hash of four shared words and a public string, as a stage: nothing is asked of the words.
+use Prim.Native.Nat.{ℕ, _+_, _-_, _*_, _/_, _<_, _≤_}
+use mathlib.Core.Path.{_≡_, refl, _∙_}
+use mathlib.Core.List.{List, [], _∷_, _++_}
+use native.Mathlib.Omega.{arith}
+use lib.ListN.{length, getD, replicate, length-append}
+use Rattle.words.specs.Bounded.{Below, below-nil, below-append, below-zeros}
+use Rattle.words.specs.Numeral.{digits, length-digits, below-digits}
+use Rattle.words.specs.Tab.{length-tab}
+use Rattle.worksheet.specs.Stage.{Stage, comap}
+use Rattle.worksheet.specs.SharedList.{SharedList}
+use Rattle.worksheet.specs.Choice.{KeptShared}
+use Rattle.fips202.specs.MaskedSpongeSilence.{SharedBytes, maskedSponge-stage}
+use Rattle.gadgets.specs.PolynomialSilence.{Anything}
+use Rattle.mlkem.specs.Worksheet.{bytesOf, four, hashShared}
+
+length-bytesOf : (l : List ℕ) → length (bytesOf l) ≡ 8 * length l
+unfolding bytesOf
+length-bytesOf [] = refl
+length-bytesOf (w ∷ l) =
+    length-append (digits 256 8 w) (bytesOf l) ∙ omega (arith, length-digits 256 8 w, length-bytesOf l)
+
+below-bytesOf : (l : List ℕ) → Below 256 (bytesOf l)
+unfolding bytesOf
+below-bytesOf [] = below-nil (omega arith)
+below-bytesOf (w ∷ l) = below-append (digits 256 8 w) (below-digits 256 8 w (omega arith)) (below-bytesOf l)
+
+-- the entries of a hash of len bytes with n words of output
+abbrev pub hashEntries : ℕ → ℕ → ℕ → ℕ
+hashEntries rate len n = (len / rate + 1) * (rate / 8 * 2 + 7824) + (n - 1) / (rate / 8) * 7824
+
+module _ (len : ℕ) (public : List ℕ) (long : length public ≡ len) (bytes : Below 256 public) where
+  abbrev inputs : SharedList → SharedBytes (32 + len)
+  inputs w =
+      record {
+        in0 = bytesOf (four (w .s0)) ++ public;
+        in1 = bytesOf (four (w .s1)) ++ replicate (length public) 0;
+        long =
+            length-append (bytesOf (four (w .s0))) public
+            ∙ omega (arith, length-bytesOf (four (w .s0)), length-tab 4 (λ i. getD (w .s0) i 0));
+        below0 = below-append (bytesOf (four (w .s0))) (below-bytesOf (four (w .s0))) bytes;
+        below1 =
+            below-append (bytesOf (four (w .s1))) (below-bytesOf (four (w .s1))) (below-zeros (length public) (omega arith));
+      }
+
+  pub hashShared-stage : (rate suffix : ℕ) → suffix < 128 → 8 ≤ rate → rate ≤ 200 → (n : ℕ)
+      → Stage Anything (KeptShared n) (hashEntries rate (32 + len) n) (λ w. hashShared rate suffix w public n)
+      (λ w. hashShared rate suffix w public n)
+  unfolding hashShared
+  hashShared-stage rate suffix h l u n =
+      comap Anything inputs inputs (λ e. e) (λ e a b r. tt) (maskedSponge-stage rate suffix (32 + len) h l u n)
