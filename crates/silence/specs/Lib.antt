@@ -6,3 +6,4 @@ pub mod DecryptionSilence
 pub mod NoiseSilence
 pub mod ReencryptionSilence
 pub mod PlanesSilence
+pub mod WorksheetSilence

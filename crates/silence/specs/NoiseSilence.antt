@@ -61,8 +61,8 @@ module _ (p : Parameters) where
     pub e1 : Turns (λ j. SameShare c) (p .k) (n .e1) (n′ .e1)
     pub e2 : SameShare c (n .e2) (n′ .e2)
 
-  abbrev pub entries5 : ℕ
-  entries5 = p .k * noiseEntries (p .eta1) + (p .k * noiseEntries (p .eta2) + (noiseEntries (p .eta2) + 0))
+  abbrev pub noisesEntries : ℕ
+  noisesEntries = p .k * noiseEntries (p .eta1) + (p .k * noiseEntries (p .eta2) + (noiseEntries (p .eta2) + 0))
 
   abbrev Live : Type 0
   Live = List SharedList × (List SharedList × SharedList)
@@ -73,7 +73,7 @@ module _ (p : Parameters) where
   abbrev SamePolys : Bool → List SharedList → List SharedList → Type 0
   SamePolys c = Turns (λ j. SameShare c) (p .k)
 
-  pub stage5-stage : Fits p → Stage Anything SameNoise entries5 (stage5 p) (stage5 p)
+  pub stage5-stage : Fits p → Stage Anything SameNoise noisesEntries (stage5 p) (stage5 p)
   unfolding stage5
   stage5-stage f =
       andAlso tt (noisePolys-stage (p .eta1) (p .k) (λ n. n) (f .eta1) (λ j h. omega (arith, f .rank)))
