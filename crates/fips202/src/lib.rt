@@ -8,7 +8,7 @@ use crate::absorb::absorb;
 use crate::squeeze::squeeze;
 
 mod absorb; // a message taken in
-mod bytes; // a lane and its bytes
+pub mod bytes; // a lane and its bytes
 pub mod masked; // SHA3-512 and SHAKE256 on two shares
 pub mod masked_absorb; // a message taken in on two shares
 pub mod masked_squeeze; // output given out on two shares

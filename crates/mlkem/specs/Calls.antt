@@ -2,15 +2,14 @@
 use mathlib.Core.Bool.{Bool, not}
 use mathlib.Core.List.{List, [], _∷_, _++_}
 use Prim.Native.Nat.{ℕ, _+_, _-_, _*_, _%_}
-use lib.Dec.{leb}
-use lib.ListN.{getD, length, take, drop}
+use lib.ListN.{getD, take, drop}
 use Rattle.words.specs.Word.{xor}
 use Rattle.words.specs.Residue.{q}
 use Rattle.fips202.specs.Sponge.{laneOf}
 use Rattle.words.specs.Tab.{tab}
 use Rattle.words.specs.Table.{every}
 use Rattle.ring.specs.Bytes.{byteDecode}
-use Rattle.ring.specs.Sample.{accepted}
+use Rattle.ring.specs.Sample.{full}
 use Rattle.mlkem.specs.declared.Answer.{Answer}
 use Rattle.mlkem.specs.declared.Answer.the-variants.{WrongLength, PublicKeyRange, WrongHash, SecretRange, MaskRange, ShortStream}
 use Rattle.mlkem.specs.Parameters.{Parameters, vectorBytes, ekBytes, dkBytes, ctBytes}
@@ -19,23 +18,19 @@ use Rattle.mlkem.specs.KPke.{parts, concat}
 use Rattle.mlkem.specs.MlKem.{same, secretPart, publicPart, hashPart, zPart}
 use Rattle.mlkem.specs.Refusals.{row, answer, lent, sized, reduced}
 
--- a stream of 840 bytes yields 256 coefficients
-abbrev pub full : List ℕ → Bool
-full stream = leb 256 (length (accepted 280 stream))
-
 -- sampling
 unfoldable pub sampleAnswer : List ℕ → List ℕ → Answer
 sampleAnswer stream out = answer (row (not (sized (lent stream 840 ∷ lent out 256 ∷ []))) WrongLength ∷ row (not (full stream)) ShortStream ∷ [])
 
+-- each of the matrix's streams yields 256 coefficients
+unfoldable pub matrixFull : ℕ → List ℕ → Bool
+matrixFull k rho = every k (λ i. every k (λ j. full (XOF rho i j)))
+
+-- the coefficients that an encoded vector holds, as they stand
+unfoldable pub coefficients : ℕ → List ℕ → List ℕ
+coefficients k b = concat k (λ i. byteDecode 12 (parts 384 b i))
+
 module _ (p : Parameters) where
-  -- each of the matrix's streams yields 256 coefficients
-  unfoldable pub matrixFull : List ℕ → Bool
-  matrixFull rho = every (p .k) (λ i. every (p .k) (λ j. full (XOF rho i j)))
-
-  -- the coefficients that an encoded vector holds, as they stand
-  unfoldable pub coefficients : List ℕ → List ℕ
-  coefficients b = concat (p .k) (λ i. byteDecode 12 (parts 384 b i))
-
   abbrev pub rhoOf : List ℕ → List ℕ
   rhoOf ek = drop (vectorBytes p) ek
 
@@ -44,7 +39,7 @@ module _ (p : Parameters) where
   keyGenAnswer d z ek dk =
       answer
       (row (not (sized (lent d 32 ∷ lent z 32 ∷ lent ek (ekBytes p) ∷ lent dk (dkBytes p) ∷ []))) WrongLength
-      ∷ row (not (matrixFull (G₁ (d ++ p .k ∷ [])))) ShortStream
+      ∷ row (not (matrixFull (p .k) (G₁ (d ++ p .k ∷ [])))) ShortStream
       ∷ [])
 
   -- encapsulation
@@ -52,8 +47,8 @@ module _ (p : Parameters) where
   encapsAnswer ek m ct k =
       answer
       (row (not (sized (lent ek (ekBytes p) ∷ lent m 32 ∷ lent ct (ctBytes p) ∷ lent k 32 ∷ []))) WrongLength
-      ∷ row (not (reduced (coefficients (take (vectorBytes p) ek)))) PublicKeyRange
-      ∷ row (not (matrixFull (rhoOf ek))) ShortStream
+      ∷ row (not (reduced (coefficients (p .k) (take (vectorBytes p) ek)))) PublicKeyRange
+      ∷ row (not (matrixFull (p .k) (rhoOf ek))) ShortStream
       ∷ [])
 
   -- ---- import
@@ -78,15 +73,15 @@ module _ (p : Parameters) where
       (lent (b .dk) (dkBytes p) ∷ lent (b .maskCoeffs) (256 * p .k) ∷ lent (b .maskWords) 4 ∷ lent (b .s0) (256 * p .k)
       ∷ lent (b .s1) (256 * p .k) ∷ lent (b .z0) 4 ∷ lent (b .z1) 4 ∷ lent (b .pub-h) (ekBytes p + 32) ∷ [])))
       WrongLength
-      ∷ row (not (reduced (coefficients (take (vectorBytes p) (publicPart p (b .dk)))))) PublicKeyRange
+      ∷ row (not (reduced (coefficients (p .k) (take (vectorBytes p) (publicPart p (b .dk)))))) PublicKeyRange
       ∷ row (not (same (hashPart p (b .dk)) (H (publicPart p (b .dk))))) WrongHash
-      ∷ row (not (reduced (coefficients (secretPart p (b .dk))))) SecretRange
+      ∷ row (not (reduced (coefficients (p .k) (secretPart p (b .dk))))) SecretRange
       ∷ row (not (reduced (b .maskCoeffs))) MaskRange
       ∷ [])
 
   -- the second shares, for the first shares a of the secret and w of z
   unfoldable pub secondCoeffs : List ℕ → List ℕ → List ℕ
-  secondCoeffs dk a = tab (256 * p .k) (λ i. (getD (coefficients (secretPart p dk)) i 0 + (q - getD a i 0)) % q)
+  secondCoeffs dk a = tab (256 * p .k) (λ i. (getD (coefficients (p .k) (secretPart p dk)) i 0 + (q - getD a i 0)) % q)
 
   unfoldable pub secondWords : List ℕ → List ℕ → List ℕ
   secondWords dk w = tab 4 (λ i. xor (laneOf (zPart p dk) i) (getD w i 0))

@@ -33,6 +33,18 @@ matrix rho i j = sampleNtt (XOF rho i j)
 abbrev pub noise : ℕ → List ℕ → ℕ → List ℕ
 noise eta seed n = samplePolyCbd eta (PRF eta seed n)
 
+-- Algorithm 13, line 18: row i, for the matrix a, the secret s and the error e
+unfoldable pub publicPolynomial : ℕ → (ℕ → ℕ → List ℕ) → (ℕ → List ℕ) → (ℕ → List ℕ) → ℕ → List ℕ
+publicPolynomial k a s e i = add (dot k (a i) s) (e i)
+
+-- Algorithm 14, line 19: row i of the transposed matrix; eta is the noise's width
+unfoldable pub firstPart : ℕ → ℕ → (ℕ → ℕ → List ℕ) → (ℕ → List ℕ) → List ℕ → ℕ → List ℕ
+firstPart k eta a y r i = add (inverseNtt (dot k (λ j. a j i) y)) (noise eta r (k + i))
+
+-- lines 17, 20 and 21, for the public vector t
+unfoldable pub secondPart : ℕ → ℕ → (ℕ → List ℕ) → (ℕ → List ℕ) → List ℕ → List ℕ → List ℕ
+secondPart k eta t y m r = add (add (inverseNtt (dot k t y)) (noise eta r (2 * k))) (map (decompress 1) (byteDecode 1 m))
+
 module _ (p : Parameters) where
   -- ---- Algorithm 13, K-PKE.KeyGen(d)
 
@@ -47,7 +59,7 @@ module _ (p : Parameters) where
   unfoldable pub ekPke : List ℕ → List ℕ
   ekPke d =
       let rho = G₁ (d ++ p .k ∷ []) in
-      concat (p .k) (λ i. byteEncode 12 (add (dot (p .k) (matrix rho i) (secretVector d)) (errorVector d i))) ++ rho
+      concat (p .k) (λ i. byteEncode 12 (publicPolynomial (p .k) (matrix rho) (secretVector d) (errorVector d) i)) ++ rho
 
   -- line 20
   unfoldable pub dkPke : List ℕ → List ℕ
@@ -59,23 +71,16 @@ module _ (p : Parameters) where
   unfoldable pub ephemeral : List ℕ → ℕ → List ℕ
   ephemeral r i = ntt (noise (p .eta1) r i)
 
-  -- line 19: row i of the transposed matrix
-  unfoldable pub firstPart : List ℕ → List ℕ → ℕ → List ℕ
-  firstPart ek r i =
-      let rho = drop (vectorBytes p) ek in
-      add (inverseNtt (dot (p .k) (λ j. matrix rho j i) (ephemeral r))) (noise (p .eta2) r (p .k + i))
-
-  -- lines 2, 17, 20 and 21
-  unfoldable pub secondPart : List ℕ → List ℕ → List ℕ → List ℕ
-  secondPart ek m r =
-      let t : ℕ → List ℕ = λ j. byteDecode12 (parts 384 ek j) in
-      add (add (inverseNtt (dot (p .k) t (ephemeral r))) (noise (p .eta2) r (2 * p .k))) (map (decompress 1) (byteDecode 1 m))
+  -- line 2
+  unfoldable pub publicVector : List ℕ → ℕ → List ℕ
+  publicVector ek j = byteDecode12 (parts 384 ek j)
 
   -- lines 22 to 24
   unfoldable pub encrypt : List ℕ → List ℕ → List ℕ → List ℕ
   encrypt ek m r =
-      concat (p .k) (λ i. byteEncode (p .du) (map (compress (p .du)) (firstPart ek r i)))
-      ++ byteEncode (p .dv) (map (compress (p .dv)) (secondPart ek m r))
+      let rho = drop (vectorBytes p) ek in
+      concat (p .k) (λ i. byteEncode (p .du) (map (compress (p .du)) (firstPart (p .k) (p .eta2) (matrix rho) (ephemeral r) r i)))
+      ++ byteEncode (p .dv) (map (compress (p .dv)) (secondPart (p .k) (p .eta2) (publicVector ek) (ephemeral r) m r))
 
   -- ---- Algorithm 15, K-PKE.Decrypt(dk, c)
 

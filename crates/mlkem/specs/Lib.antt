@@ -1,8 +1,11 @@
 pub mod Parameters
 pub mod Functions
 pub mod KPke
+pub mod VectorLaws
 pub mod MlKem
 pub mod Refusals
+pub mod TestLaws
 pub mod Calls
 pub mod Worksheet
 pub mod Split
+pub mod Expanded

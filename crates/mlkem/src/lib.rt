@@ -1,4 +1,18 @@
 // ML-KEM-768 (FIPS 203).
+mod copy;
+mod encapsulation;
+mod encrypt;
+mod hashes;
+mod key_making;
+mod matrix;
+mod noise;
+mod sampling;
+mod tests;
+mod vector;
+
+pub use encapsulation::encaps;
+pub use key_making::keygen;
+pub use sampling::sample;
 
 // A call's answer; specs/Refusals.antt gives document 01's number for each.
 pub enum Answer {

@@ -6,6 +6,7 @@ pub mod Tab
 pub mod Iterate
 pub mod Part
 pub mod Fill
+pub mod Overwrite
 pub mod Table
 pub mod Bounded
 pub mod Numeral

@@ -1,0 +1,24 @@
+// Sampling from a lent stream.
+ghost use mathlib.Core.Path.{_≡_};
+ghost use Rattle.ring.specs.Sample.{sampleNtt};
+ghost use Rattle.mlkem.specs.Refusals.{after};
+ghost use Rattle.mlkem.specs.Calls.{sampleAnswer};
+use crate::Answer;
+use ring::Sampled;
+use ring::sample_ntt;
+
+pub fn sample(stream: &[u8], out: &mut [u16]) -> Answer
+    ensures { λ r. ⌜ r ≡ sampleAnswer (now (stream .entry)) (now (out .entry)) ⌝ }
+    ensures { λ r. ⌜ now (out .exit) ≡ after r (sampleNtt (now (stream .entry))) (now (out .entry)) ⌝ }
+{
+    if stream.len() != 840 {
+        return Answer::WrongLength;
+    }
+    if out.len() != 256 {
+        return Answer::WrongLength;
+    }
+    match sample_ntt(stream, out) {
+        Sampled::Full => Answer::Done,
+        Sampled::Short => Answer::ShortStream,
+    }
+}
