@@ -32,7 +32,7 @@ pub transformed-at : (eta k : ℕ) (seed : List ℕ) {v : List ℕ} → v ≡ co
 transformed-at eta k seed e i h = ap (λ (l : List ℕ). parts 256 l i) e ∙ parts-concat (each-transformed eta k seed) i h
 
 pub below-transformed : (eta k : ℕ) (seed : List ℕ) → Below q (concat k (λ i. ntt (noise eta seed i)))
-below-transformed eta k seed = below-concat k (omega arith) (λ i. ntt-linear {n = 256} .below (noise eta seed i) (below-samplePolyCbd eta (PRF eta seed i)))
+below-transformed eta k seed = below-concat k (omega arith) (λ i. ntt-linear {n = 256} .below (noise eta seed i) (length-samplePolyCbd eta (PRF eta seed i)) (below-samplePolyCbd eta (PRF eta seed i)))
 
 length-byteDecode12 : (b : List ℕ) → length (byteDecode12 b) ≡ 256
 unfolding byteDecode12

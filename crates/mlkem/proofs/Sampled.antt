@@ -3,7 +3,7 @@ use mathlib.Core.Path.{_≡_, refl, sym, _∙_}
 use mathlib.Core.Bool.{Bool, true, false}
 use Rattle.ring.specs.declared.sampling.Sampled.{Sampled}
 use Rattle.ring.specs.declared.sampling.Sampled.the-variants.{Full, Short}
-use Rattle.ring.specs.Collect.{answerOf}
+use Rattle.ring.specs.Sample.{answerOf}
 
 pub full-true : (b : Bool) {r : Sampled} → r ≡ Full → r ≡ answerOf b → b ≡ true
 full-true true e h = refl

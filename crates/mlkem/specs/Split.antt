@@ -17,9 +17,9 @@ module _ (p : Parameters) where
   unfoldable pub accepted : List ℕ → Bool
   accepted dk =
       eqb (length dk) (dkBytes p)
-      && reduced (coefficients p (take (vectorBytes p) (publicPart p dk)))
+      && reduced (coefficients (p .k) (take (vectorBytes p) (publicPart p dk)))
       && same (hashPart p dk) (H (publicPart p dk))
-      && reduced (coefficients p (secretPart p dk))
+      && reduced (coefficients (p .k) (secretPart p dk))
 
   -- with the first shares a of the secret and w of z
   unfoldable pub split : List ℕ → List ℕ → List ℕ → SplitKey
