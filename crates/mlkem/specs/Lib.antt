@@ -7,5 +7,6 @@ pub mod Refusals
 pub mod TestLaws
 pub mod Calls
 pub mod Worksheet
+pub mod WorksheetUses
 pub mod Split
 pub mod Expanded

@@ -1,24 +1,18 @@
 -- The hash of four shared words and a public string, as a stage: nothing is asked of the words.
 use Prim.Native.Nat.{ℕ, _+_, _-_, _*_, _/_, _<_, _≤_}
-use mathlib.Core.Path.{_≡_, refl, _∙_}
+use mathlib.Core.Path.{_≡_, ap, _∙_}
 use mathlib.Core.List.{List, [], _∷_, _++_}
 use native.Mathlib.Omega.{arith}
-use lib.ListN.{length, getD, replicate, length-append}
+use lib.ListN.{length, replicate}
 use Rattle.words.specs.Bounded.{Below, below-nil, below-append, below-zeros}
-use Rattle.words.specs.Numeral.{digits, length-digits, below-digits}
-use Rattle.words.specs.Tab.{length-tab}
+use Rattle.words.specs.Numeral.{digits, below-digits}
 use Rattle.worksheet.specs.Stage.{Stage, comap}
 use Rattle.worksheet.specs.SharedList.{SharedList}
 use Rattle.worksheet.specs.Choice.{KeptShared}
 use Rattle.fips202.specs.MaskedSpongeSilence.{SharedBytes, maskedSponge-stage}
 use Rattle.gadgets.specs.PolynomialSilence.{Anything}
 use Rattle.mlkem.specs.Worksheet.{bytesOf, four, hashShared}
-
-length-bytesOf : (l : List ℕ) → length (bytesOf l) ≡ 8 * length l
-unfolding bytesOf
-length-bytesOf [] = refl
-length-bytesOf (w ∷ l) =
-    length-append (digits 256 8 w) (bytesOf l) ∙ omega (arith, length-digits 256 8 w, length-bytesOf l)
+use Rattle.mlkem.specs.WorksheetUses.{length-bytesOf-four}
 
 below-bytesOf : (l : List ℕ) → Below 256 (bytesOf l)
 unfolding bytesOf
@@ -35,9 +29,7 @@ module _ (len : ℕ) (public : List ℕ) (long : length public ≡ len) (bytes :
       record {
         in0 = bytesOf (four (w .s0)) ++ public;
         in1 = bytesOf (four (w .s1)) ++ replicate (length public) 0;
-        long =
-            length-append (bytesOf (four (w .s0))) public
-            ∙ omega (arith, length-bytesOf (four (w .s0)), length-tab 4 (λ i. getD (w .s0) i 0));
+        long = length-bytesOf-four (w .s0) public ∙ ap (λ (t : ℕ). 32 + t) long;
         below0 = below-append (bytesOf (four (w .s0))) (below-bytesOf (four (w .s0))) bytes;
         below1 =
             below-append (bytesOf (four (w .s1))) (below-bytesOf (four (w .s1))) (below-zeros (length public) (omega arith));

@@ -7,3 +7,5 @@ pub mod NoiseSilence
 pub mod ReencryptionSilence
 pub mod PlanesSilence
 pub mod WorksheetSilence
+pub mod SplitSilence
+pub mod Demand3

@@ -1,0 +1,122 @@
+-- How much the worksheet does, stage by stage: at ML-KEM-768 187,794 entries, 11,750 words and 7,424 coefficients.
+use Prim.Native.Nat.{ℕ, _+_, _-_, _*_, _/_}
+use mathlib.Core.Path.{_≡_, refl, ap, _∙_}
+use mathlib.Core.List.{List, [], _∷_, _++_}
+use native.Mathlib.Omega.{arith}
+use lib.ListN.{length, getD, replicate, length-append}
+use Rattle.words.specs.Numeral.{digits, length-digits}
+use Rattle.words.specs.Tab.{length-tab}
+use Rattle.worksheet.specs.declared.Shares.{Shares}
+use Rattle.worksheet.specs.Prog.{entry}
+use Rattle.worksheet.specs.Uses.{Uses, ret-u, enter-u, uses-recount, uses-bind, uses-map, uses-times}
+use Rattle.worksheet.specs.SharedList.{SharedList}
+use Rattle.worksheet.specs.Pass.{enterBoth}
+use Rattle.fips202.specs.MaskedSpongeUses.{uses-maskedSponge}
+use Rattle.gadgets.specs.CompressionLaws.{uses-maskedCompress}
+use Rattle.gadgets.specs.CoefficientLaws.{uses-bitToCoeff}
+use Rattle.gadgets.specs.SamplerLaws.{uses-sampler}
+use Rattle.gadgets.specs.ComparisonLaws.{uses-addPublic, uses-allZero, uses-select}
+use Rattle.mlkem.specs.Parameters.{Parameters, mlKem768}
+use Rattle.mlkem.specs.Worksheet.{SplitKey, Noise, Reencrypted, Planes, bytesOf, four, compressPoly, hashShared, noisePoly}
+use Rattle.mlkem.specs.Worksheet.{stage1, stage2, stage3, stage4, stage5, stage6, stage7, stage8, stage9, stage10, worksheet}
+
+-- ---- parts common to several stages
+
+pub length-bytesOf : (l : List ℕ) → length (bytesOf l) ≡ 8 * length l
+unfolding bytesOf
+length-bytesOf [] = refl
+length-bytesOf (w ∷ l) =
+    length-append (digits 256 8 w) (bytesOf l) ∙ omega (arith, length-digits 256 8 w, length-bytesOf l)
+
+-- four words and a string
+pub length-bytesOf-four : (l public : List ℕ) → length (bytesOf (four l) ++ public) ≡ 32 + length public
+length-bytesOf-four l public =
+    length-append (bytesOf (four l)) public ∙ omega (arith, length-bytesOf (four l), length-tab 4 (λ i. getD l i 0))
+
+uses-enterBoth : (f g : List ℕ) → Uses 512 0 0 (enterBoth 256 f g)
+unfolding enterBoth entry
+uses-enterBoth f g = uses-bind (uses-times 256 (λ i. enter-u ret-u)) (λ a. uses-map _ (uses-times 256 (λ i. enter-u ret-u)))
+
+uses-compressPoly : (d : ℕ) (f : SharedList)
+    → Uses (4 * (128 + (18 * (d + 13) - 14))) (4 * (3 * (d + 13) - 1)) 0 (compressPoly d f)
+unfolding compressPoly
+uses-compressPoly d f = uses-times 4 (λ g. uses-maskedCompress d _)
+
+-- a hash of len bytes besides the four words
+uses-hashShared : (rate suffix len : ℕ) (w : SharedList) (public : List ℕ) (n : ℕ) → length public ≡ len
+    → Uses (((32 + len) / rate + 1) * (rate / 8 * 2 + 7824) + (n - 1) / (rate / 8) * 7824)
+    (25 + ((32 + len) / rate + 1 + (n - 1) / (rate / 8)) * 600) 0 (hashShared rate suffix w public n)
+unfolding hashShared
+uses-hashShared rate suffix len w public n e =
+    rw (length-bytesOf-four (w .s0) public ∙ ap (λ (t : ℕ). 32 + t) e)
+    at (uses-maskedSponge rate suffix (bytesOf (four (w .s0)) ++ public) (bytesOf (four (w .s1)) ++ replicate (length public) 0) n)
+
+-- ---- the stages
+
+module _ (p : Parameters) where
+  uses-stage1 : (s : SharedList) (c : List ℕ) → Uses 512 0 0 (stage1 p s c)
+  unfolding stage1
+  uses-stage1 s c = uses-enterBoth _ _
+
+  uses-stage2 : (w : SharedList) → Uses 1464 164 0 (stage2 p w)
+  unfolding stage2
+  uses-stage2 w = uses-map _ (uses-compressPoly 1 w)
+
+  uses-stage3 : (m : SharedList) (h : List ℕ) → length h ≡ 32 → Uses 7842 625 0 (stage3 p m h)
+  unfolding stage3
+  uses-stage3 m h e = uses-hashShared 72 0x06 32 m h 8 e
+
+  uses-stage4 : (m : SharedList) → Uses 1024 0 256 (stage4 p m)
+  unfolding stage4
+  uses-stage4 m = uses-map _ (uses-times 256 (λ i. uses-bitToCoeff 1665 _))
+
+  uses-noisePoly : (eta : ℕ) (coins : SharedList) (n : ℕ)
+      → Uses (7858 + (8 * eta - 1) / 17 * 7824 + 256 * (8 * eta + 2 * (2 * eta - 1))) (25 + (1 + (8 * eta - 1) / 17) * 600)
+      (256 * (2 * eta)) (noisePoly p eta coins n)
+  unfolding noisePoly
+  uses-noisePoly eta coins n =
+      uses-recount refl (omega arith) (omega arith)
+      (uses-bind (uses-hashShared 136 0x1f 1 coins (n ∷ []) (8 * eta) refl) (λ o.
+      uses-map _ (uses-times 256 (λ i. uses-sampler eta _))))
+
+  uses-stage10 : (b : Shares) (k r : SharedList) → Uses 48 4 0 (stage10 p b k r)
+  unfolding stage10
+  uses-stage10 b k r = uses-map _ (uses-times 4 (λ j. uses-select _ _ _))
+
+uses-stage5 : (coins : SharedList) → Uses 94430 4375 7168 (stage5 mlKem768 coins)
+unfolding stage5
+uses-stage5 coins =
+    uses-bind (uses-times 3 (λ n. uses-noisePoly mlKem768 2 coins _)) (λ y.
+    uses-bind (uses-times 3 (λ n. uses-noisePoly mlKem768 2 coins _)) (λ e1. uses-map _ (uses-noisePoly mlKem768 2 coins 6)))
+
+uses-stage6 : (ek : List ℕ) (n : Noise) (m : SharedList) → Uses 2048 0 0 (stage6 mlKem768 ek n m)
+unfolding stage6
+uses-stage6 ek n m = uses-bind (uses-times 3 (λ i. uses-enterBoth _ _)) (λ u. uses-map _ (uses-enterBoth _ _))
+
+uses-stage7 : (r : Reencrypted) → Uses 8016 1016 0 (stage7 mlKem768 r)
+unfolding stage7
+uses-stage7 r = uses-bind (uses-times 3 (λ i. uses-compressPoly 10 _)) (λ u. uses-map _ (uses-compressPoly 4 (r .v)))
+
+uses-stage8 : (c : List ℕ) (w : Planes) → Uses 1688 141 0 (stage8 mlKem768 c w)
+unfolding stage8
+uses-stage8 c w = uses-bind (uses-addPublic 136 _ _) (λ d. uses-allZero 135 _)
+
+uses-stage9 : (z : SharedList) (c : List ℕ) → length c ≡ 1088 → Uses 70722 5425 0 (stage9 mlKem768 z c)
+unfolding stage9
+uses-stage9 z c e = uses-hashShared 136 0x1f 1088 z c 4 e
+
+-- ---- the whole
+
+pub uses-worksheet : (key : SplitKey) (c : List ℕ) → length (key .h) ≡ 32 → length c ≡ 1088
+    → Uses 187794 11750 7424 (worksheet mlKem768 key c)
+unfolding worksheet
+uses-worksheet key c h-long c-long =
+    uses-bind (uses-stage1 mlKem768 (key .s) c) (λ w.
+    uses-bind (uses-stage2 mlKem768 w) (λ m.
+    uses-bind (uses-stage3 mlKem768 m (key .h) h-long) (λ g.
+    uses-bind (uses-stage4 mlKem768 m) (λ f.
+    uses-bind (uses-stage5 _) (λ n.
+    uses-bind (uses-stage6 (key .ek) n f) (λ r.
+    uses-bind (uses-stage7 r) (λ l.
+    uses-bind (uses-stage8 c l) (λ b.
+    uses-bind (uses-stage9 (key .z) c c-long) (λ j. uses-stage10 mlKem768 b g j)))))))))

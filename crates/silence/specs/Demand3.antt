@@ -1,0 +1,147 @@
+-- Demand 3: under any two accepted keys with one public part and one stored hash, and for any ciphertext, equally many choices
+-- give a value at a step.
+use Prim.Native.Nat.{ℕ, zero, suc, _+_, _*_, _^_, _<_, _≤_}
+use mathlib.Core.Path.{_≡_, refl, sym, ap, ap₂, _∙_}
+use mathlib.Core.Bool.{Bool, _&&_}
+use mathlib.Core.List.{List, [], _∷_}
+use native.Mathlib.Decide.{decLt}
+use native.Mathlib.Nat.{zero-add, mul-zero}
+use native.Mathlib.Omega.{arith}
+use lib.Dec.{T, eqb, eqb→eq}
+use lib.Ieee.Fits.{and-l, and-r}
+use lib.ListN.{length, take, drop, replicate, length-take, length-drop}
+use Rattle.words.specs.Bounded.{Below, below-take, below-drop}
+use Rattle.words.specs.Residue.{q}
+use Rattle.worksheet.specs.Prog.{word, coeff, Prog, _>>=_, mask, times}
+use Rattle.worksheet.specs.Run.{run}
+use Rattle.worksheet.specs.Sum.{when}
+use Rattle.worksheet.specs.Count.{hits, hit, tally, strips, tally-cong, strips-hit, hits-drawn}
+use Rattle.worksheet.specs.Uses.{Uses, length-entries}
+use Rattle.worksheet.specs.Couple.{Like, SameAt, draw-c, ret-c, equal-hits, coupled-recount, sameAt-right, sameAt-recount}
+use Rattle.worksheet.specs.CoupleLoops.{like-times}
+use Rattle.worksheet.specs.Matching.{identity}
+use Rattle.worksheet.specs.SharedList.{SharedList, sharedList}
+use Rattle.mlkem.specs.Parameters.{mlKem768, vectorBytes, dkBytes}
+use Rattle.mlkem.specs.Functions.{H}
+use Rattle.mlkem.specs.MlKem.{same, secretPart, publicPart, hashPart}
+use Rattle.mlkem.specs.Refusals.{reduced}
+use Rattle.mlkem.specs.Calls.{coefficients, secondCoeffs, secondWords, matrixFull, rhoOf}
+use Rattle.mlkem.specs.Worksheet.{SplitKey, worksheet}
+use Rattle.mlkem.specs.WorksheetUses.{uses-worksheet}
+use Rattle.mlkem.specs.Split.{accepted, split}
+use Rattle.silence.specs.Fits.{fits768}
+use Rattle.silence.specs.Claim.{gives, choices}
+use Rattle.silence.specs.WorksheetSilence.{worksheet-stage}
+use Rattle.silence.specs.SplitSilence.{coupled-firsts}
+
+-- a key that import doesn't refuse
+pub record Key (dk : List ℕ) : Type 0 where
+  pub bytes : Below 256 dk
+  pub accepts : T (accepted mlKem768 dk)
+
+-- any 1,088 bytes
+pub record Ciphertext (c : List ℕ) : Type 0 where
+  pub bytes : Below 256 c
+  pub long : length c ≡ 1088
+
+-- ---- a key's parts
+
+outer : (a b c d : Bool) → T (a && b && c && d) → T a × T d
+outer a b c d t = (and-l a b (and-l (a && b) c (and-l (a && b && c) d t)), and-r (a && b && c) d t)
+
+module _ {dk : List ℕ} (key : Key dk) where
+  key-parts : T (eqb (length dk) 2400) × T (reduced (coefficients mlKem768 (secretPart mlKem768 dk)))
+  unfolding accepted
+  key-parts =
+      outer (eqb (length dk) 2400) (reduced (coefficients mlKem768 (take 1152 (publicPart mlKem768 dk))))
+      (same (hashPart mlKem768 dk) (H (publicPart mlKem768 dk))) (reduced (coefficients mlKem768 (secretPart mlKem768 dk)))
+      (key .accepts)
+
+  length-hashPart : length (hashPart mlKem768 dk) ≡ 32
+  length-hashPart =
+      length-take 32 (drop 2336 dk) ∙ omega (arith, length-drop 2336 dk, eqb→eq (length dk) 2400 (key-parts .0))
+
+  below-hashPart : Below 256 (hashPart mlKem768 dk)
+  below-hashPart = below-take 32 (below-drop 2336 (key .bytes))
+
+-- ---- the first shares drawn, the key split with them, and the worksheet
+
+abbrev drawn : List ℕ → List ℕ → Prog SharedList
+drawn dk c = do
+  a ← times 768 (λ j. mask coeff)
+  w ← times 4 (λ j. mask word)
+  worksheet mlKem768 (split mlKem768 dk a w) c
+
+like-words : Like 0 (times 4 (λ j. mask word)) (times 4 (λ j. mask word))
+unfolding mask
+like-words = like-times 4 (λ j h. draw-c identity (λ x l. ret-c tt))
+
+-- the split by its public parts
+split-public : (dk a w : List ℕ) {ek h : List ℕ} → publicPart mlKem768 dk ≡ ek → hashPart mlKem768 dk ≡ h
+    → split mlKem768 dk a w
+    ≡ record { s = sharedList a (secondCoeffs mlKem768 dk a); z = sharedList w (secondWords mlKem768 dk w); ek = ek; h = h }
+unfolding split
+split-public dk a w e f =
+    ap₂
+    (λ (ek h : List ℕ).
+    record { s = sharedList a (secondCoeffs mlKem768 dk a); z = sharedList w (secondWords mlKem768 dk w); ek = ek; h = h })
+    e f
+
+module _ {dk dk′ c : List ℕ} (key : Key dk) (key′ : Key dk′) (ct : Ciphertext c)
+    (e : publicPart mlKem768 dk ≡ publicPart mlKem768 dk′) (f : hashPart mlKem768 dk ≡ hashPart mlKem768 dk′) where
+  sameAt-drawn : (t : ℕ) → t < 187794 → SameAt t (drawn dk c) (drawn dk′ c)
+  sameAt-drawn t h =
+      let x =
+      worksheet-stage mlKem768 fits768 (publicPart mlKem768 dk) (hashPart mlKem768 dk) c (length-hashPart key)
+      (below-hashPart key) (ct .long) (ct .bytes) .entry t h
+      in
+      sameAt-recount (zero-add t)
+      (sameAt-right (coupled-firsts mlKem768 dk dk′ (x .0 .0) (key-parts key .1) (key-parts key′ .1)) (λ a a′ r.
+      sameAt-recount (zero-add t)
+      (sameAt-right like-words (λ w w′ u.
+      rw (split-public dk a w refl refl, split-public dk′ a′ w′ (sym e) (sym f)) (x .1 _ _ (record { main = r; side = tt }))))))
+
+-- ---- the count
+
+-- past the end of the worksheet no value is given
+hit-past : (i v : ℕ) (l : List ℕ) → length l ≤ i → hit i v l ≡ 0
+unfolding hit
+hit-past i v [] h = refl
+hit-past zero v (x ∷ l) h = absurd (omega arith)
+hit-past (suc i) v (x ∷ l) h = hit-past i v l (omega arith)
+
+abbrev counted : List ℕ → List ℕ → ℕ → ℕ → ℕ
+counted dk c t v =
+    tally (replicate 768 q) (λ a. tally (replicate 4 (2 ^ 64)) (λ w. strips 11750 7424 (λ ws cs. gives dk c t v a w ws cs)))
+
+module _ {dk c : List ℕ} (key : Key dk) (ct : Ciphertext c) where
+  uses-split : (a w : List ℕ) → Uses 187794 11750 7424 (worksheet mlKem768 (split mlKem768 dk a w) c)
+  unfolding split
+  uses-split a w = uses-worksheet _ c (length-hashPart key) (ct .long)
+
+  hits-drawn-counted : (t v : ℕ) → hits t v (drawn dk c) ≡ counted dk c t v
+  hits-drawn-counted t v =
+      hits-drawn t v coeff 768 _
+      ∙ tally-cong (replicate 768 q) (λ a.
+      hits-drawn t v word 4 _ ∙ tally-cong (replicate 4 (2 ^ 64)) (λ w. sym (strips-hit (uses-split a w) t v)))
+
+  gives-past : (t v : ℕ) → 187794 ≤ t → (a w ws cs : List ℕ) → gives dk c t v a w ws cs ≡ 0
+  gives-past t v h a w ws cs = hit-past t v _ (omega (arith, length-entries (uses-split a w) ws cs))
+
+pub demand3 : {dk dk′ c : List ℕ} → Key dk → Key dk′ → Ciphertext c → publicPart mlKem768 dk ≡ publicPart mlKem768 dk′
+    → hashPart mlKem768 dk ≡ hashPart mlKem768 dk′ → (t v : ℕ) → choices dk c t v ≡ choices dk′ c t v
+unfolding choices
+demand3 {dk} {dk′} {c} key key′ ct e f t v =
+    ap₂ when (ap (λ (ek : List ℕ). matrixFull mlKem768 (rhoOf mlKem768 ek)) e) (go (decLt t 187794))
+  where
+    go : Dec (t < 187794) → counted dk c t v ≡ counted dk′ c t v
+    go (yes h) =
+        sym (hits-drawn-counted key ct t v)
+        ∙ equal-hits (sameAt-drawn key key′ ct e f t h) v
+        ∙ hits-drawn-counted key′ ct t v
+    go (no h) =
+        tally-cong (replicate 768 q) (λ a.
+        tally-cong (replicate 4 (2 ^ 64)) (λ w.
+        tally-cong (replicate 11750 (2 ^ 64)) (λ ws.
+        tally-cong (replicate 7424 q) (λ cs.
+        gives-past key ct t v (omega arith) a w ws cs ∙ sym (gives-past key′ ct t v (omega arith) a w ws cs)))))

@@ -1,0 +1,81 @@
+-- The split that import makes, under two keys: the first shares can be matched so that either share of the secret is equal.
+use Prim.Native.Nat.{ℕ, _+_, _-_, _*_, _%_, _<_}
+use mathlib.Core.Path.{_≡_, refl, sym, _∙_}
+use mathlib.Core.Bool.{Bool, true, false}
+use mathlib.Core.List.{List, [], _∷_}
+use native.Mathlib.Nat.{mod-lt, mul-zero}
+use native.Mathlib.Omega.{arith}
+use lib.Dec.{T, ltb, ltb→lt}
+use lib.Ieee.Fits.{and-l, and-r}
+use lib.ListN.{getD}
+use Rattle.words.specs.Bounded.{Below, below-nil, below-cons}
+use Rattle.words.specs.Residue.{q}
+use Rattle.words.specs.Tab.{tab-of, tab-cong}
+use Rattle.worksheet.specs.declared.Shares.{Shares}
+use Rattle.worksheet.specs.Prog.{coeff, mask, times}
+use Rattle.worksheet.specs.Couple.{Coupled, ret-c, draw-c, coupled-weaken, coupled-recount}
+use Rattle.worksheet.specs.CoupleLoops.{coupled-times}
+use Rattle.worksheet.specs.Matching.{byAdding}
+use Rattle.worksheet.specs.Turns.{Turns}
+use Rattle.worksheet.specs.Sharing.{shares, share}
+use Rattle.worksheet.specs.CoeffSharing.{CoeffSharing, coeffKeep, coeffKeep-lt, share-coeffKeep}
+use Rattle.worksheet.specs.SharedList.{sharedList}
+use Rattle.worksheet.specs.Choice.{SameShare}
+use Rattle.mlkem.specs.Parameters.{Parameters}
+use Rattle.mlkem.specs.MlKem.{secretPart}
+use Rattle.mlkem.specs.Refusals.{reduced}
+use Rattle.mlkem.specs.Calls.{coefficients, secondCoeffs}
+
+-- ---- one coefficient X, whose first share is x
+
+abbrev splitCoeff : ℕ → ℕ → Shares
+splitCoeff X x = shares x ((X + (q - x)) % q)
+
+q-positive : 0 < q
+q-positive = omega arith
+
+coeffSharing-splitCoeff : {X x : ℕ} → X < q → x < q → CoeffSharing q X (splitCoeff X x)
+coeffSharing-splitCoeff h g = record { lt0 = g; lt1 = mod-lt _ q-positive; sums = omega arith }
+
+coupled-first : (c : Bool) {X X′ : ℕ} → X < q → X′ < q
+    → Coupled (λ x x′. share c (splitCoeff X x) ≡ share c (splitCoeff X′ x′)) 0 (mask coeff) (mask coeff)
+unfolding mask byAdding
+coupled-first c {X} {X′} h h′ =
+    draw-c (byAdding (coeffKeep-lt c X X′ q-positive)) (λ x l.
+    ret-c (share-coeffKeep c
+    (record {
+      left = coeffSharing-splitCoeff h l;
+      right = coeffSharing-splitCoeff h′ (mod-lt _ q-positive);
+      by = refl;
+    })))
+
+-- ---- the secret
+
+below-reduced : (l : List ℕ) → T (reduced l) → Below q l
+unfolding reduced
+below-reduced [] t = below-nil q-positive
+below-reduced (x ∷ l) t =
+    below-cons (ltb→lt x q (and-l (ltb x q) (reduced l) t)) (below-reduced l (and-r (ltb x q) (reduced l) t))
+
+module _ (p : Parameters) (dk dk′ : List ℕ) where
+  abbrev coeffAt : List ℕ → ℕ → ℕ
+  coeffAt dk i = getD (coefficients p (secretPart p dk)) i 0
+
+  abbrev SameSplit : Bool → ℕ → ℕ → ℕ → Type 0
+  SameSplit c i x x′ = share c (splitCoeff (coeffAt dk i) x) ≡ share c (splitCoeff (coeffAt dk′ i) x′)
+
+  sameShare-split : (c : Bool) {a a′ : List ℕ} → Turns (SameSplit c) (256 * p .k) a a′
+      → SameShare c (sharedList a (secondCoeffs p dk a)) (sharedList a′ (secondCoeffs p dk′ a′))
+  unfolding secondCoeffs
+  sameShare-split false {a} {a′} r =
+      record { same = tab-of 0 a (256 * p .k) (r .long) (r .at 0 0) ∙ sym (tab-of 0 a′ (256 * p .k) (r .long′) (λ i h. refl)) }
+  sameShare-split true r = record { same = tab-cong (256 * p .k) (r .at 0 0) }
+
+  pub coupled-firsts : (c : Bool) → T (reduced (coefficients p (secretPart p dk))) → T (reduced (coefficients p (secretPart p dk′)))
+      → Coupled (λ a a′. SameShare c (sharedList a (secondCoeffs p dk a)) (sharedList a′ (secondCoeffs p dk′ a′))) 0
+      (times (256 * p .k) (λ i. mask coeff)) (times (256 * p .k) (λ i. mask coeff))
+  coupled-firsts c t t′ =
+      coupled-recount (mul-zero (256 * p .k))
+      (coupled-weaken (λ a a′ r. sameShare-split c r)
+      (coupled-times (256 * p .k) {R = SameSplit c} (λ i h.
+      coupled-first c (below-reduced _ t .at i) (below-reduced _ t′ .at i))))
