@@ -42,10 +42,15 @@ uses-compressPoly : (d : ℕ) (f : SharedList)
 unfolding compressPoly
 uses-compressPoly d f = uses-times 4 (λ g. uses-maskedCompress d _)
 
--- a hash of len bytes besides the four words
+-- a hash of len bytes with n words of output
+abbrev pub hashEntries : ℕ → ℕ → ℕ → ℕ
+hashEntries rate len n = (len / rate + 1) * (rate / 8 * 2 + 7824) + (n - 1) / (rate / 8) * 7824
+
+abbrev hashWords : ℕ → ℕ → ℕ → ℕ
+hashWords rate len n = 25 + (len / rate + 1 + (n - 1) / (rate / 8)) * 600
+
 uses-hashShared : (rate suffix len : ℕ) (w : SharedList) (public : List ℕ) (n : ℕ) → length public ≡ len
-    → Uses (((32 + len) / rate + 1) * (rate / 8 * 2 + 7824) + (n - 1) / (rate / 8) * 7824)
-    (25 + ((32 + len) / rate + 1 + (n - 1) / (rate / 8)) * 600) 0 (hashShared rate suffix w public n)
+    → Uses (hashEntries rate (32 + len) n) (hashWords rate (32 + len) n) 0 (hashShared rate suffix w public n)
 unfolding hashShared
 uses-hashShared rate suffix len w public n e =
     rw (length-bytesOf-four (w .s0) public ∙ ap (λ (t : ℕ). 32 + t) e)
@@ -71,8 +76,8 @@ module _ (p : Parameters) where
   uses-stage4 m = uses-map _ (uses-times 256 (λ i. uses-bitToCoeff 1665 _))
 
   uses-noisePoly : (eta : ℕ) (coins : SharedList) (n : ℕ)
-      → Uses (7858 + (8 * eta - 1) / 17 * 7824 + 256 * (8 * eta + 2 * (2 * eta - 1))) (25 + (1 + (8 * eta - 1) / 17) * 600)
-      (256 * (2 * eta)) (noisePoly p eta coins n)
+      → Uses (hashEntries 136 33 (8 * eta) + 256 * (8 * eta + 2 * (2 * eta - 1))) (hashWords 136 33 (8 * eta)) (256 * (2 * eta))
+      (noisePoly p eta coins n)
   unfolding noisePoly
   uses-noisePoly eta coins n =
       uses-recount refl (omega arith) (omega arith)

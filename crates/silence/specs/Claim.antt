@@ -1,7 +1,10 @@
 -- Demand 3, in document 01's words ("Demand 3 is one claim about this worksheet from its first step to its last").
+use mathlib.Core.Path.{_≡_}
 use mathlib.Core.List.{List}
-use Prim.Native.Nat.{ℕ, _*_, _^_}
-use lib.ListN.{replicate}
+use Prim.Native.Nat.{ℕ, _^_}
+use lib.Dec.{T}
+use lib.ListN.{length, replicate}
+use Rattle.words.specs.Bounded.{Below}
 use Rattle.words.specs.Residue.{q}
 use Rattle.worksheet.specs.Run.{run}
 use Rattle.worksheet.specs.Sum.{when}
@@ -10,7 +13,17 @@ use Rattle.mlkem.specs.Parameters.{mlKem768}
 use Rattle.mlkem.specs.MlKem.{publicPart}
 use Rattle.mlkem.specs.Calls.{matrixFull, rhoOf}
 use Rattle.mlkem.specs.Worksheet.{worksheet}
-use Rattle.mlkem.specs.Split.{split}
+use Rattle.mlkem.specs.Split.{accepted, split}
+
+-- a key that import doesn't refuse
+pub record Key (dk : List ℕ) : Type 0 where
+  pub bytes : Below 256 dk
+  pub accepts : T (accepted mlKem768 dk)
+
+-- any 1,088 bytes
+pub record Ciphertext (c : List ℕ) : Type 0 where
+  pub bytes : Below 256 c
+  pub long : length c ≡ 1088
 
 -- 1 where the worksheet for this split, ciphertext and strip has v as entry t, else 0
 abbrev pub gives : List ℕ → List ℕ → ℕ → ℕ → List ℕ → List ℕ → List ℕ → List ℕ → ℕ

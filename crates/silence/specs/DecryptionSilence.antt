@@ -1,7 +1,7 @@
 -- Stages 1 and 2 of the worksheet: an entry asks for one share of the secret.
 use Prim.Native.Nat.{ℕ, _+_, _*_}
-use mathlib.Core.Path.{_≡_, ap}
-use mathlib.Core.Bool.{Bool, true, false}
+use mathlib.Core.Path.{ap}
+use mathlib.Core.Bool.{true}
 use mathlib.Core.List.{List, []}
 use lib.ListN.{getD, replicate}
 use Rattle.ring.specs.Polynomial.{sub}

@@ -1,11 +1,11 @@
 -- Demand 3: under any two accepted keys with one public part and one stored hash, and for any ciphertext, equally many choices
 -- give a value at a step.
-use Prim.Native.Nat.{ℕ, zero, suc, _+_, _*_, _^_, _<_, _≤_}
+use Prim.Native.Nat.{ℕ, zero, suc, _^_, _<_, _≤_}
 use mathlib.Core.Path.{_≡_, refl, sym, ap, ap₂, _∙_}
 use mathlib.Core.Bool.{Bool, _&&_}
 use mathlib.Core.List.{List, [], _∷_}
 use native.Mathlib.Decide.{decLt}
-use native.Mathlib.Nat.{zero-add, mul-zero}
+use native.Mathlib.Nat.{zero-add}
 use native.Mathlib.Omega.{arith}
 use lib.Dec.{T, eqb, eqb→eq}
 use lib.Ieee.Fits.{and-l, and-r}
@@ -13,36 +13,25 @@ use lib.ListN.{length, take, drop, replicate, length-take, length-drop}
 use Rattle.words.specs.Bounded.{Below, below-take, below-drop}
 use Rattle.words.specs.Residue.{q}
 use Rattle.worksheet.specs.Prog.{word, coeff, Prog, _>>=_, mask, times}
-use Rattle.worksheet.specs.Run.{run}
 use Rattle.worksheet.specs.Sum.{when}
 use Rattle.worksheet.specs.Count.{hits, hit, tally, strips, tally-cong, strips-hit, hits-drawn}
 use Rattle.worksheet.specs.Uses.{Uses, length-entries}
-use Rattle.worksheet.specs.Couple.{Like, SameAt, draw-c, ret-c, equal-hits, coupled-recount, sameAt-right, sameAt-recount}
+use Rattle.worksheet.specs.Couple.{Like, SameAt, draw-c, ret-c, equal-hits, sameAt-right, sameAt-recount}
 use Rattle.worksheet.specs.CoupleLoops.{like-times}
 use Rattle.worksheet.specs.Matching.{identity}
 use Rattle.worksheet.specs.SharedList.{SharedList, sharedList}
-use Rattle.mlkem.specs.Parameters.{mlKem768, vectorBytes, dkBytes}
+use Rattle.mlkem.specs.Parameters.{mlKem768}
 use Rattle.mlkem.specs.Functions.{H}
 use Rattle.mlkem.specs.MlKem.{same, secretPart, publicPart, hashPart}
 use Rattle.mlkem.specs.Refusals.{reduced}
 use Rattle.mlkem.specs.Calls.{coefficients, secondCoeffs, secondWords, matrixFull, rhoOf}
-use Rattle.mlkem.specs.Worksheet.{SplitKey, worksheet}
+use Rattle.mlkem.specs.Worksheet.{worksheet}
 use Rattle.mlkem.specs.WorksheetUses.{uses-worksheet}
 use Rattle.mlkem.specs.Split.{accepted, split}
 use Rattle.silence.specs.Fits.{fits768}
-use Rattle.silence.specs.Claim.{gives, choices}
+use Rattle.silence.specs.Claim.{Key, Ciphertext, gives, choices}
 use Rattle.silence.specs.WorksheetSilence.{worksheet-stage}
 use Rattle.silence.specs.SplitSilence.{coupled-firsts}
-
--- a key that import doesn't refuse
-pub record Key (dk : List ℕ) : Type 0 where
-  pub bytes : Below 256 dk
-  pub accepts : T (accepted mlKem768 dk)
-
--- any 1,088 bytes
-pub record Ciphertext (c : List ℕ) : Type 0 where
-  pub bytes : Below 256 c
-  pub long : length c ≡ 1088
 
 -- ---- a key's parts
 

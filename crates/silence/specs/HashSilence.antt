@@ -1,5 +1,5 @@
 -- The hash of four shared words and a public string, as a stage: nothing is asked of the words.
-use Prim.Native.Nat.{ℕ, _+_, _-_, _*_, _/_, _<_, _≤_}
+use Prim.Native.Nat.{ℕ, _+_, _<_, _≤_}
 use mathlib.Core.Path.{_≡_, ap, _∙_}
 use mathlib.Core.List.{List, [], _∷_, _++_}
 use native.Mathlib.Omega.{arith}
@@ -12,16 +12,12 @@ use Rattle.worksheet.specs.Choice.{KeptShared}
 use Rattle.fips202.specs.MaskedSpongeSilence.{SharedBytes, maskedSponge-stage}
 use Rattle.gadgets.specs.PolynomialSilence.{Anything}
 use Rattle.mlkem.specs.Worksheet.{bytesOf, four, hashShared}
-use Rattle.mlkem.specs.WorksheetUses.{length-bytesOf-four}
+use Rattle.mlkem.specs.WorksheetUses.{hashEntries, length-bytesOf-four}
 
 below-bytesOf : (l : List ℕ) → Below 256 (bytesOf l)
 unfolding bytesOf
 below-bytesOf [] = below-nil (omega arith)
 below-bytesOf (w ∷ l) = below-append (digits 256 8 w) (below-digits 256 8 w (omega arith)) (below-bytesOf l)
-
--- the entries of a hash of len bytes with n words of output
-abbrev pub hashEntries : ℕ → ℕ → ℕ → ℕ
-hashEntries rate len n = (len / rate + 1) * (rate / 8 * 2 + 7824) + (n - 1) / (rate / 8) * 7824
 
 module _ (len : ℕ) (public : List ℕ) (long : length public ≡ len) (bytes : Below 256 public) where
   abbrev inputs : SharedList → SharedBytes (32 + len)

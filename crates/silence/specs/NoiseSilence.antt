@@ -16,12 +16,17 @@ use Rattle.gadgets.specs.SamplerSilence.{samplerEntries}
 use Rattle.gadgets.specs.PolynomialSilence.{Anything, bitsToCoeffs-stage, samples-stage}
 use Rattle.mlkem.specs.Parameters.{Parameters}
 use Rattle.mlkem.specs.Worksheet.{Noise, bitOf, noisePoly, stage3, stage4, stage5}
+use Rattle.mlkem.specs.WorksheetUses.{hashEntries}
 use Rattle.silence.specs.Fits.{Fits}
-use Rattle.silence.specs.HashSilence.{hashEntries, hashShared-stage}
+use Rattle.silence.specs.HashSilence.{hashShared-stage}
 
 -- the entries of a noise polynomial of width eta
 abbrev pub noiseEntries : ℕ → ℕ
 noiseEntries eta = hashEntries 136 33 (8 * eta) + 256 * samplerEntries eta
+
+stage-recount : {A B C D E F : Type 0} {R : E → A → B → Type 0} {S : F → C → D → Type 0} {m n : ℕ} {f : A → Prog C} {f′ : B → Prog D}
+    → m ≡ n → Stage R S m f f′ → Stage R S n f f′
+stage-recount e s = rw e at s
 
 module _ (p : Parameters) where
   -- ---- stages 3 and 4
@@ -55,23 +60,36 @@ module _ (p : Parameters) where
       times-stage (λ c j. SameShare c) n (λ j h. noisePoly-stage eta (at j) pos (lt j h))
       (λ c. (tt, λ a b r j h. noisePoly-stage eta (at j) pos (lt j h) .fresh c .1 a b tt))
 
+  abbrev SamePolys : Bool → List SharedList → List SharedList → Type 0
+  SamePolys c = Turns (λ j. SameShare c) (p .k)
+
   -- shares c of all polynomials are equal
   pub record SameNoise (c : Bool) (n n′ : Noise) : Type 0 where
-    pub y : Turns (λ j. SameShare c) (p .k) (n .y) (n′ .y)
-    pub e1 : Turns (λ j. SameShare c) (p .k) (n .e1) (n′ .e1)
+    pub y : SamePolys c (n .y) (n′ .y)
+    pub e1 : SamePolys c (n .e1) (n′ .e1)
     pub e2 : SameShare c (n .e2) (n′ .e2)
 
-  abbrev pub noisesEntries : ℕ
-  noisesEntries = p .k * noiseEntries (p .eta1) + (p .k * noiseEntries (p .eta2) + (noiseEntries (p .eta2) + 0))
-
+  -- what is live before the last polynomial: e1, y and the coins
   abbrev Live : Type 0
   Live = List SharedList × (List SharedList × SharedList)
 
   abbrev put : SharedList × Live → Noise
   put a = record { y = a .1 .1 .0; e1 = a .1 .0; e2 = a .0 }
 
-  abbrev SamePolys : Bool → List SharedList → List SharedList → Type 0
-  SamePolys c = Turns (λ j. SameShare c) (p .k)
+  last-stage : Fits p
+      → Stage (Beside SamePolys (Beside SamePolys Anything)) SameNoise (noiseEntries (p .eta2))
+      (λ a. noisePoly p (p .eta2) (a .1 .1) (2 * p .k) >>= λ e2. ret (put (e2, a)))
+      (λ a. noisePoly p (p .eta2) (a .1 .1) (2 * p .k) >>= λ e2. ret (put (e2, a)))
+  last-stage f =
+      stage-recount (add-zero (noiseEntries (p .eta2)))
+      (andAlso (true, (true, tt))
+      (comap Anything (λ (a : Live). a .1 .1) (λ a. a .1 .1) (λ e. e) (λ e a b r. tt)
+      (noisePoly-stage (p .eta2) (2 * p .k) (f .eta2) (f .rank)))
+      (moves {R = Beside SameShare (Beside SamePolys (Beside SamePolys Anything))} {S = SameNoise} {g = put} {g′ = put}
+      (λ c. ((c, (c, (c, tt))), λ a b r. record { y = r .side .side .main; e1 = r .side .main; e2 = r .main }))))
+
+  abbrev pub noisesEntries : ℕ
+  noisesEntries = p .k * noiseEntries (p .eta1) + (p .k * noiseEntries (p .eta2) + noiseEntries (p .eta2))
 
   pub stage5-stage : Fits p → Stage Anything SameNoise noisesEntries (stage5 p) (stage5 p)
   unfolding stage5
@@ -80,8 +98,4 @@ module _ (p : Parameters) where
       (andAlso (true, tt)
       (comap Anything (λ (a : List SharedList × SharedList). a .1) (λ a. a .1) (λ e. e) (λ e a b r. tt)
       (noisePolys-stage (p .eta2) (p .k) (λ n. p .k + n) (f .eta2) (λ j h. omega (arith, f .rank))))
-      (andAlso (true, (true, tt))
-      (comap Anything (λ (a : Live). a .1 .1) (λ a. a .1 .1) (λ e. e) (λ e a b r. tt)
-      (noisePoly-stage (p .eta2) (2 * p .k) (f .eta2) (f .rank)))
-      (moves {R = Beside SameShare (Beside SamePolys (Beside SamePolys Anything))} {S = SameNoise} {g = put} {g′ = put}
-      (λ c. ((c, (c, (c, tt))), λ a b r. record { y = r .side .side .main; e1 = r .side .main; e2 = r .main })))))
+      (last-stage f))

@@ -1,17 +1,16 @@
 -- Stages 7 and 8 of the worksheet: the planes of the polynomials made again, each word with a choice of its own, and the equal bit.
 use Prim.Native.Nat.{ℕ, _+_, _-_, _*_, _/_, _%_, _<_}
-use mathlib.Core.Path.{_≡_, refl, sym, ap, ap₂, _∙_, subst}
+use mathlib.Core.Path.{_≡_, refl, sym, ap, _∙_, subst}
 use mathlib.Core.Bool.{Bool, true, false, cond}
 use mathlib.Core.List.{List, []}
-use native.Mathlib.Nat.{div-add-mod', div-div-eq-div-mul, div-lt-iff-lt-mul, mod-lt, mul-comm, mul-assoc}
+use native.Mathlib.Nat.{div-add-mod', div-div-eq-div-mul, div-lt-iff-lt-mul, mod-lt, mul-comm}
 use native.Mathlib.Omega.{arith}
 use lib.Dec.{ltb}
 use borrow.Author.Tests.{ltb-true, ltb-false}
 use lib.ListN.{getD}
 use Rattle.words.specs.Word.{Bits}
-use Rattle.words.specs.Plane.{plane, plane-bits}
+use Rattle.words.specs.Plane.{plane-bits}
 use Rattle.worksheet.specs.declared.Shares.{Shares}
-use Rattle.worksheet.specs.Prog.{times}
 use Rattle.worksheet.specs.Couple.{Coupled}
 use Rattle.worksheet.specs.CoupleLoops.{coupled-times}
 use Rattle.worksheet.specs.Turns.{Turns}
@@ -19,10 +18,10 @@ use Rattle.worksheet.specs.Stage.{Stage, comap, times-stage}
 use Rattle.worksheet.specs.Sharing.{none}
 use Rattle.worksheet.specs.SharedList.{SharedList}
 use Rattle.worksheet.specs.Choice.{Kept, KeptWords, KeptList, SameShare}
-use Rattle.gadgets.specs.CompressionSilence.{compressEntries, coupled-maskedCompress, groups-stage}
+use Rattle.gadgets.specs.CompressionSilence.{coupled-maskedCompress, groups-stage}
 use Rattle.gadgets.specs.ComparisonSilence.{allZeroEntries, compare-stage}
 use Rattle.mlkem.specs.Parameters.{Parameters}
-use Rattle.mlkem.specs.Worksheet.{Reencrypted, Planes, nothing, compressPoly, planeWord, planeWords, ciphertextWord, stage7, stage8}
+use Rattle.mlkem.specs.Worksheet.{Planes, nothing, compressPoly, planeWord, planeWords, ciphertextWord, stage7, stage8}
 use Rattle.silence.specs.Fits.{Fits}
 use Rattle.silence.specs.Pair.{pair-stage}
 use Rattle.silence.specs.DecryptionSilence.{polyEntries}

@@ -6,7 +6,7 @@ use mathlib.Core.List.{List}
 use Rattle.words.specs.Iterate.{iterate-cong}
 use Rattle.ring.specs.Polynomial.{add}
 use Rattle.ring.specs.Transform.{ntt, inverseNtt, multiplyNtts}
-use Rattle.worksheet.specs.Prog.{Prog, times}
+use Rattle.worksheet.specs.Prog.{times}
 use Rattle.worksheet.specs.Couple.{Coupled}
 use Rattle.worksheet.specs.CoupleLoops.{coupled-times}
 use Rattle.worksheet.specs.Turns.{Turns}

@@ -18,7 +18,7 @@ use Rattle.worksheet.specs.CoupleLoops.{coupled-times}
 use Rattle.worksheet.specs.Matching.{byAdding}
 use Rattle.worksheet.specs.Turns.{Turns}
 use Rattle.worksheet.specs.Sharing.{shares, share}
-use Rattle.worksheet.specs.CoeffSharing.{CoeffSharing, coeffKeep, coeffKeep-lt, share-coeffKeep}
+use Rattle.worksheet.specs.CoeffSharing.{CoeffSharing, coeffKeep-lt, share-coeffKeep}
 use Rattle.worksheet.specs.SharedList.{sharedList}
 use Rattle.worksheet.specs.Choice.{SameShare}
 use Rattle.mlkem.specs.Parameters.{Parameters}

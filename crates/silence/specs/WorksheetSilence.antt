@@ -1,13 +1,13 @@
 -- The ten stages of the worksheet as one: an entry asks for one share of the secret, and for nothing of z.
 use Prim.Native.Nat.{ℕ, _+_, _-_, _*_}
-use mathlib.Core.Path.{_≡_, refl}
+use mathlib.Core.Path.{_≡_}
 use mathlib.Core.Bool.{Bool, true}
 use mathlib.Core.List.{List}
 use native.Mathlib.Omega.{arith}
 use lib.ListN.{length, getD}
 use Rattle.words.specs.Bounded.{Below}
 use Rattle.worksheet.specs.declared.Shares.{Shares}
-use Rattle.worksheet.specs.Prog.{Prog, ret, _>>=_}
+use Rattle.worksheet.specs.Prog.{Prog, _>>=_}
 use Rattle.worksheet.specs.Stage.{Stage, Beside, andBeside, andAlso, rearrange, comap}
 use Rattle.worksheet.specs.Sharing.{none}
 use Rattle.worksheet.specs.SharedList.{SharedList, sharedAt, unzip}
@@ -15,14 +15,15 @@ use Rattle.worksheet.specs.Choice.{Kept, KeptShared, SameShare}
 use Rattle.gadgets.specs.ComparisonSilence.{allZeroEntries}
 use Rattle.gadgets.specs.PolynomialSilence.{Anything}
 use Rattle.gadgets.specs.SelectionSilence.{Operands, selects-stage}
-use Rattle.mlkem.specs.Parameters.{Parameters, mlKem768, ctBytes}
+use Rattle.mlkem.specs.Parameters.{Parameters, ctBytes}
 use Rattle.mlkem.specs.Worksheet.{SplitKey, Noise, Reencrypted, Planes, planeWords, worksheet}
-use Rattle.mlkem.specs.Worksheet.{stage1, stage2, stage3, stage4, stage5, stage6, stage7, stage8, stage9, stage10}
+use Rattle.mlkem.specs.Worksheet.{stage2, stage3, stage4, stage5, stage6, stage7, stage8, stage9, stage10}
+use Rattle.mlkem.specs.WorksheetUses.{hashEntries}
 use Rattle.silence.specs.Fits.{Fits}
-use Rattle.silence.specs.HashSilence.{hashEntries, hashShared-stage}
+use Rattle.silence.specs.HashSilence.{hashShared-stage}
 use Rattle.silence.specs.DecryptionSilence.{passEntries, polyEntries, stage1-stage, stage2-stage}
 use Rattle.silence.specs.NoiseSilence.{noisesEntries, SameNoise, stage3-stage, stage4-stage, stage5-stage}
-use Rattle.silence.specs.ReencryptionSilence.{SameOperands, SameReencrypted, stage6-stage}
+use Rattle.silence.specs.ReencryptionSilence.{SameReencrypted, stage6-stage}
 use Rattle.silence.specs.PlanesSilence.{KeptPlanes, stage7-stage, stage8-stage}
 
 -- ---- what is live beside the stages: m and z, and from stage 3 on K' and the coins
@@ -172,6 +173,3 @@ module _ (p : Parameters) (fits : Fits p) (ek h c : List ℕ) (h-long : length h
       (λ a. worksheet p (splitKey a) c)
   unfolding worksheet
   worksheet-stage = andBeside tt (stage1-stage p c) from2-stage
-
-pub entries768 : worksheetEntries mlKem768 ≡ 187794
-entries768 = refl
