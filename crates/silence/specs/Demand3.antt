@@ -35,6 +35,7 @@ use Rattle.silence.specs.SplitSilence.{coupled-firsts}
 
 -- ---- a key's parts
 
+-- the first and the last of four tests
 outer : (a b c d : Bool) → T (a && b && c && d) → T a × T d
 outer a b c d t = (and-l a b (and-l (a && b) c (and-l (a && b && c) d t)), and-r (a && b && c) d t)
 

@@ -24,6 +24,10 @@ use Rattle.silence.specs.HashSilence.{hashShared-stage}
 abbrev pub noiseEntries : ℕ → ℕ
 noiseEntries eta = hashEntries 136 33 (8 * eta) + 256 * samplerEntries eta
 
+-- shares c of n polynomials are equal
+abbrev pub SamePolys : ℕ → Bool → List SharedList → List SharedList → Type 0
+SamePolys n c = Turns (λ j. SameShare c) n
+
 stage-recount : {A B C D E F : Type 0} {R : E → A → B → Type 0} {S : F → C → D → Type 0} {m n : ℕ} {f : A → Prog C} {f′ : B → Prog D}
     → m ≡ n → Stage R S m f f′ → Stage R S n f f′
 stage-recount e s = rw e at s
@@ -54,19 +58,16 @@ module _ (p : Parameters) where
 
   -- n polynomials; polynomial j is made with the number at j
   noisePolys-stage : (eta n : ℕ) (at : ℕ → ℕ) → 0 < eta → ((j : ℕ) → j < n → at j < 256)
-      → Stage Anything (λ (c : Bool). Turns (λ j. SameShare c) n) (n * noiseEntries eta) (λ w. times n (λ j. noisePoly p eta w (at j)))
+      → Stage Anything (SamePolys n) (n * noiseEntries eta) (λ w. times n (λ j. noisePoly p eta w (at j)))
       (λ w. times n (λ j. noisePoly p eta w (at j)))
   noisePolys-stage eta n at pos lt =
       times-stage (λ c j. SameShare c) n (λ j h. noisePoly-stage eta (at j) pos (lt j h))
       (λ c. (tt, λ a b r j h. noisePoly-stage eta (at j) pos (lt j h) .fresh c .1 a b tt))
 
-  abbrev SamePolys : Bool → List SharedList → List SharedList → Type 0
-  SamePolys c = Turns (λ j. SameShare c) (p .k)
-
-  -- shares c of all polynomials are equal
+  -- shares c of all noise polynomials are equal
   pub record SameNoise (c : Bool) (n n′ : Noise) : Type 0 where
-    pub y : SamePolys c (n .y) (n′ .y)
-    pub e1 : SamePolys c (n .e1) (n′ .e1)
+    pub y : SamePolys (p .k) c (n .y) (n′ .y)
+    pub e1 : SamePolys (p .k) c (n .e1) (n′ .e1)
     pub e2 : SameShare c (n .e2) (n′ .e2)
 
   -- what is live before the last polynomial: e1, y and the coins
@@ -77,7 +78,7 @@ module _ (p : Parameters) where
   put a = record { y = a .1 .1 .0; e1 = a .1 .0; e2 = a .0 }
 
   last-stage : Fits p
-      → Stage (Beside SamePolys (Beside SamePolys Anything)) SameNoise (noiseEntries (p .eta2))
+      → Stage (Beside (SamePolys (p .k)) (Beside (SamePolys (p .k)) Anything)) SameNoise (noiseEntries (p .eta2))
       (λ a. noisePoly p (p .eta2) (a .1 .1) (2 * p .k) >>= λ e2. ret (put (e2, a)))
       (λ a. noisePoly p (p .eta2) (a .1 .1) (2 * p .k) >>= λ e2. ret (put (e2, a)))
   last-stage f =
@@ -85,7 +86,7 @@ module _ (p : Parameters) where
       (andAlso (true, (true, tt))
       (comap Anything (λ (a : Live). a .1 .1) (λ a. a .1 .1) (λ e. e) (λ e a b r. tt)
       (noisePoly-stage (p .eta2) (2 * p .k) (f .eta2) (f .rank)))
-      (moves {R = Beside SameShare (Beside SamePolys (Beside SamePolys Anything))} {S = SameNoise} {g = put} {g′ = put}
+      (moves {R = Beside SameShare (Beside (SamePolys (p .k)) (Beside (SamePolys (p .k)) Anything))} {S = SameNoise} {g = put} {g′ = put}
       (λ c. ((c, (c, (c, tt))), λ a b r. record { y = r .side .side .main; e1 = r .side .main; e2 = r .main }))))
 
   abbrev pub noisesEntries : ℕ

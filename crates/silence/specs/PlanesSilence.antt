@@ -51,8 +51,8 @@ bits-cond : (b : Bool) {x y : ℕ} → Bits 64 x → Bits 64 y → Bits 64 (cond
 bits-cond true a b = a
 bits-cond false a b = b
 
-rechoose : {b c : Bool} {z z′ : Shares} → b ≡ c → Kept 64 b z z′ → Kept 64 c z z′
-rechoose {z = z} {z′ = z′} e k = subst (λ (t : Bool). Kept 64 t z z′) e k
+kept-cong : {b c : Bool} {z z′ : Shares} → b ≡ c → Kept 64 b z z′ → Kept 64 c z z′
+kept-cong {z = z} {z′ = z′} e k = subst (λ (t : Bool). Kept 64 t z z′) e k
 
 -- ---- stage 7
 
@@ -60,7 +60,8 @@ rechoose {z = z} {z′ = z′} e k = subst (λ (t : Bool). Kept 64 t z z′) e k
 abbrev KeptPoly : ℕ → (ℕ → ℕ → Bool) → List (List Shares) → List (List Shares) → Type 0
 KeptPoly d c = Turns (λ g. KeptList d (c g)) 4
 
-coupled-poly : (d : ℕ) (c : ℕ → ℕ → Bool) (f f′ : SharedList) → Coupled (KeptPoly d c) (polyEntries d) (compressPoly d f) (compressPoly d f′)
+coupled-poly : (d : ℕ) (c : ℕ → ℕ → Bool) (f f′ : SharedList)
+    → Coupled (KeptPoly d c) (polyEntries d) (compressPoly d f) (compressPoly d f′)
 unfolding compressPoly
 coupled-poly d c f f′ = coupled-times 4 (λ g h. coupled-maskedCompress d (c g) _ _)
 
@@ -91,14 +92,14 @@ module _ (p : Parameters) where
         → Kept 64 (c j) (getD (getD (getD u (j / (4 * p .du)) []) (j / p .du % 4) []) (j % p .du) none)
         (getD (getD (getD u′ (j / (4 * p .du)) []) (j / p .du % 4) []) (j % p .du) none)
     kept-u c r j h =
-        rechoose (ap c (wordOf-parts (p .du) j))
+        kept-cong (ap c (wordOf-parts (p .du) j))
         (r .at [] [] (j / (4 * p .du)) (poly-lt (p .du) (p .k) j (f .du) h) .at [] [] (j / p .du % 4) (omega arith)
         .at none none (j % p .du) (mod-lt j (f .du)))
 
     kept-v : (c : ℕ → Bool) {v v′ : List (List Shares)} → KeptV c v v′ → (j : ℕ) → j < 4 * p .dv
         → Kept 64 (c (uWords + j)) (getD (getD v (j / p .dv) []) (j % p .dv) none) (getD (getD v′ (j / p .dv) []) (j % p .dv) none)
     kept-v c r j h =
-        rechoose (ap (λ (t : ℕ). c (uWords + t)) (div-add-mod' j (p .dv)))
+        kept-cong (ap (λ (t : ℕ). c (uWords + t)) (div-add-mod' j (p .dv)))
         (r .at [] [] (j / p .dv) (div-lt-iff-lt-mul {k = p .dv} (f .dv) .1 h) .at none none (j % p .dv) (mod-lt j (f .dv)))
 
     kept-planes : (c : ℕ → Bool) (u u′ : List (List (List Shares))) (v v′ : List (List Shares)) → KeptU c u u′ → KeptV c v v′
@@ -109,7 +110,7 @@ module _ (p : Parameters) where
           at = λ j h.
               kept-cond (ltb j uWords) (λ e. kept-u c r j (ltb-true j uWords e)) (λ e.
               let l = ltb-false j uWords e in
-              rechoose (ap c (omega arith)) (kept-v c s (j - uWords) (omega arith)));
+              kept-cong (ap c (omega arith)) (kept-v c s (j - uWords) (omega arith)));
         }
 
     pub stage7-stage : Stage (SameReencrypted p) KeptPlanes (p .k * polyEntries (p .du) + polyEntries (p .dv)) (stage7 p) (stage7 p)

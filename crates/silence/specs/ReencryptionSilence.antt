@@ -9,7 +9,6 @@ use Rattle.ring.specs.Transform.{ntt, inverseNtt, multiplyNtts}
 use Rattle.worksheet.specs.Prog.{times}
 use Rattle.worksheet.specs.Couple.{Coupled}
 use Rattle.worksheet.specs.CoupleLoops.{coupled-times}
-use Rattle.worksheet.specs.Turns.{Turns}
 use Rattle.worksheet.specs.Stage.{Stage, times-stage}
 use Rattle.worksheet.specs.SharedList.{SharedList}
 use Rattle.worksheet.specs.Choice.{SameShare}
@@ -19,17 +18,17 @@ use Rattle.mlkem.specs.KPke.{dot}
 use Rattle.mlkem.specs.Worksheet.{Noise, Reencrypted, nothing, first, second, uShare, vShare, stage6}
 use Rattle.silence.specs.Pair.{pair-stage}
 use Rattle.silence.specs.DecryptionSilence.{passEntries}
-use Rattle.silence.specs.NoiseSilence.{SameNoise}
+use Rattle.silence.specs.NoiseSilence.{SamePolys, SameNoise}
 
 dot-cong : (k : ℕ) (f : ℕ → List ℕ) {g g′ : ℕ → List ℕ} → ((j : ℕ) → j < k → g j ≡ g′ j) → dot k f g ≡ dot k f g′
 unfolding dot
 dot-cong k f e = iterate-cong k _ (λ j h s. ap (λ (t : List ℕ). add s (multiplyNtts (f j) t)) (e j h))
 
-module _ (p : Parameters) where
-  -- what stage 6 works on: noise and message
-  abbrev pub Operands : Type 0
-  Operands = Noise × SharedList
+-- what stage 6 works on: noise and message
+abbrev Operands : Type 0
+Operands = Noise × SharedList
 
+module _ (p : Parameters) where
   -- shares c of all of it are equal
   pub record SameOperands (c : Bool) (a a′ : Operands) : Type 0 where
     pub noise : SameNoise p c (a .0) (a′ .0)
@@ -37,7 +36,7 @@ module _ (p : Parameters) where
 
   -- shares c of all polynomials made again are equal
   pub record SameReencrypted (c : Bool) (r r′ : Reencrypted) : Type 0 where
-    pub u : Turns (λ j. SameShare c) (p .k) (r .u) (r′ .u)
+    pub u : SamePolys (p .k) c (r .u) (r′ .u)
     pub v : SameShare c (r .v) (r′ .v)
 
   module _ (ek : List ℕ) where
@@ -81,23 +80,24 @@ module _ (p : Parameters) where
         → Coupled (SameShare c) passEntries (enterBoth 256 (u0 i a) (u1 i a)) (enterBoth 256 (u0 i a′) (u1 i a′))
     coupled-u c a a′ r i h = coupled-pass SameOperands 256 (u0 i) (u1 i) (u0 i) (u1 i) (same-u0 i h) (same-u1 i h) c a a′ r
 
-    u-stage : Stage SameOperands (λ (c : Bool). Turns (λ i. SameShare c) (p .k)) (p .k * passEntries)
+    u-stage : Stage SameOperands (SamePolys (p .k)) (p .k * passEntries)
         (λ a. times (p .k) (λ i. enterBoth 256 (u0 i a) (u1 i a))) (λ a. times (p .k) (λ i. enterBoth 256 (u0 i a) (u1 i a)))
     u-stage =
         times-stage (λ c i. SameShare c) (p .k)
         (λ i h. pass-stage SameOperands 256 (u0 i) (u1 i) (u0 i) (u1 i) (same-u0 i h) (same-u1 i h))
         (λ c. (c, coupled-u c))
 
-    v-stage : Stage SameOperands SameShare (passEntries) (λ a. enterBoth 256 (v0 a) (v1 a)) (λ a. enterBoth 256 (v0 a) (v1 a))
+    v-stage : Stage SameOperands SameShare passEntries (λ a. enterBoth 256 (v0 a) (v1 a)) (λ a. enterBoth 256 (v0 a) (v1 a))
     v-stage = pass-stage SameOperands 256 v0 v1 v0 v1 same-v0 same-v1
 
     abbrev put : List SharedList → SharedList → Reencrypted
     put u v = record { u = u; v = v }
 
-    pub stage6-stage : Stage SameOperands SameReencrypted (p .k * passEntries + passEntries) (λ a. stage6 p ek (a .0) (a .1)) (λ a. stage6 p ek (a .0) (a .1))
+    pub stage6-stage : Stage SameOperands SameReencrypted (p .k * passEntries + passEntries) (λ a. stage6 p ek (a .0) (a .1))
+        (λ a. stage6 p ek (a .0) (a .1))
     unfolding stage6
     stage6-stage =
-        pair-stage put put {S₁ = λ c. Turns (λ i. SameShare c) (p .k)} {Q₁ = SameShare} u-stage v-stage
+        pair-stage put put {S₁ = SamePolys (p .k)} {Q₁ = SameShare} u-stage v-stage
         (λ c u u′ v v′ s t. record { u = s; v = t })
         (λ c. (
           c,
