@@ -6,3 +6,4 @@ pub mod Parts
 pub mod Encrypted
 pub mod Keys
 pub mod Answers
+pub mod Shares

@@ -16,7 +16,7 @@ use Rattle.mlkem.specs.Parameters.{Parameters, vectorBytes, ekBytes, dkB
 use Rattle.mlkem.specs.Functions.{H, G₁, XOF}
 use Rattle.mlkem.specs.KPke.{parts, concat}
 use Rattle.mlkem.specs.MlKem.{same, secretPart, publicPart, hashPart, zPart}
-use Rattle.mlkem.specs.Refusals.{row, answer, lent, sized, reduced}
+use Rattle.mlkem.specs.Refusals.{Row, row, answer, lent, sized, reduced}
 
 -- sampling
 unfoldable pub sampleAnswer : List ℕ → List ℕ → Answer
@@ -53,31 +53,25 @@ module _ (p : Parameters) where
 
   -- ---- import
 
-  -- the buffers of import: the key, the masks, and the split key's parts
-  pub record Import : Type 0 where
-    pub dk : List ℕ
-    pub maskCoeffs : List ℕ
-    pub maskWords : List ℕ
-    pub s0 : List ℕ
-    pub s1 : List ℕ
-    pub z0 : List ℕ
-    pub z1 : List ℕ
-    pub pub-h : List ℕ
+  -- rows 2 to 4, which ask of the key alone
+  unfoldable pub keyRows : List ℕ → List Row
+  keyRows dk =
+      row (not (reduced (coefficients (p .k) (take (vectorBytes p) (publicPart p dk))))) PublicKeyRange
+      ∷ row (not (same (hashPart p dk) (H (publicPart p dk)))) WrongHash
+      ∷ row (not (reduced (coefficients (p .k) (secretPart p dk)))) SecretRange
+      ∷ []
 
-  unfoldable pub importAnswer : Import → Answer
-  importAnswer b =
+  -- of the key dk, the masks a and w, and the lent shares of the secret and of z and the public part
+  unfoldable pub importAnswer : List ℕ → List ℕ → List ℕ → List ℕ → List ℕ → List ℕ → List ℕ → List ℕ → Answer
+  importAnswer dk a w s0 s1 z0 z1 pub-h =
       answer
       (row
       (not
       (sized
-      (lent (b .dk) (dkBytes p) ∷ lent (b .maskCoeffs) (256 * p .k) ∷ lent (b .maskWords) 4 ∷ lent (b .s0) (256 * p .k)
-      ∷ lent (b .s1) (256 * p .k) ∷ lent (b .z0) 4 ∷ lent (b .z1) 4 ∷ lent (b .pub-h) (ekBytes p + 32) ∷ [])))
+      (lent dk (dkBytes p) ∷ lent a (256 * p .k) ∷ lent w 4 ∷ lent s0 (256 * p .k) ∷ lent s1 (256 * p .k) ∷ lent z0 4 ∷ lent z1 4
+      ∷ lent pub-h (ekBytes p + 32) ∷ [])))
       WrongLength
-      ∷ row (not (reduced (coefficients (p .k) (take (vectorBytes p) (publicPart p (b .dk)))))) PublicKeyRange
-      ∷ row (not (same (hashPart p (b .dk)) (H (publicPart p (b .dk))))) WrongHash
-      ∷ row (not (reduced (coefficients (p .k) (secretPart p (b .dk))))) SecretRange
-      ∷ row (not (reduced (b .maskCoeffs))) MaskRange
-      ∷ [])
+      ∷ (keyRows dk ++ row (not (reduced a)) MaskRange ∷ []))
 
   -- the second shares, for the first shares a of the secret and w of z
   unfoldable pub secondCoeffs : List ℕ → List ℕ → List ℕ

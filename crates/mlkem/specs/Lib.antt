@@ -10,3 +10,4 @@ pub mod Worksheet
 pub mod WorksheetUses
 pub mod Split
 pub mod Expanded
+pub mod Accepted

@@ -7,12 +7,14 @@ mod key_making;
 mod matrix;
 mod noise;
 mod sampling;
+mod splitting;
 mod tests;
 mod vector;
 
 pub use encapsulation::encaps;
 pub use key_making::keygen;
 pub use sampling::sample;
+pub use splitting::import;
 
 // A call's answer; specs/Refusals.antt gives document 01's number for each.
 pub enum Answer {

@@ -1,0 +1,18 @@
+-- The second shares of the secret, as the difference of two polynomials.
+use mathlib.Core.Path.{_≡_, ap, _∙_}
+use mathlib.Core.List.{List}
+use Prim.Native.Nat.{ℕ}
+use native.Mathlib.Omega.{arith}
+use lib.ListN.{length, getD, take}
+use Rattle.words.specs.Bounded.{Below}
+use Rattle.words.specs.Residue.{q}
+use Rattle.words.specs.Tab.{tab, tab-cong}
+use Rattle.ring.specs.Polynomial.{minus, sub}
+use Rattle.mlkem.specs.Parameters.{mlKem768}
+use Rattle.mlkem.specs.Calls.{coefficients, secondCoeffs}
+
+pub sub-secondCoeffs : (dk a : List ℕ) → length (coefficients 3 (take 1152 dk)) ≡ 768 → Below q a → sub (coefficients 3 (take 1152 dk)) a ≡ secondCoeffs mlKem768 dk a
+unfolding sub secondCoeffs
+sub-secondCoeffs dk a h b =
+    let s = coefficients 3 (take 1152 dk) in
+    ap (λ (n : ℕ). tab n (λ i. minus (getD s i 0) (getD a i 0))) h ∙ tab-cong 768 (λ i g. omega (arith, b .at i))

@@ -1,0 +1,154 @@
+// Import: a decapsulation key is tested and split.
+ghost use mathlib.Core.List.{_++_};
+ghost use mathlib.Core.Path.{_≡_};
+ghost use lib.ListN.{length, getD};
+ghost use Rattle.words.specs.Word.{xor};
+ghost use Rattle.words.specs.Tab.{tab};
+ghost use Rattle.fips202.specs.Sponge.{laneOf};
+ghost use Rattle.ring.specs.Polynomial.{sub};
+ghost use Rattle.mlkem.specs.Parameters.{mlKem768};
+ghost use Rattle.mlkem.specs.MlKem.{publicPart, hashPart};
+ghost use Rattle.mlkem.specs.Refusals.{after};
+ghost use Rattle.mlkem.specs.Calls.{importAnswer, secondCoeffs, secondWords};
+use crate::Answer;
+use crate::copy::copy_bytes;
+use crate::copy::copy_coefficients;
+use crate::hashes::hash_h;
+use crate::tests::reduced;
+use crate::tests::same;
+use crate::vector::decode_all;
+use fips202::bytes::load;
+use ring::sub_from;
+
+// The shares of the coefficients s, of which r is the first.
+fn split_coefficients(s: &[u16], r: &[u16], s0: &mut [u16], s1: &mut [u16])
+    requires { ⌜ (length (now s) ≡ 768) × (length (now r) ≡ 768) × (length (now s0) ≡ 768) × (length (now s1) ≡ 768) ⌝ }
+    ensures { λ _. ⌜ now (s0 .exit) ≡ now (r .entry) ⌝ }
+    ensures { λ _. ⌜ now (s1 .exit) ≡ sub (now (s .entry)) (now (r .entry)) ⌝ }
+{
+    copy_coefficients(r, s0);
+    copy_coefficients(s, s1);
+    sub_from(s1, r);
+}
+
+// The shares of the four words of z, of which w is the first.
+fn split_words(z: &[u8], w: &[u64], z0: &mut [u64], z1: &mut [u64])
+    requires { ⌜ (length (now z) ≡ 32) × (length (now w) ≡ 4) × (length (now z0) ≡ 4) × (length (now z1) ≡ 4) ⌝ }
+    ensures { λ _. ⌜ now (z0 .exit) ≡ now (w .entry) ⌝ }
+    ensures { λ _. ⌜ now (z1 .exit) ≡ tab 4 (λ i. xor (laneOf (now (z .entry)) i) (getD (now (w .entry)) i 0)) ⌝ }
+{
+    for i in 0..4 {
+        let a = 8 * i;
+        let e = a + 8;
+        z0[i] = w[i];
+        z1[i] = load(&z[a..e]) ^ w[i];
+    }
+}
+
+// For the key's secret coefficients s.
+fn write_split(
+    dk: &[u8],
+    s: &[u16],
+    coeffs: &[u16],
+    words: &[u64],
+    s0: &mut [u16],
+    s1: &mut [u16],
+    z0: &mut [u64],
+    z1: &mut [u64],
+    public: &mut [u8],
+)
+    requires { ⌜ (length (now dk) ≡ 2400) × (length (now s) ≡ 768) × (length (now coeffs) ≡ 768) × (length (now words) ≡ 4) × (length (now s0) ≡ 768) × (length (now s1) ≡ 768) × (length (now z0) ≡ 4) × (length (now z1) ≡ 4) × (length (now public) ≡ 1216) ⌝ }
+    ensures { λ _. ⌜ now (s0 .exit) ≡ now (coeffs .entry) ⌝ }
+    ensures { λ _. ⌜ now (s1 .exit) ≡ sub (now (s .entry)) (now (coeffs .entry)) ⌝ }
+    ensures { λ _. ⌜ now (z0 .exit) ≡ now (words .entry) ⌝ }
+    ensures { λ _. ⌜ now (z1 .exit) ≡ secondWords mlKem768 (now (dk .entry)) (now (words .entry)) ⌝ }
+    ensures { λ _. ⌜ now (public .exit) ≡ publicPart mlKem768 (now (dk .entry)) ++ hashPart mlKem768 (now (dk .entry)) ⌝ }
+{
+    split_coefficients(s, coeffs, s0, s1);
+    split_words(&dk[2368..2400], words, z0, z1);
+    copy_bytes(&dk[1152..2368], public);
+}
+
+fn import_sized(
+    dk: &[u8],
+    coeffs: &[u16],
+    words: &[u64],
+    s0: &mut [u16],
+    s1: &mut [u16],
+    z0: &mut [u64],
+    z1: &mut [u64],
+    public: &mut [u8],
+) -> Answer
+    requires { ⌜ (length (now dk) ≡ 2400) × (length (now coeffs) ≡ 768) × (length (now words) ≡ 4) × (length (now s0) ≡ 768) × (length (now s1) ≡ 768) × (length (now z0) ≡ 4) × (length (now z1) ≡ 4) × (length (now public) ≡ 1216) ⌝ }
+    ensures { λ r. ⌜ r ≡ importAnswer mlKem768 (now (dk .entry)) (now (coeffs .entry)) (now (words .entry)) (now (s0 .entry)) (now (s1 .entry)) (now (z0 .entry)) (now (z1 .entry)) (now (public .entry)) ⌝ }
+    ensures { λ r. ⌜ now (s0 .exit) ≡ after r (now (coeffs .entry)) (now (s0 .entry)) ⌝ }
+    ensures { λ r. ⌜ now (s1 .exit) ≡ after r (secondCoeffs mlKem768 (now (dk .entry)) (now (coeffs .entry))) (now (s1 .entry)) ⌝ }
+    ensures { λ r. ⌜ now (z0 .exit) ≡ after r (now (words .entry)) (now (z0 .entry)) ⌝ }
+    ensures { λ r. ⌜ now (z1 .exit) ≡ after r (secondWords mlKem768 (now (dk .entry)) (now (words .entry))) (now (z1 .entry)) ⌝ }
+    ensures { λ r. ⌜ now (public .exit) ≡ after r (publicPart mlKem768 (now (dk .entry)) ++ hashPart mlKem768 (now (dk .entry))) (now (public .entry)) ⌝ }
+{
+    let mut t = [0u16; 768];
+    let mut h = [0u8; 32];
+    let mut s = [0u16; 768];
+    decode_all(&dk[1152..2304], 3, &mut t);
+    if !reduced(&t) {
+        return Answer::PublicKeyRange;
+    }
+    hash_h(&dk[1152..2336], &mut h);
+    if !same(&dk[2336..2368], &h) {
+        return Answer::WrongHash;
+    }
+    decode_all(&dk[0..1152], 3, &mut s);
+    if !reduced(&s) {
+        return Answer::SecretRange;
+    }
+    if !reduced(coeffs) {
+        return Answer::MaskRange;
+    }
+    write_split(dk, &s, coeffs, words, s0, s1, z0, z1, public);
+    Answer::Done
+}
+
+pub fn import(
+    dk: &[u8],
+    coeffs: &[u16],
+    words: &[u64],
+    s0: &mut [u16],
+    s1: &mut [u16],
+    z0: &mut [u64],
+    z1: &mut [u64],
+    public: &mut [u8],
+) -> Answer
+    ensures { λ r. ⌜ r ≡ importAnswer mlKem768 (now (dk .entry)) (now (coeffs .entry)) (now (words .entry)) (now (s0 .entry)) (now (s1 .entry)) (now (z0 .entry)) (now (z1 .entry)) (now (public .entry)) ⌝ }
+    ensures { λ r. ⌜ now (s0 .exit) ≡ after r (now (coeffs .entry)) (now (s0 .entry)) ⌝ }
+    ensures { λ r. ⌜ now (s1 .exit) ≡ after r (secondCoeffs mlKem768 (now (dk .entry)) (now (coeffs .entry))) (now (s1 .entry)) ⌝ }
+    ensures { λ r. ⌜ now (z0 .exit) ≡ after r (now (words .entry)) (now (z0 .entry)) ⌝ }
+    ensures { λ r. ⌜ now (z1 .exit) ≡ after r (secondWords mlKem768 (now (dk .entry)) (now (words .entry))) (now (z1 .entry)) ⌝ }
+    ensures { λ r. ⌜ now (public .exit) ≡ after r (publicPart mlKem768 (now (dk .entry)) ++ hashPart mlKem768 (now (dk .entry))) (now (public .entry)) ⌝ }
+{
+    if dk.len() != 2400 {
+        return Answer::WrongLength;
+    }
+    if coeffs.len() != 768 {
+        return Answer::WrongLength;
+    }
+    if words.len() != 4 {
+        return Answer::WrongLength;
+    }
+    if s0.len() != 768 {
+        return Answer::WrongLength;
+    }
+    if s1.len() != 768 {
+        return Answer::WrongLength;
+    }
+    if z0.len() != 4 {
+        return Answer::WrongLength;
+    }
+    if z1.len() != 4 {
+        return Answer::WrongLength;
+    }
+    if public.len() != 1216 {
+        return Answer::WrongLength;
+    }
+    import_sized(dk, coeffs, words, s0, s1, z0, z1, public)
+}
