@@ -3,7 +3,9 @@
 use fips202::Answer;
 use libc::STDOUT_FILENO;
 
-fn print(text: &[u8]) {
+mod masked; // the hashes on two shares
+
+pub(crate) fn print(text: &[u8]) {
     io::write_all(STDOUT_FILENO, text);
 }
 
@@ -12,7 +14,7 @@ fn hex_digit(n: u8) -> u8 {
     if d < 10 { 48 + d } else { 87 + d }
 }
 
-fn print_hex(bytes: &[u8]) {
+pub(crate) fn print_hex(bytes: &[u8]) {
     let mut i: usize = 0;
     while i < bytes.len() {
         let two = [hex_digit(bytes[i] / 16), hex_digit(bytes[i])];
@@ -108,14 +110,14 @@ fn squeeze_length(space: &mut [u8], n: usize) {
     }
 }
 
-fn print_answer(answer: Answer) {
+pub(crate) fn print_answer(answer: Answer) {
     match answer {
         Answer::Done => print(b"done "),
         Answer::WrongLength => print(b"refused 1 "),
     }
 }
 
-fn clear(out: &mut [u8]) {
+pub(crate) fn clear(out: &mut [u8]) {
     let mut i: usize = 0;
     while i < out.len() {
         out[i] = 238;
@@ -181,4 +183,5 @@ fn main() {
     hash_edges(&mut space);
     squeeze_edges(&mut space);
     answer_edges(&mut space);
+    masked::hash_all();
 }
