@@ -1,15 +1,13 @@
 /* Our hashes against the C version in keccak_c.c, in one run: each pair is timed in turns, and the medians are compared.
    With an argument, ours or c, it runs one permutation and nothing else, for callgrind. */
-#include <stdio.h>
-#include <stdlib.h>
 #include <string.h>
-#include <time.h>
 #include "../include/tifolanzo.h"
 #include "keccak_c.h"
+#include "timing.h"
 
 void bench_keccak_p(uint64_t *s);
 
-enum { TURNS = 201, BYTES = 4096 };
+enum { BYTES = 4096 };
 
 static uint64_t state[25];
 static uint8_t input[BYTES], output[BYTES];
@@ -20,31 +18,6 @@ static void our_sha3_512(void) { tifo_sha3_512(input, BYTES, output, 64); }
 static void c_sha3_512(void) { c_sponge(72, 0x06, input, BYTES, output, 64); }
 static void our_shake128(void) { tifo_shake128(input, 32, output, BYTES); }
 static void c_shake128(void) { c_sponge(168, 0x1f, input, 32, output, BYTES); }
-
-static double microseconds(void (*f)(void)) {
-    struct timespec a, b;
-    clock_gettime(CLOCK_MONOTONIC, &a);
-    f();
-    clock_gettime(CLOCK_MONOTONIC, &b);
-    return (b.tv_sec - a.tv_sec) * 1e6 + (b.tv_nsec - a.tv_nsec) / 1e3;
-}
-
-static int by_size(const void *a, const void *b) {
-    double x = *(const double *)a, y = *(const double *)b;
-    return (x > y) - (x < y);
-}
-
-static void compare(const char *name, void (*ours)(void), void (*theirs)(void), int per) {
-    double a[TURNS], b[TURNS];
-    for (int i = 0; i < TURNS; i++) {
-        a[i] = microseconds(ours);
-        b[i] = microseconds(theirs);
-    }
-    qsort(a, TURNS, sizeof *a, by_size);
-    qsort(b, TURNS, sizeof *b, by_size);
-    double x = a[TURNS / 2] / per, y = b[TURNS / 2] / per;
-    printf("%-34s ours %8.3f us   C %8.3f us   ratio %.2f\n", name, x, y, x / y);
-}
 
 /* the two must agree before their times mean anything */
 static void agree(void) {
@@ -69,8 +42,8 @@ int main(int argc, char **argv) {
         return 0;
     }
     agree();
-    compare("one permutation", our_permutation, c_permutation, 64);
-    compare("SHA3-512 absorbing 4,096 bytes", our_sha3_512, c_sha3_512, 1);
-    compare("SHAKE128 squeezing 4,096 bytes", our_shake128, c_shake128, 1);
+    compare("one permutation", "ours", our_permutation, "C", c_permutation, 64);
+    compare("SHA3-512 absorbing 4,096 bytes", "ours", our_sha3_512, "C", c_sha3_512, 1);
+    compare("SHAKE128 squeezing 4,096 bytes", "ours", our_shake128, "C", c_shake128, 1);
     return 0;
 }
