@@ -22,13 +22,13 @@ takeIn n b s = mixLanes n b s >>= maskedKeccakP
 abbrev pub sharedBytes : ℕ → SharedList → SharedList
 sharedBytes d z = sharedList (tab d (byteOf (z .s0))) (tab d (byteOf (z .s1)))
 
--- d bytes of output from the state s, of whole words the last may give less than eight
+-- d bytes of output from the state s; the last word may give fewer than eight
 unfoldable pub squeezeBytes : ℕ → ℕ → SharedList → Prog SharedList
 squeezeBytes lanes d s = do
   z ← maskedSqueeze lanes ((d + 7) / 8) s
   ret (sharedBytes d z)
 
--- the shares of the d bytes that a hash gives
+-- the sponge, its output in bytes
 unfoldable pub maskedHash : ℕ → ℕ → List ℕ → List ℕ → ℕ → Prog SharedList
 maskedHash rate suffix in0 in1 d = do
   z ← maskedSponge rate suffix in0 in1 ((d + 7) / 8)

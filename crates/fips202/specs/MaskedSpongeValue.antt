@@ -1,7 +1,7 @@
 -- Right: what the sponge on two shares gives joins to the sponge of the joined message, whatever masks are drawn.
-use mathlib.Core.Path.{_≡_, refl, sym, ap, ap₂, _∙_, subst}
+use mathlib.Core.Path.{_≡_, refl, sym, ap, ap₂, _∙_}
 use mathlib.Core.Bool.{cond}
-use mathlib.Core.List.{List, [], _∷_}
+use mathlib.Core.List.{List, []}
 use Prim.Native.Nat.{ℕ, zero, suc, _+_, _-_, _*_, _/_, _%_, _^_, _<_, _≤_}
 use borrow.Author.Tests.{lt-ltb, le-ltb}
 use native.Mathlib.Decide.{decLt}
@@ -13,24 +13,23 @@ use lib.ListN.{length, getD, take, drop, replicate, getD-replicate}
 use Rattle.words.specs.Word.{Bits, xor}
 use Rattle.words.specs.WordLaws.{xor-same, xor-zero}
 use Rattle.words.specs.Bounded.{Below, below-nil, below-cons, below-append, below-zeros, below-take, below-drop}
-use Rattle.words.specs.Tab.{tab, length-tab, getD-tab, tab-cong}
+use Rattle.words.specs.Tab.{length-tab, getD-tab, tab-cong}
 use Rattle.words.specs.Iterate.{iterate}
 use Rattle.keccak.specs.KeccakP.{keccak-p}
 use Rattle.worksheet.specs.declared.Shares.{Shares}
-use Rattle.worksheet.specs.Prog.{word, mask, entry, _>>=_}
+use Rattle.worksheet.specs.Prog.{mask, entry, _>>=_}
 use Rattle.worksheet.specs.Run.{run}
 use Rattle.worksheet.specs.Turns.{Each}
-use Rattle.worksheet.specs.Gives.{Gives, ret-g, draw-g, enter-g, gives-bind, gives-loop, gives-times, gives-chain}
-use Rattle.worksheet.specs.Sharing.{shares, joined, none, Sharing, sharing-xorShares}
+use Rattle.worksheet.specs.Gives.{Gives, ret-g, draw-g, enter-g, gives-bind, gives-loop, gives-times, gives-chain, gives-run}
+use Rattle.worksheet.specs.Sharing.{none, Sharing, sharing-xorShares}
 use Rattle.worksheet.specs.SharedList.{SharedList, sharedList, sharedAt, unzip, sharedAt-unzip, joinedList}
 use Rattle.worksheet.specs.Gates.{maskedXor}
-use Rattle.masked_keccak.specs.Lanes.{LaneSharings}
 use Rattle.masked_keccak.specs.Joined.{StateSharing, state-lanes, state-sharing, gives-maskedKeccakP}
 use Rattle.fips202.specs.Sponge.{padding, padded, laneOf, mixed, absorbed, byteOf, squeezed, sponge, sha3-512, shake256}
 use Rattle.fips202.specs.Blocks.{length-padded}
 use Rattle.fips202.specs.Lanes.{laneOf-past, byte-place, block-lt}
-use Rattle.fips202.specs.XorBytes.{XorOf, xorOf-take, xorOf-drop, xorOf-padded, length-joined, sharing-lane, byte-xor}
-use Rattle.fips202.specs.MaskedSponge.{start, mixLanes, maskedBlocks, sharedBlock, maskedAbsorb, maskedSqueeze, maskedSponge}
+use Rattle.fips202.specs.XorBytes.{xorOf-take, xorOf-drop, xorOf-padded, length-joined, sharing-lane, byte-xor}
+use Rattle.fips202.specs.MaskedSponge.{start, mixLanes, maskedBlocks, maskedAbsorb, maskedSqueeze, maskedSponge}
 use Rattle.fips202.specs.MaskedBytes.{sharedBytes, maskedHash}
 use Rattle.fips202.specs.MaskedCalls.{maskedSha3-512, maskedShake256}
 
@@ -186,3 +185,12 @@ module _ {in0 in1 : List ℕ} (e : length in0 ≡ length in1) (b0 : Below 256 in
   gives-maskedShake256 d =
       gives-maskedHash
       (record { positive = omega arith; fits = omega arith; whole = refl; short = omega arith; long = e; bytes0 = b0; bytes1 = b1 }) d
+
+  -- on masks below 2 ^ 64
+  pub sha3-512-joined : {masks : List ℕ} → Below (2 ^ 64) masks
+      → joinedList (run (maskedSha3-512 in0 in1) masks [] .value) ≡ sha3-512 (joinedList (sharedList in0 in1))
+  sha3-512-joined h = gives-run gives-maskedSha3-512 h (below-nil (omega arith))
+
+  pub shake256-joined : {masks : List ℕ} (d : ℕ) → Below (2 ^ 64) masks
+      → joinedList (run (maskedShake256 in0 in1 d) masks [] .value) ≡ shake256 (joinedList (sharedList in0 in1)) d
+  shake256-joined d h = gives-run (gives-maskedShake256 d) h (below-nil (omega arith))

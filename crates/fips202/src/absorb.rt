@@ -23,7 +23,7 @@ fn mix_block(s: State, p: &[u8], rate: usize) -> State
     t
 }
 
-// A string shorter than a block, and zeros.
+// At most 200 bytes, and zeros.
 pub(crate) fn zero_filled(p: &[u8]) -> [u8; 200]
     requires { ⌜ length (now p) ≤ 200 ⌝ }
     ensures { λ r. ⌜ r ≡ now (p .entry) ++ replicate (200 - length (now (p .entry))) 0 ⌝ }

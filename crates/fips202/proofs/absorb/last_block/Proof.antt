@@ -1,13 +1,12 @@
 use Prim.Native.Nat.{ℕ, zero, suc, _+_, _-_, _<_, _≤_}
-use mathlib.Core.Path.{_≡_, refl, sym, ap, _∙_}
+use mathlib.Core.Path.{_≡_, refl, ap, _∙_}
 use mathlib.Core.List.{List, [], _∷_, _++_}
 use borrow.Author.Needs.{needs}
 use native.Mathlib.Nat.{sub-zero}
-use native.Mathlib.Numerals.{add-one}
 use native.Mathlib.Omega.{arith}
 use lib.Bits.{bitXor, xor-comm, xor-shifted}
 use lib.ListN.{length, getD, take, set, replicate, length-replicate, getD-replicate}
-use lib.Seq.{take-suc, take-length, take-suc-set, length-take-le, set-at, append-snoc}
+use lib.Seq.{take-suc-set}
 use Rattle.fips202.specs.Sponge.{padding}
 use Rattle.fips202.proofs.absorb.last_block.Statement.{statement}
 use Rattle.fips202.proofs.absorb.last_block.Tie as tie
