@@ -1,5 +1,5 @@
 -- The lanes of a state in two shares: its start masks, and the lanes of a block mixed into it.
-use mathlib.Core.Path.{_≡_, refl, sym, ap, ap₂, _∙_, subst}
+use mathlib.Core.Path.{_≡_, refl, sym, ap₂, _∙_, subst}
 use mathlib.Core.Bool.{cond}
 use mathlib.Core.List.{List, [], _∷_, _++_}
 use Prim.Native.Nat.{ℕ, zero, suc, _+_, _<_, _≤_}
@@ -9,15 +9,15 @@ use native.Mathlib.Omega.{arith}
 use borrow.Author.Tests.{lt-ltb, le-ltb}
 use lib.Dec.{ltb}
 use lib.ListN.{length, getD, set, drop, length-set}
-use lib.Seq.{getD-set-same, getD-set-other}
-use Rattle.words.specs.Tab.{tab, tab-cong, tab-of}
+use lib.Seq.{getD-set-other}
+use Rattle.words.specs.Tab.{tab, tab-of}
 use Rattle.worksheet.specs.declared.Recorder.{Recorder}
 use Rattle.worksheet.specs.declared.Shares.{Shares}
 use Rattle.worksheet.specs.Prog.{word, mask, times}
 use Rattle.worksheet.specs.Ran.{Ran, Makes, Draws, bind, over, draws-word, next-word}
 use Rattle.worksheet.specs.RanLoops.{times-start, times-turn}
 use Rattle.worksheet.specs.Sharing.{none}
-use Rattle.worksheet.specs.SharedList.{SharedList, sharedList, sharedAt, unzip, zip, getD-zip}
+use Rattle.worksheet.specs.SharedList.{SharedList, sharedList, sharedAt, unzip, zip, getD-zip, zip-set}
 use Rattle.worksheet.specs.Gates.{maskedXor}
 use Rattle.fips202.specs.MaskedSponge.{start, mixLanes}
 
@@ -62,15 +62,6 @@ mixing-start h e0 e1 =
       rest1 = λ k g. refl;
     }
 
--- one more sharing at the end
-zip-set : (j : ℕ) (l0 l1 : List ℕ) (v : Shares) → j < length l0 → j < length l1
-    → zip (j + 1) (sharedList (set l0 j (v .s0)) (set l1 j (v .s1))) ≡ zip j (sharedList l0 l1) ++ v ∷ []
-unfolding zip tab
-zip-set j l0 l1 v h0 h1 =
-    rw (add-one j, getD-set-same l0 j (v .s0) 0 h0, getD-set-same l1 j (v .s1) 0 h1)
-    (ap (λ (l : List Shares). l ++ v ∷ [])
-    (tab-cong j (λ k h. rw (getD-set-other l0 j k (v .s0) 0 (λ e. omega arith), getD-set-other l1 j k (v .s1) 0 (λ e. omega arith)))))
-
 pub mixing-turn : {n : ℕ} {b : ℕ → Shares} {s : SharedList} {j : ℕ} {r r′ r″ : Recorder} {l0 l1 : List ℕ} {v w : Shares}
     → Mixing n b s j r r′ l0 l1 → j < n → w ≡ b j → Makes (maskedXor (sharedAt (sharedList l0 l1) j) w) r′ v r″
     → Mixing n b s (j + 1) r r″ (set l0 j (v .s0)) (set l1 j (v .s1))
@@ -82,7 +73,7 @@ mixing-turn {j = j} {l0 = l0} {l1 = l1} {v = v} a h e m =
       long0 = length-set l0 j (v .s0) ∙ a .long0;
       long1 = length-set l1 j (v .s1) ∙ a .long1;
       mixed = λ ws cs.
-          rw (zip-set j l0 l1 v (omega (arith, a .long0)) (omega (arith, a .long1)))
+          rw (zip-set l0 l1 j (v .s0) (v .s1) (omega (arith, a .long0)) (omega (arith, a .long1)))
           (times-turn _ j (a .mixed ws cs) (rw (a .rest0 j (omega arith), a .rest1 j (omega arith), e) at (m ws cs)));
       rest0 = λ k g. getD-set-other l0 j k (v .s0) 0 (λ e. omega arith) ∙ a .rest0 k (omega arith);
       rest1 = λ k g. getD-set-other l1 j k (v .s1) 0 (λ e. omega arith) ∙ a .rest1 k (omega arith);

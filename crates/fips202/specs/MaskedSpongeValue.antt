@@ -17,13 +17,13 @@ use Rattle.words.specs.Tab.{length-tab, getD-tab, tab-cong}
 use Rattle.words.specs.Iterate.{iterate}
 use Rattle.keccak.specs.KeccakP.{keccak-p}
 use Rattle.worksheet.specs.declared.Shares.{Shares}
-use Rattle.worksheet.specs.Prog.{mask, entry, _>>=_}
+use Rattle.worksheet.specs.Prog.{mask}
 use Rattle.worksheet.specs.Run.{run}
 use Rattle.worksheet.specs.Turns.{Each}
-use Rattle.worksheet.specs.Gives.{Gives, ret-g, draw-g, enter-g, gives-bind, gives-loop, gives-times, gives-chain, gives-run}
-use Rattle.worksheet.specs.Sharing.{none, Sharing, sharing-xorShares}
+use Rattle.worksheet.specs.Gives.{Gives, ret-g, draw-g, gives-bind, gives-loop, gives-times, gives-chain, gives-run}
+use Rattle.worksheet.specs.Sharing.{none, Sharing}
 use Rattle.worksheet.specs.SharedList.{SharedList, sharedList, sharedAt, unzip, sharedAt-unzip, joinedList}
-use Rattle.worksheet.specs.Gates.{maskedXor}
+use Rattle.worksheet.specs.GatesSharing.{sharing-maskedXor}
 use Rattle.masked_keccak.specs.Joined.{StateSharing, state-lanes, state-sharing, gives-maskedKeccakP}
 use Rattle.fips202.specs.Sponge.{padding, padded, laneOf, mixed, absorbed, byteOf, squeezed, sponge, sha3-512, shake256}
 use Rattle.fips202.specs.Blocks.{length-padded}
@@ -49,17 +49,13 @@ gives-start =
           };
     })))
 
-gives-lane : {X Y : ℕ} {u v : Shares} → Sharing 64 X u → Sharing 64 Y v → Gives (Sharing 64 (xor X Y)) (maskedXor u v)
-unfolding maskedXor entry _>>=_
-gives-lane a b = enter-g (enter-g (ret-g (sharing-xorShares a b)))
-
 -- n lanes b, the shares of the lanes of p, which has no others
 gives-mixLanes : (n : ℕ) {b : ℕ → Shares} (p : List ℕ) {l : List ℕ} {s : SharedList} → n ≤ 25 → StateSharing l s
     → ((j : ℕ) → j < n → Sharing 64 (laneOf p j) (b j)) → ((j : ℕ) → n ≤ j → laneOf p j ≡ 0)
     → Gives (StateSharing (mixed p l)) (mixLanes n b s)
 unfolding mixLanes mixed unzip
 gives-mixLanes n {b} p {l} {s} h r f g =
-    gives-bind (gives-times (λ j. Sharing 64 (xor (getD l j 0) (laneOf p j))) n (λ j k. gives-lane (state-lanes r .at j (omega arith)) (f j k))) (λ z t.
+    gives-bind (gives-times (λ j. Sharing 64 (xor (getD l j 0) (laneOf p j))) n (λ j k. sharing-maskedXor (state-lanes r .at j (omega arith)) (f j k))) (λ z t.
     ret-g (state-sharing (length-tab 25 _) (length-tab 25 _) (length-tab 25 _)
     (record { at = λ j k. rw (getD-tab 25 (λ i. xor (getD l i 0) (laneOf p i)) j 0 k, sharedAt-unzip 25 (lane z) j k) (go z t j k (decLt j n)) })))
   where
