@@ -79,13 +79,17 @@ module _ (p : Parameters) where
           r,
         )
 
+  pub accepted-secret : {dk : List ℕ} → Accepted dk → Below q (coefficients (p .k) (secretPart p dk))
+  unfolding answer keyRows
+  accepted-secret {dk} x = reduced-below (coefficients (p .k) (secretPart p dk)) (tested dk Done (x .rows) .secret)
+
   -- the split of an accepted key joins to it
   pub join-coefficients : {dk : List ℕ} (a : List ℕ) (i : ℕ) → Accepted dk → Below q a → i < 256 * p .k
       → (getD a i 0 + getD (secondCoeffs p dk a) i 0) % q ≡ getD (coefficients (p .k) (secretPart p dk)) i 0
-  unfolding secondCoeffs answer keyRows
+  unfolding secondCoeffs
   join-coefficients {dk} a i x b h =
       let s = coefficients (p .k) (secretPart p dk) in
-      let m = reduced-below s (tested dk Done (x .rows) .secret) in
+      let m = accepted-secret x in
       ap (λ (n : ℕ). (getD a i 0 + n) % q) (getD-tab (256 * p .k) (λ i. (getD s i 0 + (q - getD a i 0)) % q) i 0 h)
       ∙ ap (λ (n : ℕ). n % q) (add-comm (getD a i 0) ((getD s i 0 + (q - getD a i 0)) % q))
       ∙ sub-add-mod (getD s i 0) (getD a i 0) q (m .at i) (omega (arith, b .at i))

@@ -2,7 +2,6 @@
 use mathlib.Core.Path.{_≡_}
 use mathlib.Core.List.{List}
 use Prim.Native.Nat.{ℕ, _^_}
-use lib.Dec.{T}
 use lib.ListN.{length, replicate}
 use Rattle.words.specs.Bounded.{Below}
 use Rattle.words.specs.Residue.{q}
@@ -13,12 +12,13 @@ use Rattle.mlkem.specs.Parameters.{mlKem768}
 use Rattle.mlkem.specs.MlKem.{publicPart}
 use Rattle.mlkem.specs.Calls.{matrixFull, rhoOf}
 use Rattle.mlkem.specs.Worksheet.{worksheet}
-use Rattle.mlkem.specs.Split.{accepted, split}
+use Rattle.mlkem.specs.Split.{split}
+use Rattle.mlkem.specs.Accepted.{Accepted}
 
 -- a key that import doesn't refuse
 pub record Key (dk : List ℕ) : Type 0 where
   pub bytes : Below 256 dk
-  pub accepts : T (accepted mlKem768 dk)
+  pub accepts : Accepted mlKem768 dk
 
 -- any 1,088 bytes
 pub record Ciphertext (c : List ℕ) : Type 0 where
@@ -33,5 +33,5 @@ gives dk c t v a w ws cs = hit t v (run (worksheet mlKem768 (split mlKem768 dk a
 -- first words, and a strip of 11,750 words and 7,424 coefficients below q; where a matrix stream runs dry there is none.
 unfoldable pub choices : List ℕ → List ℕ → ℕ → ℕ → ℕ
 choices dk c t v =
-    when (matrixFull mlKem768 (rhoOf mlKem768 (publicPart mlKem768 dk)))
+    when (matrixFull (mlKem768 .k) (rhoOf mlKem768 (publicPart mlKem768 dk)))
     (tally (replicate 768 q) (λ a. tally (replicate 4 (2 ^ 64)) (λ w. strips 11750 7424 (λ ws cs. gives dk c t v a w ws cs))))

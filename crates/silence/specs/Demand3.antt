@@ -2,14 +2,11 @@
 -- give a value at a step.
 use Prim.Native.Nat.{ℕ, zero, suc, _^_, _<_, _≤_}
 use mathlib.Core.Path.{_≡_, refl, sym, ap, ap₂, _∙_}
-use mathlib.Core.Bool.{Bool, _&&_}
 use mathlib.Core.List.{List, [], _∷_}
 use native.Mathlib.Decide.{decLt}
 use native.Mathlib.Nat.{zero-add}
 use native.Mathlib.Omega.{arith}
-use lib.Dec.{T, eqb, eqb→eq}
-use lib.Ieee.Fits.{and-l, and-r}
-use lib.ListN.{length, take, drop, replicate, length-take, length-drop}
+use lib.ListN.{length, drop, replicate, length-take, length-drop}
 use Rattle.words.specs.Bounded.{Below, below-take, below-drop}
 use Rattle.words.specs.Residue.{q}
 use Rattle.worksheet.specs.Prog.{word, coeff, Prog, _>>=_, mask, times}
@@ -21,13 +18,12 @@ use Rattle.worksheet.specs.CoupleLoops.{like-times}
 use Rattle.worksheet.specs.Matching.{identity}
 use Rattle.worksheet.specs.SharedList.{SharedList, sharedList}
 use Rattle.mlkem.specs.Parameters.{mlKem768}
-use Rattle.mlkem.specs.Functions.{H}
-use Rattle.mlkem.specs.MlKem.{same, secretPart, publicPart, hashPart}
-use Rattle.mlkem.specs.Refusals.{reduced}
-use Rattle.mlkem.specs.Calls.{coefficients, secondCoeffs, secondWords, matrixFull, rhoOf}
+use Rattle.mlkem.specs.MlKem.{publicPart, hashPart}
+use Rattle.mlkem.specs.Calls.{secondCoeffs, secondWords, matrixFull, rhoOf}
 use Rattle.mlkem.specs.Worksheet.{worksheet}
 use Rattle.mlkem.specs.WorksheetUses.{uses-worksheet}
-use Rattle.mlkem.specs.Split.{accepted, split}
+use Rattle.mlkem.specs.Split.{split}
+use Rattle.mlkem.specs.Accepted.{accepted-secret}
 use Rattle.silence.specs.Fits.{fits768}
 use Rattle.silence.specs.Claim.{Key, Ciphertext, gives, choices}
 use Rattle.silence.specs.WorksheetSilence.{worksheet-stage}
@@ -35,21 +31,10 @@ use Rattle.silence.specs.SplitSilence.{coupled-firsts}
 
 -- ---- a key's parts
 
--- the first and the last of four tests
-outer : (a b c d : Bool) → T (a && b && c && d) → T a × T d
-outer a b c d t = (and-l a b (and-l (a && b) c (and-l (a && b && c) d t)), and-r (a && b && c) d t)
-
 module _ {dk : List ℕ} (key : Key dk) where
-  key-parts : T (eqb (length dk) 2400) × T (reduced (coefficients mlKem768 (secretPart mlKem768 dk)))
-  unfolding accepted
-  key-parts =
-      outer (eqb (length dk) 2400) (reduced (coefficients mlKem768 (take 1152 (publicPart mlKem768 dk))))
-      (same (hashPart mlKem768 dk) (H (publicPart mlKem768 dk))) (reduced (coefficients mlKem768 (secretPart mlKem768 dk)))
-      (key .accepts)
-
   length-hashPart : length (hashPart mlKem768 dk) ≡ 32
   length-hashPart =
-      length-take 32 (drop 2336 dk) ∙ omega (arith, length-drop 2336 dk, eqb→eq (length dk) 2400 (key-parts .0))
+      length-take 32 (drop 2336 dk) ∙ omega (arith, length-drop 2336 dk, key .accepts .long)
 
   below-hashPart : Below 256 (hashPart mlKem768 dk)
   below-hashPart = below-take 32 (below-drop 2336 (key .bytes))
@@ -86,7 +71,7 @@ module _ {dk dk′ c : List ℕ} (key : Key dk) (key′ : Key dk′) (ct : Ciphe
       (below-hashPart key) (ct .long) (ct .bytes) .entry t h
       in
       sameAt-recount (zero-add t)
-      (sameAt-right (coupled-firsts mlKem768 dk dk′ (x .0 .0) (key-parts key .1) (key-parts key′ .1)) (λ a a′ r.
+      (sameAt-right (coupled-firsts mlKem768 dk dk′ (x .0 .0) (accepted-secret mlKem768 (key .accepts)) (accepted-secret mlKem768 (key′ .accepts))) (λ a a′ r.
       sameAt-recount (zero-add t)
       (sameAt-right like-words (λ w w′ u.
       rw (split-public dk a w refl refl, split-public dk′ a′ w′ (sym e) (sym f)) (x .1 _ _ (record { main = r; side = tt }))))))
@@ -122,7 +107,7 @@ pub demand3 : {dk dk′ c : List ℕ} → Key dk → Key dk′ → Ciphertext c 
     → hashPart mlKem768 dk ≡ hashPart mlKem768 dk′ → (t v : ℕ) → choices dk c t v ≡ choices dk′ c t v
 unfolding choices
 demand3 {dk} {dk′} {c} key key′ ct e f t v =
-    ap₂ when (ap (λ (ek : List ℕ). matrixFull mlKem768 (rhoOf mlKem768 ek)) e) (go (decLt t 187794))
+    ap₂ when (ap (λ (ek : List ℕ). matrixFull (mlKem768 .k) (rhoOf mlKem768 ek)) e) (go (decLt t 187794))
   where
     go : Dec (t < 187794) → counted dk c t v ≡ counted dk′ c t v
     go (yes h) =

@@ -2,13 +2,11 @@
 use Prim.Native.Nat.{ℕ, _+_, _-_, _*_, _%_, _<_}
 use mathlib.Core.Path.{_≡_, refl, sym, _∙_}
 use mathlib.Core.Bool.{Bool, true, false}
-use mathlib.Core.List.{List, [], _∷_}
+use mathlib.Core.List.{List}
 use native.Mathlib.Nat.{mod-lt, mul-zero}
 use native.Mathlib.Omega.{arith}
-use lib.Dec.{T, ltb, ltb→lt}
-use lib.Ieee.Fits.{and-l, and-r}
 use lib.ListN.{getD}
-use Rattle.words.specs.Bounded.{Below, below-nil, below-cons}
+use Rattle.words.specs.Bounded.{Below}
 use Rattle.words.specs.Residue.{q}
 use Rattle.words.specs.Tab.{tab-of, tab-cong}
 use Rattle.worksheet.specs.declared.Shares.{Shares}
@@ -23,7 +21,6 @@ use Rattle.worksheet.specs.SharedList.{sharedList}
 use Rattle.worksheet.specs.Choice.{SameShare}
 use Rattle.mlkem.specs.Parameters.{Parameters}
 use Rattle.mlkem.specs.MlKem.{secretPart}
-use Rattle.mlkem.specs.Refusals.{reduced}
 use Rattle.mlkem.specs.Calls.{coefficients, secondCoeffs}
 
 -- ---- one coefficient X, whose first share is x
@@ -51,15 +48,9 @@ coupled-first c {X} {X′} h h′ =
 
 -- ---- the secret
 
-below-reduced : (l : List ℕ) → T (reduced l) → Below q l
-unfolding reduced
-below-reduced [] t = below-nil q-positive
-below-reduced (x ∷ l) t =
-    below-cons (ltb→lt x q (and-l (ltb x q) (reduced l) t)) (below-reduced l (and-r (ltb x q) (reduced l) t))
-
 module _ (p : Parameters) (dk dk′ : List ℕ) where
   abbrev coeffAt : List ℕ → ℕ → ℕ
-  coeffAt dk i = getD (coefficients p (secretPart p dk)) i 0
+  coeffAt dk i = getD (coefficients (p .k) (secretPart p dk)) i 0
 
   abbrev SameSplit : Bool → ℕ → ℕ → ℕ → Type 0
   SameSplit c i x x′ = share c (splitCoeff (coeffAt dk i) x) ≡ share c (splitCoeff (coeffAt dk′ i) x′)
@@ -71,11 +62,11 @@ module _ (p : Parameters) (dk dk′ : List ℕ) where
       record { same = tab-of 0 a (256 * p .k) (r .long) (r .at 0 0) ∙ sym (tab-of 0 a′ (256 * p .k) (r .long′) (λ i h. refl)) }
   sameShare-split true r = record { same = tab-cong (256 * p .k) (r .at 0 0) }
 
-  pub coupled-firsts : (c : Bool) → T (reduced (coefficients p (secretPart p dk))) → T (reduced (coefficients p (secretPart p dk′)))
+  pub coupled-firsts : (c : Bool) → Below q (coefficients (p .k) (secretPart p dk)) → Below q (coefficients (p .k) (secretPart p dk′))
       → Coupled (λ a a′. SameShare c (sharedList a (secondCoeffs p dk a)) (sharedList a′ (secondCoeffs p dk′ a′))) 0
       (times (256 * p .k) (λ i. mask coeff)) (times (256 * p .k) (λ i. mask coeff))
   coupled-firsts c t t′ =
       coupled-recount (mul-zero (256 * p .k))
       (coupled-weaken (λ a a′ r. sameShare-split c r)
       (coupled-times (256 * p .k) {R = SameSplit c} (λ i h.
-      coupled-first c (below-reduced _ t .at i) (below-reduced _ t′ .at i))))
+      coupled-first c (t .at i) (t′ .at i))))
