@@ -9,8 +9,8 @@ use lib.ListN.{getD, List·getD-map}
 use lib.Arith.{half-le}
 use lib.Pow.{shr-shr, field, mod-mod-pow}
 use lib.Bits.{differ}
-use Rattle.words.specs.Word.{Bits, xor, and}
-use Rattle.words.specs.WordLaws.{xor-shift, and-shift, bits-mono}
+use Rattle.words.specs.Word.{Bits, xor, and, low}
+use Rattle.words.specs.WordLaws.{xor-shift, and-shift, low-xor, bits-mono}
 use Rattle.words.specs.Formula.{Formula, at, _⊕_, _⊗_, onWords, onBits, xor-odd, and-odd}
 
 -- bit k of x
@@ -51,6 +51,11 @@ digit-xor k x y = rw (xor-shift k x y) (xor-odd (x / 2 ^ k) (y / 2 ^ k))
 pub digit-and : (k x y : ℕ) → digit k (and x y) ≡ min (digit k x) (digit k y)
 unfolding digit
 digit-and k x y = rw (and-shift k x y) (and-odd (x / 2 ^ k) (y / 2 ^ k))
+
+-- the bits of two words, joined, are those of the joined words
+pub xor-digit : (k x y : ℕ) → xor (digit k x) (digit k y) ≡ digit k (xor x y)
+unfolding digit low
+xor-digit k x y = sym (low-xor 1 (x / 2 ^ k) (y / 2 ^ k)) ∙ ap (λ (z : ℕ). z % 2) (sym (xor-shift k x y))
 
 pub digit-formula : (k : ℕ) (e : Formula) (ρ : List ℕ) → digit k (onWords e ρ) ≡ onBits e (map (digit k) ρ)
 digit-formula k (at i) ρ = sym (List·getD-map (digit k) ρ i 0) ∙ ap (λ (d : ℕ). getD (map (digit k) ρ) i d) (digit-zero k)

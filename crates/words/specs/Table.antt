@@ -30,6 +30,10 @@ every-at (suc n) p t i h = go (decLt i n) (every-at n p (left (every n p) (p n) 
     go (yes g) r = r g
     go (no g) r = let e : i ≡ n = omega arith in rw e (right (every n p) (p n) t)
 
+pub every-true : (n : ℕ) (p : ℕ → Bool) → ((i : ℕ) → i < n → p i ≡ true) → every n p ≡ true
+every-true zero p h = refl
+every-true (suc n) p h = rw (every-true n p (λ i l. h i (omega arith)), h n (omega arith))
+
 -- entry k of the table passes the test f k
 pub table-at : (f : ℕ → ℕ → Bool) (xs : List ℕ) → T (every (length xs) (λ k. f k (getD xs k 0))) → (k : ℕ) → k < length xs → T (f k (getD xs k 0))
 table-at f xs t k h = every-at (length xs) (λ k. f k (getD xs k 0)) t k h

@@ -1,12 +1,14 @@
 -- Passes that get one share alone: their outcomes are entered, and a pass asks for and hands on one choice of share.
 use Prim.Native.Nat.{ℕ, zero, suc, _+_, _*_, _<_}
-use mathlib.Core.Path.{_≡_, refl, sym, ap, _∙_}
+use mathlib.Core.Path.{_≡_, refl, sym, ap, ap₂, _∙_}
 use mathlib.Core.Bool.{Bool, true, false}
 use mathlib.Core.List.{List}
 use native.Mathlib.Omega.{arith}
-use lib.ListN.{getD}
+use lib.ListN.{length, getD}
+use lib.Seq.{ext-getD}
 use Rattle.words.specs.Tab.{tab, tab-of, tab-cong}
 use Rattle.worksheet.specs.Prog.{Prog, ret, _>>=_, entry, times}
+use Rattle.worksheet.specs.Gives.{Gives, ret-g, enter-g, gives-bind, gives-weaken, gives-times}
 use Rattle.worksheet.specs.Couple.{Coupled, ret-c, enter-c, Like, Silent, SameAt, here}
 use Rattle.worksheet.specs.Couple.{coupled-weaken, coupled-bind, coupled-map, sameAt-left, sameAt-right, sameAt-map}
 use Rattle.worksheet.specs.CoupleLoops.{coupled-times, like-times, silent-times}
@@ -25,6 +27,17 @@ enterBoth n f g = do
   a ← entries n (λ i. getD f i 0)
   b ← entries n (λ i. getD g i 0)
   ret (sharedList a b)
+
+gives-entries : (n : ℕ) (l : List ℕ) → length l ≡ n → Gives (λ a. a ≡ l) (entries n (λ i. getD l i 0))
+unfolding entry
+gives-entries n l e =
+    gives-weaken (λ a r. ext-getD 0 a l (r .long ∙ sym e) (λ i h. r .at 0 i (omega (arith, r .long))))
+    (gives-times (λ i v. v ≡ getD l i 0) n (λ i h. enter-g (ret-g refl)))
+
+pub gives-enterBoth : (n : ℕ) (f g : List ℕ) → length f ≡ n → length g ≡ n → Gives (λ s. s ≡ sharedList f g) (enterBoth n f g)
+unfolding enterBoth
+gives-enterBoth n f g e k =
+    gives-bind (gives-entries n f e) (λ a p. gives-bind (gives-entries n g k) (λ b r. ret-g (ap₂ sharedList p r)))
 
 -- ---- values on one share
 

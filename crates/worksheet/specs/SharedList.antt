@@ -6,7 +6,7 @@ use native.Mathlib.Numerals.{add-one}
 use native.Mathlib.Omega.{arith}
 use lib.ListN.{length, getD, set}
 use lib.Seq.{getD-set-same, getD-set-other}
-use Rattle.words.specs.Tab.{tab, getD-tab, tab-of, tab-cong}
+use Rattle.words.specs.Tab.{tab, length-tab, getD-tab, tab-of, tab-cong}
 use Rattle.worksheet.specs.declared.Shares.{Shares}
 use Rattle.worksheet.specs.Sharing.{shares, joined}
 
@@ -46,6 +46,10 @@ unzip-zip n s d e0 e1 =
 pub sharedAt-unzip : (n : ℕ) (f : ℕ → Shares) (i : ℕ) → i < n → sharedAt (unzip n f) i ≡ f i
 unfolding unzip
 sharedAt-unzip n f i h = ap₂ shares (getD-tab n (λ i. f i .s0) i 0 h) (getD-tab n (λ i. f i .s1) i 0 h)
+
+pub joinedList-unzip : (n : ℕ) (f : ℕ → Shares) {x : ℕ → ℕ} → ((i : ℕ) → i < n → joined (f i) ≡ x i) → joinedList (unzip n f) ≡ tab n x
+unfolding joinedList unzip
+joinedList-unzip n f h = rw (length-tab n (λ i. f i .s0)) (tab-cong n (λ i l. ap joined (sharedAt-unzip n f i l) ∙ h i l))
 
 -- ---- code that keeps sharings in two arrays, one for each share
 
