@@ -1,9 +1,10 @@
 -- Compression: its range, from two shares, and after decompression.
-use mathlib.Core.Path.{_≡_, ap, _∙_}
+use mathlib.Core.Path.{_≡_, sym, ap, _∙_}
 use mathlib.Core.List.{List, map}
 use Prim.Native.Nat.{ℕ, _+_, _*_, _/_, _%_, _^_, _<_, _≤_}
-use native.Mathlib.Nat.{mod-lt, mod-eq-of-lt, div-lt-iff-lt-mul, div-add-mod', add-mul-mod-self-left}
+use native.Mathlib.Nat.{zero-mod, mod-lt, mod-eq-of-lt, div-lt-iff-lt-mul, div-add-mod', add-mul-mod-self-left}
 use native.Mathlib.Omega.{arith}
+use lib.ListN.{getD, List·getD-map}
 use lib.Pow.{pow-pos, pow-add, pow-mono, field}
 use Rattle.words.specs.Residue.{q}
 use Rattle.words.specs.Bounded.{Below, below-map}
@@ -12,6 +13,13 @@ use Rattle.ring.specs.Compress.{compress, decompress}
 pub compress-lt : (d x : ℕ) → compress d x < 2 ^ d
 unfolding compress
 compress-lt d x = mod-lt _ (pow-pos d)
+
+compress-zero : (d : ℕ) → compress d 0 ≡ 0
+unfolding compress
+compress-zero d = ap (λ (x : ℕ). x % 2 ^ d) (omega arith) ∙ zero-mod (2 ^ d)
+
+pub getD-compress : (d : ℕ) (f : List ℕ) (i : ℕ) → getD (map (compress d) f) i 0 ≡ compress d (getD f i 0)
+getD-compress d f i = ap (λ (z : ℕ). getD (map (compress d) f) i z) (sym (compress-zero d)) ∙ List·getD-map (compress d) f i 0
 
 pub below-compress : {a : ℕ} (d : ℕ) (f : List ℕ) → Below a f → Below (2 ^ d) (map (compress d) f)
 below-compress d f h = below-map (compress d) (pow-pos d) (λ x l. compress-lt d x) f h

@@ -50,7 +50,7 @@ module _ {h : ℕ → ℕ → ℕ} (c : Combination h) where
       ∙ ap₂ (λ (m n : ℕ). (m + n) % q) (sym (c .is x y)) (sym (c .is x′ y′))
 
   -- of the coefficients a and b
-  combination-at : (f g : List ℕ) (a b : ℕ) → length f ≡ length g
+  pub combination-at : (f g : List ℕ) (a b : ℕ) → length f ≡ length g
       → h (getD (add f g) a 0) (getD (add f g) b 0) ≡ (h (getD f a 0) (getD f b 0) + h (getD g a 0) (getD g b 0)) % q
   combination-at f g a b e = ap₂ h (getD-add f g a e) (getD-add f g b e) ∙ combination-add _ _ _ _
 
@@ -75,7 +75,7 @@ add-linear F G a b =
       adds = λ f g h k.
           ap₂ add (a .adds f g h k) (b .adds f g h k)
           ∙ add-swap (F f) (F g) (G f) (G g)
-          (a .long f h ∙ sym (a .long g k)) (b .long f h ∙ sym (b .long g k)) (a .long f h ∙ sym (b .long f h));
+          (a .long f h ∙ sym (a .long g k)) (b .long f h ∙ sym (b .long g k));
     }
 
 pub iterate-linear : {n : ℕ} (m : ℕ) (step : ℕ → List ℕ → List ℕ) → ((i : ℕ) → Linear n (step i)) → Linear n (iterate m step)

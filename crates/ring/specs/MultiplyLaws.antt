@@ -1,118 +1,106 @@
--- The product in the transform's domain does not depend on the order of its factors, and is linear in the second too.
+-- The product in the transform's domain is linear in its second factor, for a first factor of any length up to 256.
 use mathlib.Core.Path.{_≡_, refl, sym, ap, ap₂, _∙_}
 use mathlib.Core.List.{List}
-use Prim.Native.Nat.{ℕ, zero, suc, _+_, _*_, _/_, _%_, _<_, _≤_}
-use native.Mathlib.Nat.{add-mod, mul-left-comm}
-use native.Mathlib.Decide.{ℕ-discrete}
+use Prim.Native.Nat.{ℕ, zero, suc, _+_, _*_, _%_, _<_, _≤_}
+use native.Mathlib.Nat.{add-mod}
+use native.Mathlib.Decide.{decLt, ℕ-discrete}
 use native.Mathlib.Omega.{arith}
 use lib.ListN.{length, getD, set, length-set}
 use lib.Seq.{getD-set-same, getD-set-other, ext-getD}
 use Rattle.words.specs.Residue.{q, mul-mod-mod}
 use Rattle.words.specs.Iterate.{iterate}
 use Rattle.ring.specs.Polynomial.{add}
-use Rattle.ring.specs.Sum.{length-add}
+use Rattle.ring.specs.Sum.{length-add, getD-add}
 use Rattle.ring.specs.Transform.{gamma, baseCaseMultiply, multiplyNtts}
-use Rattle.ring.specs.Linear.{Linear, multiplyNtts-linear}
+use Rattle.ring.specs.Linear.{Combination, combination-at}
 
--- the two coefficients that a turn stores
-even : List ℕ → List ℕ → ℕ → ℕ
-even f g i = (getD f (2 * i) 0 * getD g (2 * i) 0 + getD f (2 * i + 1) 0 * (getD g (2 * i + 1) 0 * gamma i % q)) % q
+-- coefficients 2 m and 2 m + 1 of f times g
+abbrev evenAt : List ℕ → List ℕ → ℕ → ℕ
+evenAt f g m = (getD f (2 * m) 0 * getD g (2 * m) 0 + getD f (2 * m + 1) 0 * (getD g (2 * m + 1) 0 * gamma m % q)) % q
 
-odd : List ℕ → List ℕ → ℕ → ℕ
-odd f g i = (getD f (2 * i) 0 * getD g (2 * i + 1) 0 + getD f (2 * i + 1) 0 * getD g (2 * i) 0) % q
+abbrev oddAt : List ℕ → List ℕ → ℕ → ℕ
+oddAt f g m = (getD f (2 * m) 0 * getD g (2 * m + 1) 0 + getD f (2 * m + 1) 0 * getD g (2 * m) 0) % q
 
-inner : (x a b : ℕ) → (x + a * (b % q)) % q ≡ (x + a * b) % q
-inner x a b =
-    add-mod x (a * (b % q)) q ∙ ap (λ (n : ℕ). (x % q + n) % q) (mul-mod-mod a b q) ∙ sym (add-mod x (a * b) q)
+module _ (f g s : List ℕ) where
+  abbrev turns : ℕ → List ℕ
+  turns m = iterate m (baseCaseMultiply f g) s
 
-even-comm : (f g : List ℕ) (i : ℕ) → even f g i ≡ even g f i
-unfolding even
-even-comm f g i =
-    let a0 = getD f (2 * i) 0 in
-    let a1 = getD f (2 * i + 1) 0 in
-    let b0 = getD g (2 * i) 0 in
-    let b1 = getD g (2 * i + 1) 0 in
-    inner (a0 * b0) a1 (b1 * gamma i)
-    ∙ ap (λ (n : ℕ). n % q) (omega (arith, mul-left-comm a1 b1 (gamma i)))
-    ∙ sym (inner (b0 * a0) b1 (a1 * gamma i))
+  length-turns : (m : ℕ) → length (turns m) ≡ length s
+  unfolding iterate baseCaseMultiply
+  length-turns zero = refl
+  length-turns (suc m) = simp length-set (length-turns m)
 
-odd-comm : (f g : List ℕ) (i : ℕ) → odd f g i ≡ odd g f i
-unfolding odd
-odd-comm f g i = ap (λ (n : ℕ). n % q) (omega arith)
+  turn-even : (m : ℕ) → 2 * m < length s → getD (turns (suc m)) (2 * m) 0 ≡ evenAt f g m
+  unfolding iterate baseCaseMultiply
+  turn-even m h =
+      getD-set-other (set (turns m) (2 * m) (evenAt f g m)) (2 * m + 1) (2 * m) (oddAt f g m) 0 (omega arith)
+      ∙ getD-set-same (turns m) (2 * m) (evenAt f g m) 0 (omega (arith, length-turns m))
 
-turn : (f g : List ℕ) (i : ℕ) (h : List ℕ) → baseCaseMultiply f g i h ≡ set (set h (2 * i) (even f g i)) (2 * i + 1) (odd f g i)
-unfolding baseCaseMultiply even odd
-turn f g i h = refl
+  turn-odd : (m : ℕ) → 2 * m + 1 < length s → getD (turns (suc m)) (2 * m + 1) 0 ≡ oddAt f g m
+  unfolding iterate baseCaseMultiply
+  turn-odd m h =
+      getD-set-same (set (turns m) (2 * m) (evenAt f g m)) (2 * m + 1) (oddAt f g m) 0
+      (omega (arith, length-turns m, length-set (turns m) (2 * m) (evenAt f g m)))
 
-length-turns : (f g : List ℕ) (m : ℕ) (h : List ℕ) → length (iterate m (baseCaseMultiply f g) h) ≡ length h
-unfolding iterate
-length-turns f g zero h = refl
-length-turns f g (suc m) h = ap length (turn f g m _) ∙ simp length-set (length-turns f g m h)
+  -- the coefficients before them
+  turn-before : (m i : ℕ) → i < 2 * m → getD (turns (suc m)) i 0 ≡ getD (turns m) i 0
+  unfolding iterate baseCaseMultiply
+  turn-before m i h =
+      getD-set-other (set (turns m) (2 * m) (evenAt f g m)) (2 * m + 1) i (oddAt f g m) 0 (omega arith)
+      ∙ getD-set-other (turns m) (2 * m) i (evenAt f g m) 0 (omega arith)
 
-module _ (t : List ℕ) (m x y : ℕ) where
-  abbrev stored : List ℕ
-  stored = set (set t (2 * m) x) (2 * m + 1) y
-
-  stored-even : 2 * m + 1 < length t → getD stored (2 * m) 0 ≡ x
-  stored-even l = getD-set-other (set t (2 * m) x) (2 * m + 1) (2 * m) y 0 (omega arith) ∙ getD-set-same t (2 * m) x 0 (omega arith)
-
-  stored-odd : 2 * m + 1 < length t → getD stored (2 * m + 1) 0 ≡ y
-  stored-odd l = getD-set-same (set t (2 * m) x) (2 * m + 1) y 0 (omega (arith, length-set t (2 * m) x))
-
-  stored-other : (k : ℕ) → k < 2 * m → getD stored k 0 ≡ getD t k 0
-  stored-other k l = getD-set-other (set t (2 * m) x) (2 * m + 1) k y 0 (omega arith) ∙ getD-set-other t (2 * m) k x 0 (omega arith)
-
--- what the turns store does not depend on the list that they start from
-getD-turns : (f g : List ℕ) (m : ℕ) (h : List ℕ) → 2 * m ≤ length h → (i : ℕ) → i < m
-    → (getD (iterate m (baseCaseMultiply f g) h) (2 * i) 0 ≡ even f g i) × (getD (iterate m (baseCaseMultiply f g) h) (2 * i + 1) 0 ≡ odd f g i)
-unfolding iterate
-getD-turns f g zero h l i p = absurd (omega arith)
-getD-turns f g (suc m) h l i p = go (ℕ-discrete i m) (getD-turns f g m h (omega arith) i)
-  where
-    t : List ℕ
-    t = iterate m (baseCaseMultiply f g) h
-
-    go : Dec (i ≡ m) → (i < m → (getD t (2 * i) 0 ≡ even f g i) × (getD t (2 * i + 1) 0 ≡ odd f g i))
-        → (getD (baseCaseMultiply f g m t) (2 * i) 0 ≡ even f g i) × (getD (baseCaseMultiply f g m t) (2 * i + 1) 0 ≡ odd f g i)
-    go (yes e) r =
-        let long : 2 * m + 1 < length t = omega (arith, length-turns f g m h) in
-        rw (e, turn f g m t) (stored-even t m (even f g m) (odd f g m) long, stored-odd t m (even f g m) (odd f g m) long)
-    go (no e) r =
-        let s = r (omega arith) in
-        rw (turn f g m t)
-        (stored-other t m _ _ (2 * i) (omega arith) ∙ s .0, stored-other t m _ _ (2 * i + 1) (omega arith) ∙ s .1)
-
-pub multiplyNtts-comm : (f g : List ℕ) → length f ≡ 256 → length g ≡ 256 → multiplyNtts f g ≡ multiplyNtts g f
+pub length-multiplyNtts : (f g : List ℕ) → length (multiplyNtts f g) ≡ length f
 unfolding multiplyNtts
-multiplyNtts-comm f g e e′ =
-    ext-getD 0 _ _ (length-turns f g 128 f ∙ e ∙ sym (length-turns g f 128 g ∙ e′)) (λ k l. go k (omega (arith, length-turns f g 128 f)) (ℕ-discrete (k % 2) 0))
-  where
-    fg : List ℕ
-    fg = iterate 128 (baseCaseMultiply f g) f
+length-multiplyNtts f g = length-turns f g f 128
 
-    gf : List ℕ
-    gf = iterate 128 (baseCaseMultiply g f) g
-
-    go : (k : ℕ) → k < 256 → Dec (k % 2 ≡ 0) → getD fg k 0 ≡ getD gf k 0
-    go k l (yes p) =
-        let w : k ≡ 2 * (k / 2) = omega arith in
-        rw w
-        (getD-turns f g 128 f (omega arith) (k / 2) (omega arith) .0 ∙ even-comm f g (k / 2) ∙ sym (getD-turns g f 128 g (omega arith) (k / 2) (omega arith) .0))
-    go k l (no p) =
-        let w : k ≡ 2 * (k / 2) + 1 = omega arith in
-        rw w
-        (getD-turns f g 128 f (omega arith) (k / 2) (omega arith) .1 ∙ odd-comm f g (k / 2) ∙ sym (getD-turns g f 128 g (omega arith) (k / 2) (omega arith) .1))
-
-pub multiplyNtts-linear-right : (f : List ℕ) → length f ≡ 256 → Linear 256 (multiplyNtts f)
-multiplyNtts-linear-right f e =
+even-combination : (u v z : ℕ) → Combination (λ x y. (u * x + v * (y * z % q)) % q)
+even-combination u v z =
     record {
-      long = λ g h. ap length (multiplyNtts-comm f g e h) ∙ left .long g h;
-      below = λ g h b. rw (multiplyNtts-comm f g e h) (left .below g h b);
-      adds = λ g g′ h h′.
-          multiplyNtts-comm f (add g g′) e (length-add g g′ ∙ h)
-          ∙ left .adds g g′ h h′
-          ∙ sym (ap₂ add (multiplyNtts-comm f g e h) (multiplyNtts-comm f g′ e h′));
+      left = u;
+      right = v * z;
+      is = λ x y.
+          add-mod (u * x) (v * (y * z % q)) q
+          ∙ ap (λ (n : ℕ). (u * x % q + n) % q) (mul-mod-mod v (y * z) q)
+          ∙ sym (add-mod (u * x) (v * (y * z)) q)
+          ∙ ap (λ (n : ℕ). n % q) (omega arith);
     }
-  where
-    left : Linear 256 (λ g. multiplyNtts g f)
-    left = multiplyNtts-linear f
+
+odd-combination : (u v : ℕ) → Combination (λ x y. (u * y + v * x) % q)
+odd-combination u v = record { left = v; right = u; is = λ x y. ap (λ (n : ℕ). n % q) (omega arith) }
+
+module _ (f g h s : List ℕ) (e : length g ≡ length h) where
+  abbrev Adds : ℕ → ℕ → Type 0
+  Adds m i = getD (turns f (add g h) s m) i 0 ≡ (getD (turns f g s m) i 0 + getD (turns f h s m) i 0) % q
+
+  -- the coefficients of one more turn
+  turn-add : (m i : ℕ) → i < 2 * suc m → i < length s → (i < 2 * m → Adds m i) → Dec (i < 2 * m) → Dec (i ≡ 2 * m) → Adds (suc m) i
+  turn-add m i l k r (yes p) d =
+      turn-before f (add g h) s m i p
+      ∙ r p
+      ∙ ap₂ (λ (x y : ℕ). (x + y) % q) (sym (turn-before f g s m i p)) (sym (turn-before f h s m i p))
+  turn-add m i l k r (no p) (yes d) =
+      let w : 2 * m < length s = omega arith in
+      rw d
+      (turn-even f (add g h) s m w
+      ∙ combination-at (even-combination (getD f (2 * m) 0) (getD f (2 * m + 1) 0) (gamma m)) g h (2 * m) (2 * m + 1) e
+      ∙ ap₂ (λ (x y : ℕ). (x + y) % q) (sym (turn-even f g s m w)) (sym (turn-even f h s m w)))
+  turn-add m i l k r (no p) (no d) =
+      let c : i ≡ 2 * m + 1 = omega arith in
+      let w : 2 * m + 1 < length s = omega arith in
+      rw c
+      (turn-odd f (add g h) s m w
+      ∙ combination-at (odd-combination (getD f (2 * m) 0) (getD f (2 * m + 1) 0)) g h (2 * m) (2 * m + 1) e
+      ∙ ap₂ (λ (x y : ℕ). (x + y) % q) (sym (turn-odd f g s m w)) (sym (turn-odd f h s m w)))
+
+  turns-add : (m i : ℕ) → i < 2 * m → i < length s → Adds m i
+  turns-add zero i l k = absurd (omega arith)
+  turns-add (suc m) i l k = turn-add m i l k (λ p. turns-add m i p k) (decLt i (2 * m)) (ℕ-discrete i (2 * m))
+
+pub multiplyNtts-add : (f g h : List ℕ) → length f ≤ 256 → length g ≡ length h → multiplyNtts f (add g h) ≡ add (multiplyNtts f g) (multiplyNtts f h)
+unfolding multiplyNtts
+multiplyNtts-add f g h l e =
+    ext-getD 0 _ _ (length-turns f (add g h) f 128 ∙ sym (length-add _ _ ∙ length-turns f g f 128))
+    (λ i k.
+    let w : i < length f = omega (arith, length-turns f (add g h) f 128) in
+    turns-add f g h f e 128 i (omega arith) w
+    ∙ sym (getD-add (turns f g f 128) (turns f h f 128) i (length-turns f g f 128 ∙ sym (length-turns f h f 128))))

@@ -1,14 +1,15 @@
 -- The laws of sums and differences of polynomials.
 use mathlib.Core.Path.{_≡_, refl, sym, ap, ap₂, _∙_}
 use mathlib.Core.List.{List}
-use Prim.Native.Nat.{ℕ, _+_, _-_, _*_, _%_, _<_}
+use Prim.Native.Nat.{ℕ, _+_, _-_, _*_, _%_, _<_, _≤_}
 use native.Mathlib.Nat.{add-mod, mod-lt}
 use native.Mathlib.Decide.{decLt, ℕ-discrete}
 use native.Mathlib.Omega.{arith}
-use lib.ListN.{length, getD, replicate, length-replicate, getD-replicate, set, length-set, List·getD-eq-default}
-use lib.Seq.{getD-set-same, getD-set-other, ext-getD}
+use lib.ListN.{length, getD, take, drop, replicate, length-replicate, getD-replicate, set, length-set, List·getD-eq-default}
+use lib.Seq.{getD-set-same, getD-set-other, getD-take, getD-drop, ext-getD}
 use Rattle.words.specs.Residue.{q, mul-mod-mod, add-swap-mod}
-use Rattle.words.specs.Tab.{tab, length-tab, getD-tab}
+use Rattle.words.specs.Tab.{tab, length-tab, getD-tab, tab-cong, part-tab}
+use Rattle.words.specs.Part.{length-part}
 use Rattle.words.specs.Bounded.{Below, below-tab}
 use Rattle.ring.specs.Polynomial.{minus, add, sub}
 
@@ -56,21 +57,26 @@ pub getD-add : (f g : List ℕ) (k : ℕ) → length f ≡ length g → getD (ad
 unfolding add
 getD-add f g k e = getD-both (λ x y. (x + y) % q) refl f g k e
 
+pub getD-add-lt : (f g : List ℕ) (k : ℕ) → k < length f → getD (add f g) k 0 ≡ (getD f k 0 + getD g k 0) % q
+unfolding add
+getD-add-lt f g k h = getD-tab (length f) _ k 0 h
+
 pub getD-sub : (f g : List ℕ) (k : ℕ) → length f ≡ length g → getD (sub f g) k 0 ≡ minus (getD f k 0) (getD g k 0)
 unfolding sub
 getD-sub f g k e = getD-both minus refl f g k e
 
 -- sums of two, regrouped
-pub add-swap : (a b c d : List ℕ) → length a ≡ length b → length c ≡ length d → length a ≡ length c → add (add a b) (add c d) ≡ add (add a c) (add b d)
-add-swap a b c d h k l =
+pub add-swap : (a b c d : List ℕ) → length a ≡ length b → length c ≡ length d → add (add a b) (add c d) ≡ add (add a c) (add b d)
+add-swap a b c d h k =
     ext-getD 0 _ _ (length-add (add a b) (add c d) ∙ length-add a b ∙ sym (length-add (add a c) (add b d) ∙ length-add a c))
     (λ i g.
-    getD-add (add a b) (add c d) i (omega (arith, length-add a b, length-add c d))
-    ∙ ap₂ (λ (x y : ℕ). (x + y) % q) (getD-add a b i h) (getD-add c d i k)
+    let l : i < length a = omega (arith, length-add (add a b) (add c d), length-add a b) in
+    getD-add-lt (add a b) (add c d) i (omega (arith, length-add a b))
+    ∙ ap₂ (λ (x y : ℕ). (x + y) % q) (getD-add-lt a b i l) (getD-add c d i k)
     ∙ add-swap-mod (getD a i 0) (getD b i 0) (getD c i 0) (getD d i 0) q
     ∙ sym
-    (getD-add (add a c) (add b d) i (omega (arith, length-add a c, length-add b d))
-    ∙ ap₂ (λ (x y : ℕ). (x + y) % q) (getD-add a c i l) (getD-add b d i (omega arith))))
+    (getD-add-lt (add a c) (add b d) i (omega (arith, length-add a c))
+    ∙ ap₂ (λ (x y : ℕ). (x + y) % q) (getD-add-lt a c i l) (getD-add-lt b d i (omega arith))))
 
 pub add-set : (f g : List ℕ) (i x y : ℕ) → length f ≡ length g → add (set f i x) (set g i y) ≡ set (add f g) i ((x + y) % q)
 add-set f g i x y e =
@@ -87,6 +93,16 @@ add-set f g i x y e =
     go k h (no p) =
         ap₂ (λ (m n : ℕ). (m + n) % q) (getD-set-other f i k x 0 p) (getD-set-other g i k y 0 p)
         ∙ sym (getD-set-other (add f g) i k ((x + y) % q) 0 p ∙ getD-add f g k e)
+
+-- n coefficients from a on
+pub part-add : (a n : ℕ) (f g : List ℕ) → a + n ≤ length f → take n (drop a (add f g)) ≡ add (take n (drop a f)) (take n (drop a g))
+unfolding add
+part-add a n f g h =
+    part-tab a n (length f) _ h
+    ∙ tab-cong n (λ i l.
+    ap₂ (λ (x y : ℕ). (x + y) % q)
+    (sym (getD-take n (drop a f) i 0 l ∙ getD-drop a f i 0)) (sym (getD-take n (drop a g) i 0 l ∙ getD-drop a g i 0)))
+    ∙ rw (length-part a n f h)
 
 -- a sum of two shares is taken away share by share
 pub sub-shares : (f g g′ : List ℕ) → length f ≡ length g → length g ≡ length g′
