@@ -125,11 +125,11 @@ module _ {rate suffix : ℕ} {in0 in1 : List ℕ} (a : SharedMessage rate suffix
 -- ---- squeezing
 
 -- word i of the output from the state l
-abbrev outputWord : ℕ → List ℕ → ℕ → ℕ
+abbrev pub outputWord : ℕ → List ℕ → ℕ → ℕ
 outputWord lanes l i = getD (iterate (i / lanes) (λ _. keccak-p) l) (i % lanes) 0
 
 -- z is a sharing of n words of output
-record OutputSharing (lanes n : ℕ) (l : List ℕ) (z : SharedList) : Type 0 where
+pub record OutputSharing (lanes n : ℕ) (l : List ℕ) (z : SharedList) : Type 0 where
   pub at : (i : ℕ) → i < n → Sharing 64 (outputWord lanes l i) (sharedAt z i)
 
 gives-maskedSqueeze : (lanes n : ℕ) {l : List ℕ} {s : SharedList} → 0 < lanes → lanes ≤ 25 → StateSharing l s
@@ -157,15 +157,20 @@ output-bytes rate d {l} {z} h k o =
 
 -- ---- the sponge
 
-pub gives-maskedHash : {rate suffix : ℕ} {in0 in1 : List ℕ} → SharedMessage rate suffix in0 in1 → (d : ℕ)
-    → Gives (λ z. joinedList z ≡ sponge rate suffix (joinedList (sharedList in0 in1)) d) (maskedHash rate suffix in0 in1 d)
-unfolding maskedHash maskedSponge sponge
-gives-maskedHash {rate} a d =
+pub gives-maskedSponge : {rate suffix : ℕ} {in0 in1 : List ℕ} → SharedMessage rate suffix in0 in1 → (n : ℕ)
+    → Gives (OutputSharing (rate / 8) n (absorbed rate (padded rate suffix (joinedList (sharedList in0 in1))))) (maskedSponge rate suffix in0 in1 n)
+unfolding maskedSponge
+gives-maskedSponge {rate} a n =
     let f = a .fits in
     let p = a .positive in
     let w = a .whole in
-    gives-bind (gives-bind (gives-maskedAbsorb a) (λ s r. gives-maskedSqueeze (rate / 8) ((d + 7) / 8) (omega arith) (omega arith) r)) (λ z o.
-    ret-g (output-bytes rate d p w o))
+    gives-bind (gives-maskedAbsorb a) (λ s r. gives-maskedSqueeze (rate / 8) n (omega arith) (omega arith) r)
+
+pub gives-maskedHash : {rate suffix : ℕ} {in0 in1 : List ℕ} → SharedMessage rate suffix in0 in1 → (d : ℕ)
+    → Gives (λ z. joinedList z ≡ sponge rate suffix (joinedList (sharedList in0 in1)) d) (maskedHash rate suffix in0 in1 d)
+unfolding maskedHash sponge
+gives-maskedHash {rate} a d =
+    gives-bind (gives-maskedSponge a ((d + 7) / 8)) (λ z o. ret-g (output-bytes rate d (a .positive) (a .whole) o))
 
 -- ---- the two calls
 

@@ -96,7 +96,7 @@ value-xor (suc n) f g a b =
     ∙ low-byte-xor (f 0) (g 0) (value 256 (tab n (λ i. f (suc i)))) (value 256 (tab n (λ i. g (suc i)))) (a 0) (b 0)
     ∙ ap₂ xor (sym (value-tab-suc 256 n f)) (sym (value-tab-suc 256 n g))
 
-laneOf-bits : {p : List ℕ} → Below 256 p → (j : ℕ) → Bits 64 (laneOf p j)
+pub laneOf-bits : {p : List ℕ} → Below 256 p → (j : ℕ) → Bits 64 (laneOf p j)
 laneOf-bits {p} a j =
     let t = tab 8 (λ k. getD p (8 * j + k) 0) in
     let l : value 256 t < 256 ^ length t = value-lt 256 t (below-tab 8 (omega arith) (λ i h. a .at (8 * j + i))) in
