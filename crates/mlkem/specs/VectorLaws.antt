@@ -5,8 +5,8 @@ use Prim.Native.Nat.{ℕ, zero, suc, _+_, _*_, _<_, _≤_}
 use native.Mathlib.Nat.{mul-zero, mul-suc, mul-le-mul-left}
 use native.Mathlib.Decide.{decLt}
 use native.Mathlib.Omega.{arith}
-use lib.ListN.{length, take, replicate, length-append}
-use lib.Seq.{take-length, drop-at}
+use lib.ListN.{length, take, drop, replicate, length-append}
+use lib.Seq.{take-length, take-add, drop-at}
 use Rattle.words.specs.Iterate.{iterate-cong}
 use Rattle.words.specs.Part.{part-append}
 use Rattle.ring.specs.Polynomial.{add}
@@ -48,6 +48,15 @@ parts-concat {n} {k = suc k} {f} e i h = go (decLt i k) (parts-concat (each-less
         (ap (take n) (drop-at (concat k f) (f k) (n * k) (length-concat (each-less e)))
         ∙ ap (λ (m : ℕ). take m (f k)) (sym (e .long k (omega arith)))
         ∙ take-length (f k))
+
+-- the parts of a list one after the other
+pub concat-parts : (n k : ℕ) (l : List ℕ) → concat k (parts n l) ≡ take (n * k) l
+unfolding concat
+concat-parts n zero l = rw (mul-zero n)
+concat-parts n (suc k) l =
+    ap (λ (m : List ℕ). m ++ take n (drop (n * k) l)) (concat-parts n k l)
+    ∙ sym (take-add (n * k) n l)
+    ∙ ap (λ (m : ℕ). take m l) (sym (mul-suc n k))
 
 pub dot-cong : (k : ℕ) {f g u v : ℕ → List ℕ} → ((j : ℕ) → j < k → f j ≡ u j) → ((j : ℕ) → j < k → g j ≡ v j) → dot k f g ≡ dot k u v
 unfolding dot

@@ -1,0 +1,46 @@
+-- What a split key stands for (document 01, The work and its edge), and what the shares that a stage hands on stand for.
+use mathlib.Core.Path.{_≡_}
+use mathlib.Core.List.{List, _++_}
+use Prim.Native.Nat.{ℕ, _*_, _^_, _<_}
+use lib.ListN.{length, getD}
+use Rattle.words.specs.Bounded.{Below}
+use Rattle.ring.specs.Bytes.{byteEncode}
+use Rattle.ring.specs.Polynomial.{add}
+use Rattle.worksheet.specs.Sharing.{Sharing}
+use Rattle.worksheet.specs.SharedList.{SharedList, sharedAt, joinedList}
+use Rattle.mlkem.specs.Parameters.{Parameters, ekBytes}
+use Rattle.mlkem.specs.KPke.{parts, concat}
+use Rattle.mlkem.specs.Worksheet.{SplitKey, bytesOf}
+
+-- the sums modulo q of two shares of coefficients
+abbrev pub joinedCoeffs : SharedList → List ℕ
+joinedCoeffs s = add (s .s0) (s .s1)
+
+-- the decapsulation key: the secret part, the public key and h as stored, and z
+unfoldable pub joinedDk : Parameters → SplitKey → List ℕ
+joinedDk p key =
+    concat (p .k) (λ i. byteEncode 12 (parts 256 (joinedCoeffs (key .s)) i))
+    ++ (key .ek ++ (key .h ++ bytesOf (joinedList (key .z))))
+
+-- every part of a split key has its length; z's shares are words of 64 bits, and h's elements bytes
+pub record InOrder (p : Parameters) (key : SplitKey) : Type 0 where
+  pub s0 : length (key .s .s0) ≡ 256 * p .k
+  pub s1 : length (key .s .s1) ≡ 256 * p .k
+  pub z0 : length (key .z .s0) ≡ 4
+  pub z1 : length (key .z .s1) ≡ 4
+  pub words0 : Below (2 ^ 64) (key .z .s0)
+  pub words1 : Below (2 ^ 64) (key .z .s1)
+  pub ek : length (key .ek) ≡ ekBytes p
+  pub h : length (key .h) ≡ 32
+  pub bytes : Below 256 (key .h)
+
+-- two shares of the polynomial f
+pub record PolySharing (f : List ℕ) (s : SharedList) : Type 0 where
+  pub long0 : length (s .s0) ≡ 256
+  pub long1 : length (s .s1) ≡ 256
+  pub sums : joinedCoeffs s ≡ f
+
+-- two shares of the n words of l
+pub record WordSharing (n : ℕ) (l : List ℕ) (s : SharedList) : Type 0 where
+  pub long : length l ≡ n
+  pub at : (i : ℕ) → i < n → Sharing 64 (getD l i 0) (sharedAt s i)

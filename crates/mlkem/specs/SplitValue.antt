@@ -1,0 +1,149 @@
+-- The split that import makes joins to the imported key.
+use mathlib.Core.Path.{_≡_, sym, ap, ap₂, _∙_}
+use mathlib.Core.List.{List, _++_}
+use Prim.Native.Nat.{ℕ, _+_, _*_, _/_, _%_, _^_, _<_}
+use native.Mathlib.Omega.{arith}
+use lib.ListN.{length, getD, take, drop, length-drop, length-take, take-append-drop}
+use lib.Seq.{ext-getD, take-all, getD-take, getD-drop, drop-drop}
+use Rattle.words.specs.WordLaws.{xor-bits}
+use Rattle.words.specs.Bounded.{Below, below-take, below-drop, below-tab}
+use Rattle.words.specs.Tab.{tab, length-tab, getD-tab, tab-cong}
+use Rattle.words.specs.Part.{length-part}
+use Rattle.words.specs.Numeral.{digits-value, getD-digits}
+use Rattle.words.specs.Residue.{q}
+use Rattle.ring.specs.Bytes.{byteEncode, byteDecode}
+use Rattle.ring.specs.BytesLaws.{length-byteDecode, byteEncode-byteDecode}
+use Rattle.ring.specs.Polynomial.{add}
+use Rattle.ring.specs.Sum.{length-add, getD-add-lt}
+use Rattle.worksheet.specs.Prog.{word, coeff, bound}
+use Rattle.worksheet.specs.Run.{run}
+use Rattle.worksheet.specs.SharedList.{sharedList, joinedList}
+use Rattle.fips202.specs.Sponge.{laneOf}
+use Rattle.fips202.specs.XorBytes.{laneOf-bits}
+use Rattle.mlkem.specs.Parameters.{Parameters, vectorBytes, ekBytes, ctBytes}
+use Rattle.mlkem.specs.Fits.{Fits}
+use Rattle.mlkem.specs.KPke.{parts, concat}
+use Rattle.mlkem.specs.MlKem.{secretPart, publicPart, hashPart, zPart, decaps}
+use Rattle.mlkem.specs.VectorLaws
+use Rattle.mlkem.specs.VectorLaws.{part-fits, length-concat, concat-cong, concat-parts, parts-concat}
+use Rattle.mlkem.specs.Calls.{coefficients, secondCoeffs, secondWords}
+use Rattle.mlkem.specs.Split.{split}
+use Rattle.mlkem.specs.Accepted.{Accepted, join-coefficients, join-words}
+use Rattle.mlkem.specs.Worksheet.{bytesOf, worksheet}
+use Rattle.mlkem.specs.WordBytes.{length-bytesOf, getD-bytesOf}
+use Rattle.mlkem.specs.Joined.{joinedDk, InOrder}
+use Rattle.mlkem.specs.WorksheetValue.{run-worksheet}
+
+-- the lanes of whole words, as bytes again
+bytesOf-lanes : (n : ℕ) (b : List ℕ) → length b ≡ 8 * n → Below 256 b → bytesOf (tab n (laneOf b)) ≡ b
+bytesOf-lanes n b e h =
+    let long : length (bytesOf (tab n (laneOf b))) ≡ 8 * n = length-bytesOf (tab n (laneOf b)) ∙ ap (λ (k : ℕ). 8 * k) (length-tab n (laneOf b)) in
+    ext-getD 0 (bytesOf (tab n (laneOf b))) b (long ∙ sym e)
+    (λ i l.
+    let w : i / 8 < n = omega arith in
+    let t = take 8 (drop (8 * (i / 8)) b) in
+    let m : length t ≡ 8 = length-part (8 * (i / 8)) 8 b (omega arith) in
+    getD-bytesOf (tab n (laneOf b)) i
+    ∙ ap (λ (x : ℕ). x / 256 ^ (i % 8) % 256) (getD-tab n (laneOf b) (i / 8) 0 w)
+    ∙ sym (getD-digits 256 8 (laneOf b (i / 8)) (i % 8) (omega arith))
+    ∙ ap (λ (d : List ℕ). getD d (i % 8) 0) (rw m at (digits-value 256 t (below-take 8 (below-drop (8 * (i / 8)) h))))
+    ∙ getD-take 8 (drop (8 * (i / 8)) b) (i % 8) 0 (omega arith)
+    ∙ getD-drop (8 * (i / 8)) b (i % 8) 0
+    ∙ ap (λ (k : ℕ). getD b k 0) (omega arith))
+
+-- an accepted key, and first shares of its secret and of z
+pub record Importable (p : Parameters) (dk a w : List ℕ) : Type 0 where
+  pub accepted : Accepted p dk
+  pub bytes : Below 256 dk
+  pub coeffs : length a ≡ 256 * p .k
+  pub range : Below q a
+  pub words : length w ≡ 4
+  pub bits : Below (2 ^ 64) w
+
+module _ {p : Parameters} {dk a w : List ℕ} (o : Importable p dk a w) where
+  length-secret : length (secretPart p dk) ≡ vectorBytes p
+  length-secret = length-take (vectorBytes p) dk ∙ omega (arith, o .accepted .long)
+
+  length-hash : length (hashPart p dk) ≡ 32
+  length-hash = length-part (vectorBytes p + ekBytes p) 32 dk (omega (arith, o .accepted .long))
+
+  length-zPart : length (zPart p dk) ≡ 32
+  length-zPart = length-part (vectorBytes p + ekBytes p + 32) 32 dk (omega (arith, o .accepted .long))
+
+  below-zPart : Below 256 (zPart p dk)
+  below-zPart = below-take 32 (below-drop (vectorBytes p + ekBytes p + 32) (o .bytes))
+
+  pub split-inOrder : InOrder p (split p dk a w)
+  unfolding split secondCoeffs secondWords
+  split-inOrder =
+      record {
+        s0 = o .coeffs;
+        s1 = length-tab (256 * p .k) _;
+        z0 = o .words;
+        z1 = length-tab 4 _;
+        words0 = o .bits;
+        words1 = below-tab 4 (omega arith) (λ i h. xor-bits (laneOf-bits below-zPart i) (record { lt = o .bits .at i }) .lt);
+        ek = length-part (vectorBytes p) (ekBytes p) dk (omega (arith, o .accepted .long));
+        h = length-hash;
+        bytes = below-take 32 (below-drop (vectorBytes p + ekBytes p) (o .bytes));
+      }
+
+  -- ---- the secret part
+
+  each-decoded : VectorLaws.Each 256 (p .k) (λ i. byteDecode 12 (parts 384 (secretPart p dk) i))
+  each-decoded = record { long = λ i h. length-byteDecode 12 (parts 384 (secretPart p dk) i) }
+
+  length-coefficients : length (coefficients (p .k) (secretPart p dk)) ≡ 256 * p .k
+  unfolding coefficients
+  length-coefficients = length-concat each-decoded
+
+  joined-coeffs : add a (secondCoeffs p dk a) ≡ coefficients (p .k) (secretPart p dk)
+  joined-coeffs =
+      let x = coefficients (p .k) (secretPart p dk) in
+      ext-getD 0 (add a (secondCoeffs p dk a)) x (length-add a (secondCoeffs p dk a) ∙ o .coeffs ∙ sym length-coefficients)
+      (λ i h.
+      let l : i < 256 * p .k = omega (arith, length-add a (secondCoeffs p dk a), o .coeffs) in
+      getD-add-lt a (secondCoeffs p dk a) i (omega (arith, o .coeffs)) ∙ join-coefficients p a i (o .accepted) (o .range) l)
+
+  encoded-secret : concat (p .k) (λ i. byteEncode 12 (parts 256 (coefficients (p .k) (secretPart p dk)) i)) ≡ secretPart p dk
+  unfolding coefficients
+  encoded-secret =
+      concat-cong (p .k) (λ i h.
+      ap (byteEncode 12) (parts-concat each-decoded i h)
+      ∙ byteEncode-byteDecode 12 (parts 384 (secretPart p dk) i)
+      (length-part (384 * i) 384 (secretPart p dk) (omega (arith, part-fits 384 h, length-secret)))
+      (below-take 384 (below-drop (384 * i) (below-take (vectorBytes p) (o .bytes)))))
+      ∙ concat-parts 384 (p .k) (secretPart p dk)
+      ∙ take-all (384 * p .k) (secretPart p dk) (omega (arith, length-secret))
+
+  -- ---- z
+
+  joined-z : bytesOf (joinedList (sharedList w (secondWords p dk w))) ≡ zPart p dk
+  unfolding joinedList
+  joined-z = ap bytesOf (rw (o .words) (tab-cong 4 (join-words p dk w))) ∙ bytesOf-lanes 4 (zPart p dk) length-zPart below-zPart
+
+  -- ---- the whole
+
+  whole : secretPart p dk ++ (publicPart p dk ++ (hashPart p dk ++ zPart p dk)) ≡ dk
+  whole =
+      let v = vectorBytes p in
+      let e = ekBytes p in
+      ap (λ (l : List ℕ). take v dk ++ (take e (drop v dk) ++ l))
+      (ap (λ (l : List ℕ). take 32 (drop (v + e) dk) ++ l)
+      (take-all 32 (drop (v + e + 32) dk) (omega (arith, length-drop (v + e + 32) dk, o .accepted .long)) ∙ sym (drop-drop 32 (v + e) dk))
+      ∙ take-append-drop 32 (drop (v + e) dk)
+      ∙ sym (drop-drop e v dk))
+      ∙ ap (λ (l : List ℕ). take v dk ++ l) (take-append-drop e (drop v dk))
+      ∙ take-append-drop v dk
+
+  pub joinedDk-split : joinedDk p (split p dk a w) ≡ dk
+  unfolding joinedDk split
+  joinedDk-split =
+      ap₂ (λ (s z : List ℕ). s ++ (publicPart p dk ++ (hashPart p dk ++ z)))
+      (ap (λ (l : List ℕ). concat (p .k) (λ i. byteEncode 12 (parts 256 l i))) joined-coeffs ∙ encoded-secret) joined-z
+      ∙ whole
+
+  -- so masked decapsulation of it joins to FIPS 203's internal decapsulation of the key, on every strip of masks in range
+  pub run-split : Fits p → (c : List ℕ) → length c ≡ ctBytes p → Below 256 c → {ws cs : List ℕ} → Below (bound word) ws → Below (bound coeff) cs
+      → bytesOf (joinedList (run (worksheet p (split p dk a w) c) ws cs .value)) ≡ decaps p dk c
+  run-split fits c n b h k = run-worksheet p fits (split p dk a w) split-inOrder c n b h k ∙ ap (λ (l : List ℕ). decaps p l c) joinedDk-split
