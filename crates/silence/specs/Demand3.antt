@@ -24,7 +24,7 @@ use Rattle.mlkem.specs.Worksheet.{worksheet}
 use Rattle.mlkem.specs.WorksheetUses.{uses-worksheet}
 use Rattle.mlkem.specs.Split.{split}
 use Rattle.mlkem.specs.Accepted.{accepted-secret}
-use Rattle.silence.specs.Fits.{fits768}
+use Rattle.mlkem.specs.Fits.{fits768}
 use Rattle.silence.specs.Claim.{Key, Ciphertext, gives, choices}
 use Rattle.silence.specs.WorksheetSilence.{worksheet-stage}
 use Rattle.silence.specs.SplitSilence.{coupled-firsts}

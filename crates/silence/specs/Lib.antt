@@ -1,5 +1,4 @@
 pub mod Claim
-pub mod Fits
 pub mod Pair
 pub mod HashSilence
 pub mod DecryptionSilence
