@@ -4,7 +4,6 @@ use mathlib.Core.Path.{_≡_, refl, ap, _∙_}
 use mathlib.Core.List.{List, [], _∷_, _++_}
 use native.Mathlib.Omega.{arith}
 use lib.ListN.{length, getD, replicate, length-append}
-use Rattle.words.specs.Numeral.{digits, length-digits}
 use Rattle.words.specs.Tab.{length-tab}
 use Rattle.worksheet.specs.declared.Shares.{Shares}
 use Rattle.worksheet.specs.Prog.{entry}
@@ -17,16 +16,11 @@ use Rattle.gadgets.specs.CoefficientLaws.{uses-bitToCoeff}
 use Rattle.gadgets.specs.SamplerLaws.{uses-sampler}
 use Rattle.gadgets.specs.ComparisonLaws.{uses-addPublic, uses-allZero, uses-select}
 use Rattle.mlkem.specs.Parameters.{Parameters, mlKem768}
+use Rattle.mlkem.specs.WordBytes.{length-bytesOf}
 use Rattle.mlkem.specs.Worksheet.{SplitKey, Noise, Reencrypted, Planes, bytesOf, four, compressPoly, hashShared, noisePoly}
 use Rattle.mlkem.specs.Worksheet.{stage1, stage2, stage3, stage4, stage5, stage6, stage7, stage8, stage9, stage10, worksheet}
 
 -- ---- parts common to several stages
-
-pub length-bytesOf : (l : List ℕ) → length (bytesOf l) ≡ 8 * length l
-unfolding bytesOf
-length-bytesOf [] = refl
-length-bytesOf (w ∷ l) =
-    length-append (digits 256 8 w) (bytesOf l) ∙ omega (arith, length-digits 256 8 w, length-bytesOf l)
 
 -- four words and a string
 pub length-bytesOf-four : (l public : List ℕ) → length (bytesOf (four l) ++ public) ≡ 32 + length public

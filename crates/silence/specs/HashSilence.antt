@@ -1,23 +1,18 @@
 -- The hash of four shared words and a public string, as a stage: nothing is asked of the words.
 use Prim.Native.Nat.{ℕ, _+_, _<_, _≤_}
 use mathlib.Core.Path.{_≡_, ap, _∙_}
-use mathlib.Core.List.{List, [], _∷_, _++_}
+use mathlib.Core.List.{List, _++_}
 use native.Mathlib.Omega.{arith}
 use lib.ListN.{length, replicate}
-use Rattle.words.specs.Bounded.{Below, below-nil, below-append, below-zeros}
-use Rattle.words.specs.Numeral.{digits, below-digits}
+use Rattle.words.specs.Bounded.{Below, below-append, below-zeros}
 use Rattle.worksheet.specs.Stage.{Stage, comap}
 use Rattle.worksheet.specs.SharedList.{SharedList}
 use Rattle.worksheet.specs.Choice.{KeptShared}
 use Rattle.fips202.specs.MaskedSpongeSilence.{SharedBytes, maskedSponge-stage}
 use Rattle.gadgets.specs.PolynomialSilence.{Anything}
 use Rattle.mlkem.specs.Worksheet.{bytesOf, four, hashShared}
+use Rattle.mlkem.specs.WordBytes.{below-bytesOf}
 use Rattle.mlkem.specs.WorksheetUses.{hashEntries, length-bytesOf-four}
-
-below-bytesOf : (l : List ℕ) → Below 256 (bytesOf l)
-unfolding bytesOf
-below-bytesOf [] = below-nil (omega arith)
-below-bytesOf (w ∷ l) = below-append (digits 256 8 w) (below-digits 256 8 w (omega arith)) (below-bytesOf l)
 
 module _ (len : ℕ) (public : List ℕ) (long : length public ≡ len) (bytes : Below 256 public) where
   abbrev inputs : SharedList → SharedBytes (32 + len)
