@@ -18,13 +18,13 @@ use Rattle.worksheet.specs.CoupleLoops.{like-times}
 use Rattle.worksheet.specs.Matching.{identity}
 use Rattle.worksheet.specs.SharedList.{SharedList, sharedList}
 use Rattle.mlkem.specs.Parameters.{mlKem768}
+use Rattle.mlkem.specs.Fits.{fits768}
 use Rattle.mlkem.specs.MlKem.{publicPart, hashPart}
 use Rattle.mlkem.specs.Calls.{secondCoeffs, secondWords, matrixFull, rhoOf}
 use Rattle.mlkem.specs.Worksheet.{worksheet}
 use Rattle.mlkem.specs.WorksheetUses.{uses-worksheet}
 use Rattle.mlkem.specs.Split.{split}
 use Rattle.mlkem.specs.Accepted.{accepted-secret}
-use Rattle.mlkem.specs.Fits.{fits768}
 use Rattle.silence.specs.Claim.{Key, Ciphertext, gives, choices}
 use Rattle.silence.specs.WorksheetSilence.{worksheet-stage}
 use Rattle.silence.specs.SplitSilence.{coupled-firsts}

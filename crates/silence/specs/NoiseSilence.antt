@@ -15,9 +15,9 @@ use Rattle.worksheet.specs.Choice.{KeptShared, SameShare}
 use Rattle.gadgets.specs.SamplerSilence.{samplerEntries}
 use Rattle.gadgets.specs.PolynomialSilence.{Anything, bitsToCoeffs-stage, samples-stage}
 use Rattle.mlkem.specs.Parameters.{Parameters}
+use Rattle.mlkem.specs.Fits.{Fits}
 use Rattle.mlkem.specs.Worksheet.{Noise, bitOf, noisePoly, stage3, stage4, stage5}
 use Rattle.mlkem.specs.WorksheetUses.{hashEntries}
-use Rattle.mlkem.specs.Fits.{Fits}
 use Rattle.silence.specs.HashSilence.{hashShared-stage}
 
 -- the entries of a noise polynomial of width eta

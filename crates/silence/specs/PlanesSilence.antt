@@ -21,8 +21,8 @@ use Rattle.worksheet.specs.Choice.{Kept, KeptWords, KeptList, SameShare}
 use Rattle.gadgets.specs.CompressionSilence.{coupled-maskedCompress, groups-stage}
 use Rattle.gadgets.specs.ComparisonSilence.{allZeroEntries, compare-stage}
 use Rattle.mlkem.specs.Parameters.{Parameters}
-use Rattle.mlkem.specs.Worksheet.{Planes, nothing, compressPoly, planeWord, planeWords, ciphertextWord, stage7, stage8}
 use Rattle.mlkem.specs.Fits.{Fits}
+use Rattle.mlkem.specs.Worksheet.{Planes, nothing, compressPoly, planeWord, planeWords, ciphertextWord, stage7, stage8}
 use Rattle.silence.specs.Pair.{pair-stage}
 use Rattle.silence.specs.DecryptionSilence.{polyEntries}
 use Rattle.silence.specs.ReencryptionSilence.{SameReencrypted}

@@ -1,11 +1,10 @@
 -- Stage 6 of the worksheet: the polynomials of the ciphertext made again, each by passes on one share of the noise and the message.
 use Prim.Native.Nat.{ℕ, _+_, _*_, _<_}
-use mathlib.Core.Path.{_≡_, ap, ap₂}
+use mathlib.Core.Path.{_≡_, refl, ap, ap₂}
 use mathlib.Core.Bool.{Bool, true, false}
 use mathlib.Core.List.{List}
-use Rattle.words.specs.Iterate.{iterate-cong}
 use Rattle.ring.specs.Polynomial.{add}
-use Rattle.ring.specs.Transform.{ntt, inverseNtt, multiplyNtts}
+use Rattle.ring.specs.Transform.{ntt, inverseNtt}
 use Rattle.worksheet.specs.Prog.{times}
 use Rattle.worksheet.specs.Couple.{Coupled}
 use Rattle.worksheet.specs.CoupleLoops.{coupled-times}
@@ -14,15 +13,11 @@ use Rattle.worksheet.specs.SharedList.{SharedList}
 use Rattle.worksheet.specs.Choice.{SameShare}
 use Rattle.worksheet.specs.Pass.{enterBoth, pass-stage, coupled-pass}
 use Rattle.mlkem.specs.Parameters.{Parameters}
-use Rattle.mlkem.specs.KPke.{dot}
+use Rattle.mlkem.specs.VectorLaws.{dot-cong}
 use Rattle.mlkem.specs.Worksheet.{Noise, Reencrypted, nothing, first, second, uShare, vShare, stage6}
 use Rattle.silence.specs.Pair.{pair-stage}
 use Rattle.silence.specs.DecryptionSilence.{passEntries}
 use Rattle.silence.specs.NoiseSilence.{SamePolys, SameNoise}
-
-dot-cong : (k : ℕ) (f : ℕ → List ℕ) {g g′ : ℕ → List ℕ} → ((j : ℕ) → j < k → g j ≡ g′ j) → dot k f g ≡ dot k f g′
-unfolding dot
-dot-cong k f e = iterate-cong k _ (λ j h s. ap (λ (t : List ℕ). add s (multiplyNtts (f j) t)) (e j h))
 
 -- what stage 6 works on: noise and message
 abbrev Operands : Type 0
@@ -43,12 +38,12 @@ module _ (p : Parameters) where
     uShare-cong : {y y′ : ℕ → List ℕ} {e e′ : List ℕ} (i : ℕ) → ((j : ℕ) → j < p .k → y j ≡ y′ j) → e ≡ e′
         → uShare p ek y e i ≡ uShare p ek y′ e′ i
     unfolding uShare
-    uShare-cong i a b = ap₂ add (ap inverseNtt (dot-cong (p .k) _ (λ j h. ap ntt (a j h)))) b
+    uShare-cong i a b = ap₂ add (ap inverseNtt (dot-cong (p .k) (λ j h. refl) (λ j h. ap ntt (a j h)))) b
 
     vShare-cong : {y y′ : ℕ → List ℕ} {e e′ m m′ : List ℕ} → ((j : ℕ) → j < p .k → y j ≡ y′ j) → e ≡ e′ → m ≡ m′
         → vShare p ek y e m ≡ vShare p ek y′ e′ m′
     unfolding vShare
-    vShare-cong a b d = ap₂ add (ap₂ add (ap inverseNtt (dot-cong (p .k) _ (λ j h. ap ntt (a j h)))) b) d
+    vShare-cong a b d = ap₂ add (ap₂ add (ap inverseNtt (dot-cong (p .k) (λ j h. refl) (λ j h. ap ntt (a j h)))) b) d
 
     abbrev u0 : ℕ → Operands → List ℕ
     u0 i a = uShare p ek (first (a .0 .y)) (first (a .0 .e1) i) i
