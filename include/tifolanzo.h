@@ -2,6 +2,11 @@
  *
  * A call returns 0 where it is carried out and else the number of its refusal; a refused call changes no buffer.
  *   1  a lent buffer hasn't its exact length
+ *   2  a coefficient of the public key is 3329 or more
+ *   3  h isn't SHA3-256 of the public key part
+ *   4  a coefficient of the secret part is 3329 or more
+ *   5  a mask coefficient is 3329 or more
+ *   7  an 840-byte stream yields fewer than 256 coefficients
  * A slice passes as a pointer and a number of elements. A buffer that is written overlaps no other buffer of its call.
  */
 #ifndef TIFOLANZO_H
@@ -28,6 +33,22 @@ uint32_t tifo_masked_sha3_512(const uint8_t *in0, size_t in0_len, const uint8_t 
                               size_t masks_len, uint8_t *out0, size_t out0_len, uint8_t *out1, size_t out1_len);
 uint32_t tifo_masked_shake256(const uint8_t *in0, size_t in0_len, const uint8_t *in1, size_t in1_len, const uint64_t *masks,
                               size_t masks_len, uint8_t *out0, size_t out0_len, uint8_t *out1, size_t out1_len);
+
+/* FIPS 203 at ML-KEM-768. Lengths are counts of elements and exact, else 1.
+ * Sampling: 840 bytes give 256 coefficients (1, 7). */
+uint32_t tifo_sample(const uint8_t *stream, size_t stream_len, uint16_t *out, size_t out_len);
+
+/* Key making from the seeds d and z, 32 bytes each: the public key has 1,184 bytes, the decapsulation key 2,400 (1, 7). */
+uint32_t tifo_keygen(const uint8_t *d, size_t d_len, const uint8_t *z, size_t z_len, uint8_t *ek, size_t ek_len, uint8_t *dk, size_t dk_len);
+
+/* Encapsulation from the 32 bytes m: the ciphertext has 1,088 bytes, the secret 32 (1, 2, 7). */
+uint32_t tifo_encaps(const uint8_t *ek, size_t ek_len, const uint8_t *m, size_t m_len, uint8_t *ct, size_t ct_len, uint8_t *k, size_t k_len);
+
+/* Import splits a decapsulation key. The first shares are the lent masks, 768 coefficients below 3329 and four words; the second shares are
+ * what is left of the key; pub is the public key and its hash, 1,216 bytes (1, 2, 3, 4, 5). */
+uint32_t tifo_import(const uint8_t *dk, size_t dk_len, const uint16_t *mask_coeffs, size_t mask_coeffs_len, const uint64_t *mask_words, size_t mask_words_len,
+                     uint16_t *s0, size_t s0_len, uint16_t *s1, size_t s1_len, uint64_t *z0, size_t z0_len, uint64_t *z1, size_t z1_len,
+                     uint8_t *pub, size_t pub_len);
 
 #ifdef __cplusplus
 }

@@ -10,6 +10,8 @@ ghost use Rattle.masked_keccak.specs.MaskedKeccak.{maskedKeccakP};
 use keccak::state::State;
 use worksheet::Recorder;
 
+pub mod gadget_calls;
+
 #[no_mangle]
 pub extern "C" fn bench_keccak_p(s: &mut [u64; 25])
     ensures { λ _. ⌜ now (s .exit) ≡ keccak-p (now (s .entry)) ⌝ }

@@ -1,0 +1,45 @@
+// Gadgets for bench/gadgets. Each hands back the entry that is `left` entries ahead, or 0 where that is 0.
+ghost use Prim.Native.Nat.{_≤_};
+ghost use lib.ListN.{length};
+ghost use Rattle.words.specs.Bounded.{Below};
+ghost use Rattle.words.specs.Residue.{q};
+use worksheet::Recorder;
+use worksheet::Shares;
+
+// The adder of depth 10, on 23 planes.
+#[no_mangle]
+pub extern "C" fn bench_adder(x: &[u64; 24], y: &[u64; 24], masks: &[u64], left: u64) -> u64 {
+    if masks.len() < 68 {
+        return 0;
+    }
+    let a = *x;
+    let b = *y;
+    let o = gadgets::adder::adder(Recorder { left, value: 0 }, 23, a, b, masks);
+    o.rec.value
+}
+
+// The sampler of width 2, on the lowest four bits of a word.
+#[no_mangle]
+pub extern "C" fn bench_sampler(b0: u64, b1: u64, masks: &[u16], left: u64) -> u64
+    requires { ⌜ (4 ≤ length (now masks)) × Below q (now masks) ⌝ }
+{
+    let b = Shares { s0: b0, s1: b1 };
+    let o = gadgets::sampler::sampler(Recorder { left, value: 0 }, 2, b, masks);
+    o.rec.value
+}
+
+// The fold of 136 words to the equal bit.
+#[no_mangle]
+pub extern "C" fn bench_fold(w0: &[u64], w1: &[u64], masks: &[u64], left: u64) -> u64 {
+    if w0.len() < 136 {
+        return 0;
+    }
+    if w1.len() < 136 {
+        return 0;
+    }
+    if masks.len() < 141 {
+        return 0;
+    }
+    let o = gadgets::comparison::all_zero(Recorder { left, value: 0 }, 135, w0, w1, masks);
+    o.rec.value
+}
