@@ -1,4 +1,4 @@
-// Gadgets for bench/gadgets. Each hands back the entry that is `left` entries ahead, or 0 where that is 0.
+// Gadgets for bench/gadgets. Each hands back the entry that is `left` entries ahead, mixed with its result, so that no work is left out.
 ghost use Prim.Native.Nat.{_≤_};
 ghost use lib.ListN.{length};
 ghost use Rattle.words.specs.Bounded.{Below};
@@ -15,7 +15,8 @@ pub extern "C" fn bench_adder(x: &[u64; 24], y: &[u64; 24], masks: &[u64], left:
     let a = *x;
     let b = *y;
     let o = gadgets::adder::adder(Recorder { left, value: 0 }, 23, a, b, masks);
-    o.rec.value
+    let sum = o.value;
+    o.rec.value ^ sum.s0[22] ^ sum.s1[22]
 }
 
 // The sampler of width 2, on the lowest four bits of a word.
@@ -25,7 +26,7 @@ pub extern "C" fn bench_sampler(b0: u64, b1: u64, masks: &[u16], left: u64) -> u
 {
     let b = Shares { s0: b0, s1: b1 };
     let o = gadgets::sampler::sampler(Recorder { left, value: 0 }, 2, b, masks);
-    o.rec.value
+    o.rec.value ^ (o.s0 as u64) ^ (o.s1 as u64)
 }
 
 // The fold of 136 words to the equal bit.
@@ -41,5 +42,5 @@ pub extern "C" fn bench_fold(w0: &[u64], w1: &[u64], masks: &[u64], left: u64) -
         return 0;
     }
     let o = gadgets::comparison::all_zero(Recorder { left, value: 0 }, 135, w0, w1, masks);
-    o.rec.value
+    o.rec.value ^ o.value.s0 ^ o.value.s1
 }
