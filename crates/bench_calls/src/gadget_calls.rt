@@ -1,4 +1,5 @@
 // Gadgets for bench/gadgets. Each hands back the entry that is `left` entries ahead, mixed with its result, so that no work is left out.
+ghost use mathlib.Core.Path.{_≡_};
 ghost use Prim.Native.Nat.{_≤_};
 ghost use lib.ListN.{length};
 ghost use Rattle.words.specs.Bounded.{Below};
@@ -17,6 +18,26 @@ pub extern "C" fn bench_adder(x: &[u64; 24], y: &[u64; 24], masks: &[u64], left:
     let o = gadgets::adder::adder(Recorder { left, value: 0 }, 23, a, b, masks);
     let sum = o.value;
     o.rec.value ^ sum.s0[22] ^ sum.s1[22]
+}
+
+// Masked compression of 64 coefficients at depth 10.
+#[no_mangle]
+pub extern "C" fn bench_compress10(x0: &[u16], x1: &[u16], masks: &[u64], left: u64) -> u64
+    requires { ⌜ (length (now x0) ≡ 64) × (length (now x1) ≡ 64) × Below q (now x0) × Below q (now x1) × (68 ≤ length (now masks)) ⌝ }
+{
+    let o = gadgets::compression::masked_compress(Recorder { left, value: 0 }, 10, x0, x1, masks);
+    let sum = o.value;
+    o.rec.value ^ sum.s0[22] ^ sum.s1[22]
+}
+
+// The same at depth 4.
+#[no_mangle]
+pub extern "C" fn bench_compress4(x0: &[u16], x1: &[u16], masks: &[u64], left: u64) -> u64
+    requires { ⌜ (length (now x0) ≡ 64) × (length (now x1) ≡ 64) × Below q (now x0) × Below q (now x1) × (50 ≤ length (now masks)) ⌝ }
+{
+    let o = gadgets::compression::masked_compress(Recorder { left, value: 0 }, 4, x0, x1, masks);
+    let sum = o.value;
+    o.rec.value ^ sum.s0[16] ^ sum.s1[16]
 }
 
 // The sampler of width 2, on the lowest four bits of a word.

@@ -1,4 +1,4 @@
 pub mod Strip
 pub mod FixedPoint
-pub mod PlaneTurn
+pub mod TranspositionLaws
 pub mod SumsZip

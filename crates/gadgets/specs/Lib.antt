@@ -3,6 +3,7 @@ pub mod PlaneSum
 pub mod AdderLaws
 pub mod AdderStepsSilence
 pub mod AdderSilence
+pub mod Transposition
 pub mod Compression
 pub mod CompressionLaws
 pub mod CompressionSilence

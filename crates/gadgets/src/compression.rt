@@ -5,14 +5,12 @@ ghost use lib.ListN.{drop, getD, length};
 ghost use Rattle.gadgets.specs.Compression.{fixedPoint, fixedPoints, maskedCompress};
 ghost use Rattle.worksheet.specs.SharedList.{sharedList, sharedAt, zip};
 ghost use Rattle.words.specs.Bounded.{Below};
-ghost use Rattle.words.specs.Digit.{digit};
-ghost use Rattle.words.specs.Fill.{Filled};
-ghost use Rattle.words.specs.Plane.{plane};
 ghost use Rattle.words.specs.Residue.{q};
 ghost use Rattle.worksheet.specs.Prog.{word, entry};
 ghost use Rattle.worksheet.specs.Ran.{Makes, Draws};
 use crate::adder;
 use crate::adder::EnteredPlanes;
+use crate::planes::bit_planes;
 use worksheet::Entered;
 use worksheet::Recorder;
 
@@ -64,37 +62,6 @@ fn fixed_points(rec: Recorder, d: usize, h: u64, x: &[u16]) -> EnteredNumbers
         rec = e.rec;
     }
     EnteredNumbers { value: v, rec }
-}
-
-// Bit j of x at place i.
-fn bit_at(x: u64, j: usize, i: usize) -> u64
-    requires { ⌜ (i < 64) × (j < 64) ⌝ }
-    ensures { λ r. ⌜ r ≡ digit j x * 2 ^ i ⌝ }
-{
-    ((x >> j) % 2) << i
-}
-
-fn bit_plane(v: &[u64], j: usize) -> u64
-    requires { ⌜ (length (now v) ≡ 64) × (j < 64) ⌝ }
-    ensures { λ r. ⌜ r ≡ plane 64 (λ i. getD (now (v .entry)) i 0) j ⌝ }
-{
-    let mut p: u64 = 0;
-    for i in 0..64 {
-        p += bit_at(v[i], j, i);
-    }
-    p
-}
-
-// The n lowest planes.
-fn bit_planes(v: &[u64], n: usize) -> [u64; 24]
-    requires { ⌜ (length (now v) ≡ 64) × (n ≤ 24) ⌝ }
-    ensures { λ r. ⌜ Filled 24 (plane 64 (λ i. getD (now (v .entry)) i 0)) n r ⌝ }
-{
-    let mut p = [0u64; 24];
-    for j in 0..n {
-        p[j] = bit_plane(v, j);
-    }
-    p
 }
 
 // The result's d planes stand from place 13 on.
