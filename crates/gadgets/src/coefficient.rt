@@ -1,7 +1,7 @@
 // A bit in two shares becomes a coefficient in two shares.
 ghost use mathlib.Core.Bool.{cond};
 ghost use mathlib.Core.Path.{_≡_};
-ghost use Prim.Native.Nat.{_+_, _*_, _-_, _%_, _<_};
+ghost use Prim.Native.Nat.{_+_, _*_, _-_, _%_, _^_, _<_};
 ghost use lib.Dec.{eqb};
 ghost use Rattle.gadgets.specs.Coefficient.{bitOf, tableValue, bitToCoeff};
 ghost use Rattle.words.specs.Residue.{q};
@@ -43,9 +43,10 @@ fn enter_coeff(rec: Recorder, v: u16) -> EnteredCoeff
 }
 
 fn enter_reduced(rec: Recorder, x: u32) -> EnteredCoeff
+    requires { ⌜ x < 2 ^ 17 ⌝ }
     ensures { λ r. ⌜ Makes (entry (x % q)) rec (r .value) (r .rec) ⌝ }
 {
-    enter_coeff(rec, ring::reduce(x))
+    enter_coeff(rec, ring::reduce_short(x))
 }
 
 // T[i]

@@ -21,6 +21,7 @@ pub use polynomial::add_to;
 pub use polynomial::sub_from;
 pub use residue::quotient;
 pub use residue::reduce;
+pub use residue::reduce_short;
 pub use sampling::Sampled;
 pub use sampling::sample_ntt;
 pub use sampling::sample_poly_cbd;

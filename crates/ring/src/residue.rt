@@ -18,7 +18,7 @@ pub fn reduce(x: u32) -> u16
 }
 
 // Below 2^17 a shorter estimate is exact, in 32 bits.
-fn reduce_short(x: u32) -> u16
+pub fn reduce_short(x: u32) -> u16
     requires { ⌜ x < 2 ^ 17 ⌝ }
     ensures { λ r. ⌜ r ≡ x % q ⌝ }
 {

@@ -24,9 +24,13 @@ mul-enter-reduced c = let a = c .args in let h = bit-mul (a .i) (a .b1) (a .w) (
 add-enter-reduced : tie.Need-add-enter-reduced
 add-enter-reduced c = let a = c .args in let h = bit-mul (a .i) (a .b1) (a .w) (c .pre .0) (c .pre .1) (omega arith) in omega arith
 
+enter-reduced-requires : tie.Need-enter-reduced-requires
+enter-reduced-requires c κs =
+    let a = c .args in let h = bit-mul (a .i) (a .b1) (a .w) (c .pre .0) (c .pre .1) (omega arith) in omega arith
+
 returns : tie.Need-returns
 unfolding xor
 returns c = c .enter-reduced .ensures
 
 pub enter-table-spec : {M : Type 1} → statement M
-enter-table-spec = tie.close (tie.spec cast-enter-reduced mul-enter-reduced add-enter-reduced (λ c κs. tt) returns)
+enter-table-spec = tie.close (tie.spec cast-enter-reduced mul-enter-reduced add-enter-reduced enter-reduced-requires returns)
