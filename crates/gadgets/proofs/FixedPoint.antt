@@ -1,24 +1,24 @@
 -- The arithmetic of the fixed point of a coefficient.
-use Prim.Native.Nat.{ℕ, _+_, _*_, _-_, _/_, _^_, _<_, _≤_}
-use mathlib.Core.Path.{_≡_}
-use native.Mathlib.Nat.{mul-le-mul}
+use Prim.Native.Nat.{ℕ, _+_, _*_, _-_, _/_, _%_, _^_, _<_, _≤_}
+use mathlib.Core.Path.{_≡_, sym, ap, _∙_}
+use native.Mathlib.Nat.{div-add-mod', div-eq-of-lt-le, mod-lt, mul-le-mul-right, add-mul, mul-right-comm, mul-comm, mul-assoc}
 use native.Mathlib.Omega.{arith}
-use lib.Pow.{pow-mono, pow-pos}
+use lib.Pow.{pow-mono, pow-add}
 use Rattle.words.specs.Residue.{q}
 
--- t is at most 1 below the quotient, and m is what is missing
-missing : (r m : ℕ) → r < 6658 → m ≡ (r + 62207) / 2 ^ 16 → (m * 3329 ≤ r) × (r < m * 3329 + 3329)
-missing r m h e = (omega arith, omega arith)
+-- x 2^48 is A q + R, where A and R are multiples of P
+between : (x A R P : ℕ) → x < q → A * 3329 + R ≡ x * 2 ^ 48 → R ≤ 3328 * P → 2 ^ 24 ≤ P
+    → (A ≤ x * 84552411148) × (x * 84552411148 < A + P)
+between x A R P h e f g = (omega arith, omega arith)
 
-corrected : (v t r m : ℕ) → v ≡ t * 3329 + r → m * 3329 ≤ r → r < m * 3329 + 3329 → t + m ≡ v / q
-corrected v t r m e f g = omega arith
-
-pub estimate : (v t r m : ℕ) → v < 2 ^ 36 → t ≡ v * 165141428 / 2 ^ 39 → r ≡ v - t * 3329 → m ≡ (r + 62207) / 2 ^ 16 → t + m ≡ v / q
-estimate v t r m h e f g = let b = missing r m (omega arith) g in corrected v t r m (omega arith) (b .0) (b .1)
-
-pub scaled-lt : (d p x : ℕ) → d ≤ 11 → p ≡ 2 ^ (d + 13) → x < q → (0 < p) × (p * x < 2 ^ 36)
-scaled-lt d p x h e g =
-    let b = pow-mono {i = d + 13} {j = 24} (omega arith) in
-    let y : x ≤ 3328 = omega arith in
-    let k = mul-le-mul b y in
-    (rw e (pow-pos (d + 13)), rw e (omega arith))
+pub estimate : (n s x : ℕ) → n + s ≡ 48 → 24 ≤ s → x < q → x * 84552411148 / 2 ^ s ≡ 2 ^ n * x / q
+estimate n s x e h l =
+    let P = 2 ^ s in
+    let a = 2 ^ n * x / q in
+    let r = 2 ^ n * x % q in
+    let f : 2 ^ n * x * P ≡ x * 2 ^ 48 =
+    ap (λ (z : ℕ). z * P) (mul-comm (2 ^ n) x) ∙ mul-assoc x (2 ^ n) P ∙ ap (λ (z : ℕ). x * z) (sym (pow-add 2 n s) ∙ ap (λ (z : ℕ). 2 ^ z) e) in
+    let g : a * P * 3329 + r * P ≡ x * 2 ^ 48 =
+    ap (λ (z : ℕ). z + r * P) (mul-right-comm a P 3329) ∙ sym (add-mul (a * 3329) r P) ∙ ap (λ (z : ℕ). z * P) (div-add-mod' (2 ^ n * x) q) ∙ f in
+    let b = between x (a * P) (r * P) P l g (mul-le-mul-right P (omega (arith, mod-lt (2 ^ n * x) {m = q} (omega arith)))) (pow-mono h) in
+    div-eq-of-lt-le {k = a} P (b .0) (rw (add-mul a 1 P) (omega (arith, b .1)))

@@ -19,14 +19,12 @@ pub struct EnteredNumbers {
     pub rec: Recorder,
 }
 
-// v / q without a division: the estimate t is at most 1 too small.
-fn quotient(v: u64) -> u64
-    requires { ⌜ v < 2 ^ 36 ⌝ }
-    ensures { λ r. ⌜ r ≡ v / q ⌝ }
+// 2^(d+13) x / q without a division: 84552411148 q is 2^48 + 1036.
+fn scaled(d: usize, x: u16) -> u64
+    requires { ⌜ (d ≤ 11) × (x < q) ⌝ }
+    ensures { λ r. ⌜ (r ≡ 2 ^ (d + 13) * x / q) × (r < 2 ^ 48) ⌝ }
 {
-    let t = (v * 165141428) >> 39;
-    let r = v - t * 3329;
-    t + ((r + 62207) >> 16)
+    ((x as u64) * 84552411148) >> (35 - d)
 }
 
 // 2^(d+13)
@@ -41,8 +39,7 @@ fn enter_fixed_point(rec: Recorder, d: usize, h: u64, x: u16) -> Entered
     requires { ⌜ (d ≤ 11) × (h ≤ 4096) × (x < q) ⌝ }
     ensures { λ r. ⌜ Makes (entry (fixedPoint d h x)) rec (r .value) (r .rec) ⌝ }
 {
-    let p = scale(d);
-    let v = (quotient(p * (x as u64)) + h) & (p - 1);
+    let v = (scaled(d, x) + h) & (scale(d) - 1);
     Entered {
         value: v,
         rec: worksheet::enter(rec, v),

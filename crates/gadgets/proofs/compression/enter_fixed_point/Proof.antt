@@ -1,49 +1,27 @@
 use mathlib.Core.Path.{_≡_, _∙_}
-use Prim.Native.Nat.{_+_, _-_}
-use native.Mathlib.Omega.{arith}
+use Prim.Native.Nat.{_+_, _-_, _<_}
 use lib.Bits.{bitAnd, and-mask}
+use lib.Pow.{pow-pos}
 use borrow.Author.Needs.{needs}
 use Rattle.gadgets.specs.Compression.{fixedPoint}
-use Rattle.gadgets.proofs.FixedPoint.{scaled-lt}
 use Rattle.gadgets.proofs.compression.enter_fixed_point.Statement.{statement}
 use Rattle.gadgets.proofs.compression.enter_fixed_point.Tie as tie
 
-mul-quotient : tie.Need-mul-quotient
-mul-quotient c =
-    let a = c .before .args in
-    let h = scaled-lt (a .d) (c .scale .result) (a .x) (c .before .pre .0) (c .scale .ensures) (c .before .pre .2) in
-    omega arith
-
-quotient-requires : tie.Need-quotient-requires
-quotient-requires c κs =
-    let a = c .before .args in
-    scaled-lt (a .d) (c .scale .result) (a .x) (c .before .pre .0) (c .scale .ensures) (c .before .pre .2) .1
-
-add-v : tie.Need-add-v
-add-v c =
-    let s = c .before in
-    let a = s .before .args in
-    let h = scaled-lt (a .d) (s .scale .result) (a .x) (s .before .pre .0) (s .scale .ensures) (s .before .pre .2) in
-    omega arith
-
 sub-v : tie.Need-sub-v
-sub-v c =
-    let s = c .before in
-    let a = s .before .args in
-    scaled-lt (a .d) (s .scale .result) (a .x) (s .before .pre .0) (s .scale .ensures) (s .before .pre .2) .0
+sub-v c = let h : 0 < c .scale .result = rw (c .scale .ensures) (pow-pos (c .before .before .args .d + 13)) in h
 
 returns : tie.Need-returns
 unfolding fixedPoint
 returns c =
-    let k = c .before in
-    let s = k .before in
+    let p = c .before in
+    let s = p .before in
     let a = s .before .args in
-    let n = k .quotient .result + a .h in
-    let e : bitAnd n (s .scale .result - 1) ≡ fixedPoint (a .d) (a .h) (a .x) =
-    rw (s .scale .ensures) (and-mask n (a .d + 13) ∙ rw (k .quotient .ensures, s .scale .ensures)) in
+    let n = s .scaled .result + a .h in
+    let e : bitAnd n (p .scale .result - 1) ≡ fixedPoint (a .d) (a .h) (a .x) =
+    rw (p .scale .ensures) (and-mask n (a .d + 13) ∙ rw (s .scaled .ensures .0)) in
     rw (← e) (c .enter .ensures)
 
 pub enter-fixed-point-spec : {M : Type 1} → statement M
 enter-fixed-point-spec =
     tie.close
-    (tie.spec (λ c κs. search needs) mul-quotient quotient-requires add-v sub-v (λ c κs. search needs) returns)
+    (tie.spec (λ c κs. search needs) (λ c. search needs) (λ c κs. search needs) sub-v (λ c κs. search needs) returns)
