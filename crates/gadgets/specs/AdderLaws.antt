@@ -1,18 +1,19 @@
 -- How much the adder does, and that it adds.
 use Prim.Native.Nat.{ℕ, _+_, _*_, _-_, _<_}
-use mathlib.Core.Path.{_≡_, ap, ap₂, _∙_}
+use mathlib.Core.Path.{_≡_, ap}
 use native.Mathlib.Omega.{arith}
-use Rattle.words.specs.Word.{xor, and}
-use Rattle.words.specs.WordLaws.{xor-same, xor-xor-cancel, xor-swap}
-use Rattle.words.specs.Plane.{plane}
+use Rattle.words.specs.Word.{Bits, xor, and}
+use Rattle.words.specs.WordLaws.{xor-bits, xor-xor-cancel}
+use Rattle.words.specs.Plane.{plane, plane-bits}
 use Rattle.worksheet.specs.declared.Shares.{Shares}
 use Rattle.worksheet.specs.Prog.{_>>=_, mask, entry, times-cong}
 use Rattle.worksheet.specs.Uses.{Uses, ret-u, word-u, enter-u, uses-bind, uses-times, uses-chain, uses-recount}
 use Rattle.worksheet.specs.Turns.{Each, each-weaken}
 use Rattle.worksheet.specs.Gives.{Gives, ret-g, draw-g, enter-g, gives-bind, gives-weaken, gives-times, gives-chain}
-use Rattle.worksheet.specs.Sharing.{joined, none}
-use Rattle.worksheet.specs.MaskedAnd.{uses-maskedAnd, gives-maskedAnd}
-use Rattle.worksheet.specs.Gates.{uses-maskedXor, gives-maskedXor}
+use Rattle.worksheet.specs.Sharing.{none, Sharing, sharing-none, sharing-xorShares}
+use Rattle.worksheet.specs.MaskedAnd.{uses-maskedAnd}
+use Rattle.worksheet.specs.Gates.{uses-maskedXor}
+use Rattle.worksheet.specs.GatesSharing.{sharing-maskedXor, sharing-maskedAnd}
 use Rattle.gadgets.specs.Adder.{maskPlane, carryStep, sumPlane, at, adder}
 use Rattle.gadgets.specs.PlaneSum.{plainCarry, plainSum, plane-add}
 
@@ -47,40 +48,38 @@ uses-adder n x y h =
 
 -- ---- what it joins to
 
-gives-maskPlane : (x : ℕ) → Gives (λ z. joined z ≡ x) (maskPlane x)
+gives-maskPlane : {x : ℕ} → Bits 64 x → Gives (Sharing 64 x) (maskPlane x)
 unfolding maskPlane mask entry _>>=_
-gives-maskPlane x = draw-g (λ r h. enter-g (ret-g (xor-xor-cancel x r)))
+gives-maskPlane {x} b =
+    draw-g (λ r h.
+    let k : Bits 64 r = record { lt = h } in
+    enter-g (ret-g (record { bits0 = xor-bits b k; bits1 = k; joins = xor-xor-cancel x r })))
 
-abbrev carry : ℕ → ℕ → ℕ → ℕ
-carry a b c = xor a (and (xor a b) (xor a c))
+module _ {A B C : ℕ} {a b c : Shares} (p : Sharing 64 A a) (q : Sharing 64 B b) (r : Sharing 64 C c) where
+  gives-carryStep : Gives (Sharing 64 (xor A (and (xor A B) (xor A C)))) (carryStep a b c)
+  unfolding carryStep
+  gives-carryStep =
+      gives-bind (sharing-maskedXor p q) (λ x s.
+      gives-bind (sharing-maskedXor p r) (λ y t. gives-bind (sharing-maskedAnd s t) (λ z u. sharing-maskedXor p u)))
 
-gives-carryStep : (a b c : Shares) → Gives (λ z. joined z ≡ carry (joined a) (joined b) (joined c)) (carryStep a b c)
-unfolding carryStep
-gives-carryStep a b c =
-    gives-bind (gives-maskedXor a b) (λ x p.
-    gives-bind (gives-maskedXor a c) (λ y q.
-    gives-bind (gives-maskedAnd 64 x y) (λ z r.
-    gives-weaken (λ o s. s ∙ ap (xor (joined a)) (r ∙ ap₂ and p q)) (gives-maskedXor a z))))
+  gives-sumPlane : Gives (Sharing 64 (xor (xor A B) C)) (sumPlane a b c)
+  unfolding sumPlane entry _>>=_
+  gives-sumPlane = enter-g (enter-g (ret-g (sharing-xorShares (sharing-xorShares p q) r)))
 
-gives-sumPlane : (a b c : Shares) → Gives (λ z. joined z ≡ xor (xor (joined a) (joined b)) (joined c)) (sumPlane a b c)
-unfolding sumPlane entry _>>=_
-gives-sumPlane a b c =
-    enter-g (enter-g (ret-g
-    (xor-swap (xor (a .s0) (b .s0)) (c .s0) (xor (a .s1) (b .s1)) (c .s1)
-    ∙ ap (λ (x : ℕ). xor x (joined c)) (xor-swap (a .s0) (b .s0) (a .s1) (b .s1)))))
-
-gives-plainSum : (n : ℕ) (x y : ℕ → ℕ) → Gives (Each (λ j z. joined z ≡ plainSum x y j) n) (adder n x y)
+gives-plainSum : (n : ℕ) {x y : ℕ → ℕ} → ((j : ℕ) → Bits 64 (x j)) → ((j : ℕ) → Bits 64 (y j))
+    → Gives (Each (λ j. Sharing 64 (plainSum x y j)) n) (adder n x y)
 unfolding adder plainCarry
-gives-plainSum n x y =
-    gives-bind (gives-times _ n (λ j h. gives-maskPlane (x j))) (λ a p.
-    gives-bind (gives-times _ n (λ j h. gives-maskPlane (y j))) (λ b q.
+gives-plainSum n {x} {y} wx wy =
+    gives-bind (gives-times _ n (λ j h. gives-maskPlane (wx j))) (λ a p.
+    gives-bind (gives-times _ n (λ j h. gives-maskPlane (wy j))) (λ b q.
     gives-bind
-    (gives-chain (λ j z. joined z ≡ plainCarry x y j) (n - 1)
-    (λ j h c r. gives-weaken (λ z s. s ∙ rw (p .at none j (omega arith), q .at none j (omega arith), r)) (gives-carryStep (at a j) (at b j) c))
-    (xor-same 0)) (λ c r.
-    gives-times _ n (λ j h.
-    gives-weaken (λ z s. s ∙ rw (p .at none j h, q .at none j h, r .at none j (omega arith))) (gives-sumPlane (at a j) (at b j) (at c j))))))
+    (gives-chain (λ j. Sharing 64 (plainCarry x y j)) (n - 1)
+    (λ j h c r. gives-carryStep (p .at none j (omega arith)) (q .at none j (omega arith)) r)
+    sharing-none) (λ c r.
+    gives-times _ n (λ j h. gives-sumPlane (p .at none j h) (q .at none j h) (r .at none j (omega arith))))))
 
--- m numbers in n planes are added
-pub gives-adder : (m n : ℕ) (v w : ℕ → ℕ) → Gives (Each (λ j z. joined z ≡ plane m (λ i. v i + w i) j) n) (adder n (plane m v) (plane m w))
-gives-adder m n v w = gives-weaken (λ s e. each-weaken (λ j z q. q ∙ plane-add m v w j) e) (gives-plainSum n (plane m v) (plane m w))
+-- 64 numbers in n planes are added
+pub gives-adder : (n : ℕ) (v w : ℕ → ℕ)
+    → Gives (Each (λ j. Sharing 64 (plane 64 (λ i. v i + w i) j)) n) (adder n (plane 64 v) (plane 64 w))
+gives-adder n v w =
+    gives-weaken (λ s e. each-weaken (λ j z q. rw (plane-add 64 v w j) at q) e) (gives-plainSum n (plane-bits 64 v) (plane-bits 64 w))

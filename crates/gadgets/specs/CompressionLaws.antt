@@ -14,7 +14,7 @@ use Rattle.worksheet.specs.Prog.{entry}
 use Rattle.worksheet.specs.Uses.{Uses, ret-u, enter-u, uses-bind, uses-map, uses-times, uses-recount}
 use Rattle.worksheet.specs.Turns.{Each, each-drop}
 use Rattle.worksheet.specs.Gives.{Gives, ret-g, enter-g, gives-bind, gives-times}
-use Rattle.worksheet.specs.Sharing.{joined}
+use Rattle.worksheet.specs.Sharing.{Sharing}
 use Rattle.gadgets.specs.Compression.{fixedPoint, fixedPoints, maskedCompress}
 use Rattle.gadgets.specs.AdderLaws.{uses-adder, gives-adder}
 
@@ -46,13 +46,14 @@ digit-sum d x₀ x₁ j h =
     ∙ sym (digit-div j 13 ((a + b + 4096) % 2 ^ n))
     ∙ ap (digit j) (compress-shares d x₀ x₁)
 
--- plane j holds bit j of the compressed coefficients
+-- plane j holds bit j of the compressed coefficients, in two shares of 64 bits
 pub gives-maskedCompress : (d : ℕ) (x : ℕ → Shares)
-    → Gives (Each (λ j z. joined z ≡ plane 64 (λ i. compress d ((x i .s0 + x i .s1) % q)) j) d) (maskedCompress d x)
+    → Gives (Each (λ j. Sharing 64 (plane 64 (λ i. compress d ((x i .s0 + x i .s1) % q)) j)) d) (maskedCompress d x)
 unfolding maskedCompress
 gives-maskedCompress d x =
     gives-bind (gives-fixedPoints d 0 (λ i. x i .s0)) (λ a p.
     gives-bind (gives-fixedPoints d 4096 (λ i. x i .s1)) (λ b r.
-    gives-bind (gives-adder 64 (d + 13) (λ i. getD a i 0) (λ i. getD b i 0)) (λ s t.
+    gives-bind (gives-adder (d + 13) (λ i. getD a i 0) (λ i. getD b i 0)) (λ s t.
     ret-g (each-drop 13 t (omega arith) (λ j z lt e.
-    e ∙ plane-cong 64 (13 + j) j (λ i. getD a i 0 + getD b i 0) _ (λ i h. rw (p .at 0 i h, r .at 0 i h) (digit-sum d (x i .s0) (x i .s1) j lt)))))))
+    rw (plane-cong 64 (13 + j) j (λ i. getD a i 0 + getD b i 0) (λ i. compress d ((x i .s0 + x i .s1) % q))
+    (λ i h. rw (p .at 0 i h, r .at 0 i h) (digit-sum d (x i .s0) (x i .s1) j lt))) at e)))))

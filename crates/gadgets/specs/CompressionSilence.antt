@@ -10,10 +10,9 @@ use Rattle.words.specs.Plane.{plane, plane-bits}
 use Rattle.worksheet.specs.declared.Shares.{Shares}
 use Rattle.worksheet.specs.Prog.{Prog, ret, _>>=_, times}
 use Rattle.worksheet.specs.Couple.{Coupled, Like, SameAt, coupled-bind, coupled-map, sameAt-left, sameAt-right, sameAt-map}
-use Rattle.worksheet.specs.CoupleLoops.{coupled-times, like-times, sameAt-times}
-use Rattle.worksheet.specs.Places.{cut, turns}
+use Rattle.worksheet.specs.Places.{cut}
 use Rattle.worksheet.specs.Turns.{Turns, turns-weaken, turns-drop}
-use Rattle.worksheet.specs.Stage.{Stage}
+use Rattle.worksheet.specs.Stage.{Stage, comap, times-stage}
 use Rattle.worksheet.specs.Sharing.{keep, keep-bits}
 use Rattle.worksheet.specs.SharedList.{SharedList, sharedAt}
 use Rattle.worksheet.specs.Choice.{Kept, KeptList, chosen, SameShares, SameShare, sameShare-at}
@@ -108,20 +107,10 @@ module _ (n d : ℕ) where
   abbrev pub groups : SharedList → Prog (List (List Shares))
   groups f = times n (λ g. maskedCompress d (λ i. sharedAt f (64 * g + i)))
 
-  abbrev Group : ℕ → Type 0
-  Group k = (q : Bool) × ((f f′ : SharedList) → SameShare q f f′ → SameAt k (groups f) (groups f′))
-
   pub groups-stage : Stage SameShare (λ (c : ℕ → ℕ → Bool). Turns (λ g. KeptList d (c g)) n) (n * compressEntries d) groups groups
   groups-stage =
-      record {
-        like = λ f f′. like-times n (λ g h. like-maskedCompress d _ _);
-        entry =
-            turns Group n (compressEntries d) (λ g i h k.
-            let e = maskedCompress-stage d .entry i k in (
-              e .0,
-              λ f f′ r.
-                  sameAt-times n g (λ g h. like-maskedCompress d _ _) h
-                  (e .1 _ _ (record { at = λ j l. sameShare-at (e .0) r (64 * g + j) })),
-            ));
-        fresh = λ c. (true, λ f f′ r. coupled-times n (λ g h. coupled-maskedCompress d (c g) _ _));
-      }
+      times-stage (λ c g. KeptList d (c g)) n
+      (λ g h.
+      comap SameShare (λ f i. sharedAt f (64 * g + i)) (λ f i. sharedAt f (64 * g + i)) (λ q. q)
+      (λ q f f′ r. record { at = λ j l. sameShare-at q r (64 * g + j) }) (maskedCompress-stage d))
+      (λ c. (true, λ f f′ r g h. coupled-maskedCompress d (c g) _ _))

@@ -1,6 +1,5 @@
 -- Planes of 256 numbers in four groups of 64, and the compressed coefficients of a shared polynomial as shared planes (stages 2 and 7).
 use mathlib.Core.Path.{_≡_, sym, ap, _∙_}
-use mathlib.Core.Bool.{false}
 use mathlib.Core.List.{List, map}
 use Prim.Native.Nat.{ℕ, _+_, _*_, _/_, _%_, _^_, _<_}
 use native.Mathlib.Omega.{arith}
@@ -13,14 +12,12 @@ use Rattle.words.specs.Residue.{q}
 use Rattle.ring.specs.Compress.{compress}
 use Rattle.ring.specs.CompressLaws.{getD-compress}
 use Rattle.worksheet.specs.declared.Shares.{Shares}
-use Rattle.worksheet.specs.Turns.{Each}
-use Rattle.worksheet.specs.Gives.{Gives, gives-weaken, gives-and, gives-times}
-use Rattle.worksheet.specs.Couple.{gives-coupled}
-use Rattle.worksheet.specs.Sharing.{joined, Sharing}
+use Rattle.worksheet.specs.Turns.{Each, each-weaken}
+use Rattle.worksheet.specs.Gives.{Gives, gives-weaken, gives-times}
+use Rattle.worksheet.specs.Sharing.{Sharing}
 use Rattle.worksheet.specs.SharedList.{SharedList, sharedAt}
 use Rattle.gadgets.specs.Compression.{maskedCompress}
 use Rattle.gadgets.specs.CompressionLaws.{gives-maskedCompress}
-use Rattle.gadgets.specs.CompressionSilence.{coupled-maskedCompress}
 use Rattle.mlkem.specs.Worksheet.{compressPoly}
 use Rattle.mlkem.specs.Joined.{PolySharing}
 use Rattle.mlkem.specs.JoinedLaws.{polySharing-at}
@@ -46,27 +43,10 @@ ext-planes d {f} {h} e k a b r =
 abbrev pub PlaneSharing : ℕ → List ℕ → List (List Shares) → Type 0
 PlaneSharing d f = Each (λ g. Each (λ j. Sharing 64 (planeOf f g j)) d) 4
 
--- both shares of a plane have 64 bits
-gives-bits : (d : ℕ) (x : ℕ → Shares) → Gives (Each (λ j z. Sharing 64 (joined z) z) d) (maskedCompress d x)
-gives-bits d x =
-    gives-weaken (λ l r. record { long = r .1 .long; at = λ z j h. r .1 .at z z j h .both .left })
-    (gives-coupled (coupled-maskedCompress d (λ j. false) x x))
-
 gives-group : (d : ℕ) (x : ℕ → Shares) {v : ℕ → ℕ} → ((i : ℕ) → compress d ((x i .s0 + x i .s1) % q) ≡ v i)
     → Gives (Each (λ j. Sharing 64 (plane 64 v j)) d) (maskedCompress d x)
 gives-group d x {v} e =
-    gives-weaken (λ l r.
-    record {
-      long = r .0 .long;
-      at = λ z j h.
-          let s = r .1 .at z j h in
-          record {
-            bits0 = s .bits0;
-            bits1 = s .bits1;
-            joins = r .0 .at z j h ∙ plane-cong 64 j j _ v (λ i k. ap (digit j) (e i));
-          };
-    })
-    (gives-and (gives-maskedCompress d x) (gives-bits d x))
+    gives-weaken (λ l r. each-weaken (λ j z s. rw (plane-cong 64 j j _ v (λ i k. ap (digit j) (e i))) at s) r) (gives-maskedCompress d x)
 
 pub gives-compressPoly : (d : ℕ) {f : List ℕ} {s : SharedList} → PolySharing f s → Gives (PlaneSharing d (map (compress d) f)) (compressPoly d s)
 unfolding compressPoly
