@@ -1,5 +1,5 @@
 -- The arithmetic of the fixed point of a coefficient.
-use Prim.Native.Nat.{ℕ, _+_, _*_, _-_, _/_, _%_, _^_, _<_, _≤_}
+use Prim.Native.Nat.{ℕ, _+_, _*_, _/_, _%_, _^_, _<_, _≤_}
 use mathlib.Core.Path.{_≡_, sym, ap, _∙_}
 use native.Mathlib.Nat.{div-add-mod', div-eq-of-lt-le, mod-lt, mul-le-mul-right, add-mul, mul-right-comm, mul-comm, mul-assoc}
 use native.Mathlib.Omega.{arith}
@@ -17,8 +17,13 @@ estimate n s x e h l =
     let a = 2 ^ n * x / q in
     let r = 2 ^ n * x % q in
     let f : 2 ^ n * x * P ≡ x * 2 ^ 48 =
-    ap (λ (z : ℕ). z * P) (mul-comm (2 ^ n) x) ∙ mul-assoc x (2 ^ n) P ∙ ap (λ (z : ℕ). x * z) (sym (pow-add 2 n s) ∙ ap (λ (z : ℕ). 2 ^ z) e) in
+    ap (λ (z : ℕ). z * P) (mul-comm (2 ^ n) x)
+    ∙ mul-assoc x (2 ^ n) P
+    ∙ ap (λ (z : ℕ). x * z) (sym (pow-add 2 n s) ∙ ap (λ (z : ℕ). 2 ^ z) e) in
     let g : a * P * 3329 + r * P ≡ x * 2 ^ 48 =
-    ap (λ (z : ℕ). z + r * P) (mul-right-comm a P 3329) ∙ sym (add-mul (a * 3329) r P) ∙ ap (λ (z : ℕ). z * P) (div-add-mod' (2 ^ n * x) q) ∙ f in
+    ap (λ (z : ℕ). z + r * P) (mul-right-comm a P 3329)
+    ∙ sym (add-mul (a * 3329) r P)
+    ∙ ap (λ (z : ℕ). z * P) (div-add-mod' (2 ^ n * x) q)
+    ∙ f in
     let b = between x (a * P) (r * P) P l g (mul-le-mul-right P (omega (arith, mod-lt (2 ^ n * x) {m = q} (omega arith)))) (pow-mono h) in
     div-eq-of-lt-le {k = a} P (b .0) (rw (add-mul a 1 P) (omega (arith, b .1)))

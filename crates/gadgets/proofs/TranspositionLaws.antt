@@ -35,7 +35,8 @@ digit-under k s x h = let e : s ≡ suc (s - k - 1) + k = omega arith in rw e (d
 
 -- ---- three bits
 
-below2 : (p : ℕ → ℕ → ℕ → Bool) → T (every 2 (λ a. every 2 (λ b. every 2 (p a b)))) → (a b c : ℕ) → a < 2 → b < 2 → c < 2 → T (p a b c)
+below2 : (p : ℕ → ℕ → ℕ → Bool) → T (every 2 (λ a. every 2 (λ b. every 2 (p a b)))) → (a b c : ℕ)
+    → a < 2 → b < 2 → c < 2 → T (p a b c)
 below2 p t a b c f g h =
     every-at 2 (p a b) (every-at 2 (λ b. every 2 (p a b)) (every-at 2 (λ a. every 2 (λ b. every 2 (p a b))) t a f) b g) c h
 
@@ -285,10 +286,13 @@ unfolding stepped
 stepped-odd s m w i = let e : (2 * i + 1) % 2 ≡ 1 = omega arith in let f : (2 * i + 1) / 2 ≡ i = omega arith in rw (e, f)
 
 -- a step on the rows of a list
-pub stepped-tab : {l o : List ℕ} (s m : ℕ) (f : ℕ → ℕ) → l ≡ tab 32 f → o ≡ tab 32 (stepped s m (λ i. getD l i 0)) → o ≡ tab 32 (stepped s m f)
+pub stepped-tab : {l o : List ℕ} (s m : ℕ) (f : ℕ → ℕ) → l ≡ tab 32 f
+    → o ≡ tab 32 (stepped s m (λ i. getD l i 0)) → o ≡ tab 32 (stepped s m f)
 unfolding stepped
 stepped-tab {l} s m f e g =
-    g ∙ tab-cong 32 (λ r h. ap₂ (λ (x y : ℕ). pick (r % 2) (lower s m x y) (upper s m x y)) (row (r / 2) (omega arith)) (row (r / 2 + 16) (omega arith)))
+    g
+    ∙ tab-cong 32 (λ r h.
+    ap₂ (λ (x y : ℕ). pick (r % 2) (lower s m x y) (upper s m x y)) (row (r / 2) (omega arith)) (row (r / 2 + 16) (omega arith)))
   where
     row : (i : ℕ) → i < 32 → getD l i 0 ≡ f i
     row i h = ap (λ (x : List ℕ). getD x i 0) e ∙ getD-tab 32 f i 0 h

@@ -1,5 +1,5 @@
 use Prim.Native.Nat.{ℕ, _≤_, _-_}
-use mathlib.Core.Path.{_≡_, ap, _∙_}
+use mathlib.Core.Path.{ap, _∙_}
 use mathlib.Core.List.{List}
 use native.Mathlib.Omega.{arith}
 use lib.ListN.{getD, length}
@@ -7,7 +7,7 @@ use borrow.Author.Needs.{needs}
 use Rattle.words.specs.Digit.{digit}
 use Rattle.words.specs.Fill.{Filled, filled-start, filled-turn, filled-end, filled-at}
 use Rattle.words.specs.Plane.{plane, plane-cong}
-use Rattle.words.specs.Tab.{tab, getD-tab, length-tab}
+use Rattle.words.specs.Tab.{getD-tab, length-tab}
 use Rattle.gadgets.proofs.planes.coefficient_planes.Statement.{statement}
 use Rattle.gadgets.proofs.planes.coefficient_planes.Tie as tie
 
@@ -18,7 +18,9 @@ abbrev μ-loop : tie.MeasureT-loop
 μ-loop f d out₀ p j₀ out j = d - j
 
 slice-aggregate-bit-planes : tie.Need-slice-aggregate-bit-planes Inv-loop μ-loop
-slice-aggregate-bit-planes c = rw (c .before .widened .ensures) (omega (arith, length-tab 64 (λ i. getD (c .before .before .before .before .args .f .now) i 0)))
+slice-aggregate-bit-planes c =
+    let f : ℕ → ℕ = λ i. getD (c .before .before .before .before .args .f .now) i 0 in
+    rw (c .before .widened .ensures) (omega (arith, length-tab 64 f))
 
 bit-planes-requires : tie.Need-bit-planes-requires Inv-loop μ-loop
 bit-planes-requires c κs = (ap length (c .before .widened .ensures) ∙ length-tab 64 _, omega arith)

@@ -1,5 +1,5 @@
 use Prim.Native.Nat.{ℕ, _≤_, _-_, _*_, _%_, _^_, _+_}
-use mathlib.Core.Path.{_≡_, ap}
+use mathlib.Core.Path.{ap}
 use native.Mathlib.Omega.{arith}
 use lib.Bits.{bitXor, and-mask}
 use lib.ListN.{getD}
