@@ -8,6 +8,8 @@ pub mod TestLaws
 pub mod Calls
 pub mod Worksheet
 pub mod WorksheetUses
+pub mod Layout
+pub mod LayoutLaws
 pub mod Split
 pub mod Expanded
 pub mod Accepted

@@ -1,4 +1,4 @@
--- How much the worksheet does, stage by stage: at ML-KEM-768 187,794 entries, 11,750 words and 7,424 coefficients.
+-- How much the worksheet does, stage by stage, for a parameter set; at ML-KEM-768 187,794 entries, 11,750 words and 7,424 coefficients.
 use Prim.Native.Nat.{ℕ, _+_, _-_, _*_, _/_}
 use mathlib.Core.Path.{_≡_, refl, ap, _∙_}
 use mathlib.Core.List.{List, [], _∷_, _++_}
@@ -15,10 +15,10 @@ use Rattle.gadgets.specs.CompressionLaws.{uses-maskedCompress}
 use Rattle.gadgets.specs.CoefficientLaws.{uses-bitToCoeff}
 use Rattle.gadgets.specs.SamplerLaws.{uses-sampler}
 use Rattle.gadgets.specs.ComparisonLaws.{uses-addPublic, uses-allZero, uses-select}
-use Rattle.mlkem.specs.Parameters.{Parameters, mlKem768}
+use Rattle.mlkem.specs.Parameters.{Parameters, mlKem768, ctBytes}
 use Rattle.mlkem.specs.WordBytes.{length-bytesOf}
 use Rattle.mlkem.specs.Worksheet.{SplitKey, Noise, Reencrypted, Planes, bytesOf, four, compressPoly, hashShared, noisePoly}
-use Rattle.mlkem.specs.Worksheet.{stage1, stage2, stage3, stage4, stage5, stage6, stage7, stage8, stage9, stage10, worksheet}
+use Rattle.mlkem.specs.Worksheet.{planeWords, stage1, stage2, stage3, stage4, stage5, stage6, stage7, stage8, stage9, stage10, worksheet}
 
 -- ---- parts common to several stages
 
@@ -31,8 +31,14 @@ uses-enterBoth : (f g : List ℕ) → Uses 512 0 0 (enterBoth 256 f g)
 unfolding enterBoth entry
 uses-enterBoth f g = uses-bind (uses-times 256 (λ i. enter-u ret-u)) (λ a. uses-map _ (uses-times 256 (λ i. enter-u ret-u)))
 
-uses-compressPoly : (d : ℕ) (f : SharedList)
-    → Uses (4 * (128 + (18 * (d + 13) - 14))) (4 * (3 * (d + 13) - 1)) 0 (compressPoly d f)
+-- masked compression of a polynomial to depth d
+abbrev compressEntries : ℕ → ℕ
+compressEntries d = 4 * (128 + (18 * (d + 13) - 14))
+
+abbrev compressWords : ℕ → ℕ
+compressWords d = 4 * (3 * (d + 13) - 1)
+
+uses-compressPoly : (d : ℕ) (f : SharedList) → Uses (compressEntries d) (compressWords d) 0 (compressPoly d f)
 unfolding compressPoly
 uses-compressPoly d f = uses-times 4 (λ g. uses-maskedCompress d _)
 
@@ -49,6 +55,16 @@ unfolding hashShared
 uses-hashShared rate suffix len w public n e =
     rw (length-bytesOf-four (w .s0) public ∙ ap (λ (t : ℕ). 32 + t) e)
     at (uses-maskedSponge rate suffix (bytesOf (four (w .s0)) ++ public) (bytesOf (four (w .s1)) ++ replicate (length public) 0) n)
+
+-- a noise polynomial of width eta
+abbrev noiseEntries : ℕ → ℕ
+noiseEntries eta = hashEntries 136 33 (8 * eta) + 256 * (8 * eta + 2 * (2 * eta - 1))
+
+abbrev noiseWords : ℕ → ℕ
+noiseWords eta = hashWords 136 33 (8 * eta)
+
+abbrev noiseCoeffs : ℕ → ℕ
+noiseCoeffs eta = 256 * (2 * eta)
 
 -- ---- the stages
 
@@ -70,8 +86,7 @@ module _ (p : Parameters) where
   uses-stage4 m = uses-map _ (uses-times 256 (λ i. uses-bitToCoeff 1665 _))
 
   uses-noisePoly : (eta : ℕ) (coins : SharedList) (n : ℕ)
-      → Uses (hashEntries 136 33 (8 * eta) + 256 * (8 * eta + 2 * (2 * eta - 1))) (hashWords 136 33 (8 * eta)) (256 * (2 * eta))
-      (noisePoly p eta coins n)
+      → Uses (noiseEntries eta) (noiseWords eta) (noiseCoeffs eta) (noisePoly p eta coins n)
   unfolding noisePoly
   uses-noisePoly eta coins n =
       uses-recount refl (omega arith) (omega arith)
@@ -82,40 +97,75 @@ module _ (p : Parameters) where
   unfolding stage10
   uses-stage10 b k r = uses-map _ (uses-times 4 (λ j. uses-select _ _ _))
 
-uses-stage5 : (coins : SharedList) → Uses 94430 4375 7168 (stage5 mlKem768 coins)
-unfolding stage5
-uses-stage5 coins =
-    uses-bind (uses-times 3 (λ n. uses-noisePoly mlKem768 2 coins _)) (λ y.
-    uses-bind (uses-times 3 (λ n. uses-noisePoly mlKem768 2 coins _)) (λ e1. uses-map _ (uses-noisePoly mlKem768 2 coins 6)))
+  uses-stage5 : (coins : SharedList)
+      → Uses (p .k * noiseEntries (p .eta1) + (p .k * noiseEntries (p .eta2) + noiseEntries (p .eta2)))
+      (p .k * noiseWords (p .eta1) + (p .k * noiseWords (p .eta2) + noiseWords (p .eta2)))
+      (p .k * noiseCoeffs (p .eta1) + (p .k * noiseCoeffs (p .eta2) + noiseCoeffs (p .eta2))) (stage5 p coins)
+  unfolding stage5
+  uses-stage5 coins =
+      uses-bind (uses-times (p .k) (λ n. uses-noisePoly (p .eta1) coins _)) (λ y.
+      uses-bind (uses-times (p .k) (λ n. uses-noisePoly (p .eta2) coins _)) (λ e1. uses-map _ (uses-noisePoly (p .eta2) coins (2 * p .k))))
 
-uses-stage6 : (ek : List ℕ) (n : Noise) (m : SharedList) → Uses 2048 0 0 (stage6 mlKem768 ek n m)
-unfolding stage6
-uses-stage6 ek n m = uses-bind (uses-times 3 (λ i. uses-enterBoth _ _)) (λ u. uses-map _ (uses-enterBoth _ _))
+  uses-stage6 : (ek : List ℕ) (n : Noise) (m : SharedList) → Uses (p .k * 512 + 512) (p .k * 0 + 0) (p .k * 0 + 0) (stage6 p ek n m)
+  unfolding stage6
+  uses-stage6 ek n m = uses-bind (uses-times (p .k) (λ i. uses-enterBoth _ _)) (λ u. uses-map _ (uses-enterBoth _ _))
 
-uses-stage7 : (r : Reencrypted) → Uses 8016 1016 0 (stage7 mlKem768 r)
-unfolding stage7
-uses-stage7 r = uses-bind (uses-times 3 (λ i. uses-compressPoly 10 _)) (λ u. uses-map _ (uses-compressPoly 4 (r .v)))
+  uses-stage7 : (r : Reencrypted)
+      → Uses (p .k * compressEntries (p .du) + compressEntries (p .dv)) (p .k * compressWords (p .du) + compressWords (p .dv)) (p .k * 0 + 0) (stage7 p r)
+  unfolding stage7
+  uses-stage7 r = uses-bind (uses-times (p .k) (λ i. uses-compressPoly (p .du) _)) (λ u. uses-map _ (uses-compressPoly (p .dv) (r .v)))
 
-uses-stage8 : (c : List ℕ) (w : Planes) → Uses 1688 141 0 (stage8 mlKem768 c w)
-unfolding stage8
-uses-stage8 c w = uses-bind (uses-addPublic 136 _ _) (λ d. uses-allZero 135 _)
+  uses-stage8 : (c : List ℕ) (w : Planes) → Uses (planeWords p + (11 * (planeWords p - 1) + 67)) (0 + (planeWords p - 1 + 6)) 0 (stage8 p c w)
+  unfolding stage8
+  uses-stage8 c w = uses-bind (uses-addPublic (planeWords p) _ _) (λ d. uses-allZero (planeWords p - 1) _)
 
-uses-stage9 : (z : SharedList) (c : List ℕ) → length c ≡ 1088 → Uses 70722 5425 0 (stage9 mlKem768 z c)
-unfolding stage9
-uses-stage9 z c e = uses-hashShared 136 0x1f 1088 z c 4 e
+  uses-stage9 : (z : SharedList) (c : List ℕ) → length c ≡ ctBytes p
+      → Uses (hashEntries 136 (32 + ctBytes p) 4) (hashWords 136 (32 + ctBytes p) 4) 0 (stage9 p z c)
+  unfolding stage9
+  uses-stage9 z c e = uses-hashShared 136 0x1f (ctBytes p) z c 4 e
 
--- ---- the whole
+  -- ---- the whole
 
-pub uses-worksheet : (key : SplitKey) (c : List ℕ) → length (key .h) ≡ 32 → length c ≡ 1088
-    → Uses 187794 11750 7424 (worksheet mlKem768 key c)
-unfolding worksheet
-uses-worksheet key c h-long c-long =
-    uses-bind (uses-stage1 mlKem768 (key .s) c) (λ w.
-    uses-bind (uses-stage2 mlKem768 w) (λ m.
-    uses-bind (uses-stage3 mlKem768 m (key .h) h-long) (λ g.
-    uses-bind (uses-stage4 mlKem768 m) (λ f.
-    uses-bind (uses-stage5 _) (λ n.
-    uses-bind (uses-stage6 (key .ek) n f) (λ r.
-    uses-bind (uses-stage7 r) (λ l.
-    uses-bind (uses-stage8 c l) (λ b.
-    uses-bind (uses-stage9 (key .z) c c-long) (λ j. uses-stage10 mlKem768 b g j)))))))))
+  -- the worksheet's entries
+  abbrev pub steps : ℕ
+  steps =
+      512 + (1464 + (7842 + (1024
+      + (p .k * noiseEntries (p .eta1) + (p .k * noiseEntries (p .eta2) + noiseEntries (p .eta2))
+      + (p .k * 512 + 512
+      + (p .k * compressEntries (p .du) + compressEntries (p .dv)
+      + (planeWords p + (11 * (planeWords p - 1) + 67)
+      + (hashEntries 136 (32 + ctBytes p) 4 + 48))))))))
+
+  -- the mask words and mask coefficients of a strip
+  abbrev pub stripWords : ℕ
+  stripWords =
+      164 + (625
+      + (p .k * noiseWords (p .eta1) + (p .k * noiseWords (p .eta2) + noiseWords (p .eta2))
+      + (p .k * compressWords (p .du) + compressWords (p .dv) + (planeWords p - 1 + 6 + (hashWords 136 (32 + ctBytes p) 4 + 4)))))
+
+  abbrev pub stripCoeffs : ℕ
+  stripCoeffs = 256 + (p .k * noiseCoeffs (p .eta1) + (p .k * noiseCoeffs (p .eta2) + noiseCoeffs (p .eta2)))
+
+  pub uses-worksheet : (key : SplitKey) (c : List ℕ) → length (key .h) ≡ 32 → length c ≡ ctBytes p → Uses steps stripWords stripCoeffs (worksheet p key c)
+  unfolding worksheet
+  uses-worksheet key c h-long c-long =
+      uses-recount (omega arith) (omega arith) (omega arith)
+      (uses-bind (uses-stage1 (key .s) c) (λ w.
+      uses-bind (uses-stage2 w) (λ m.
+      uses-bind (uses-stage3 m (key .h) h-long) (λ g.
+      uses-bind (uses-stage4 m) (λ f.
+      uses-bind (uses-stage5 _) (λ n.
+      uses-bind (uses-stage6 (key .ek) n f) (λ r.
+      uses-bind (uses-stage7 r) (λ l.
+      uses-bind (uses-stage8 c l) (λ b.
+      uses-bind (uses-stage9 (key .z) c c-long) (λ j. uses-stage10 b g j))))))))))
+
+-- document 01's numbers
+pub steps768 : steps mlKem768 ≡ 187794
+steps768 = refl
+
+pub stripWords768 : stripWords mlKem768 ≡ 11750
+stripWords768 = refl
+
+pub stripCoeffs768 : stripCoeffs mlKem768 ≡ 7424
+stripCoeffs768 = refl

@@ -1,15 +1,15 @@
 // ML-KEM-768 (FIPS 203).
-mod copy;
+pub mod copy; // copies of slices
 mod encapsulation;
 mod encrypt;
 mod hashes;
 mod key_making;
-mod matrix;
+pub mod matrix; // the matrix from its streams
 mod noise;
 mod sampling;
 mod splitting;
-mod tests;
-mod vector;
+pub mod tests; // tests of lent values
+pub mod vector; // vectors of polynomials
 
 pub use encapsulation::encaps;
 pub use key_making::keygen;

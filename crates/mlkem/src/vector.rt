@@ -38,7 +38,7 @@ fn add_product(s: &mut [u16], f: &[u16], g: &[u16])
     add_to(s, &t);
 }
 
-fn clear(f: &mut [u16])
+pub fn clear(f: &mut [u16])
     ensures { λ _. ⌜ now (f .exit) ≡ replicate (length (now (f .entry))) 0 ⌝ }
 {
     for i in 0..f.len() {

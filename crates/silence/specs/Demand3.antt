@@ -79,7 +79,7 @@ module _ {dk dk′ c : List ℕ} (key : Key dk) (key′ : Key dk′) (ct : Ciphe
 -- ---- the count
 
 -- past the end of the worksheet no value is given
-hit-past : (i v : ℕ) (l : List ℕ) → length l ≤ i → hit i v l ≡ 0
+pub hit-past : (i v : ℕ) (l : List ℕ) → length l ≤ i → hit i v l ≡ 0
 unfolding hit
 hit-past i v [] h = refl
 hit-past zero v (x ∷ l) h = absurd (omega arith)
@@ -92,7 +92,7 @@ counted dk c t v =
 module _ {dk c : List ℕ} (key : Key dk) (ct : Ciphertext c) where
   uses-split : (a w : List ℕ) → Uses 187794 11750 7424 (worksheet mlKem768 (split mlKem768 dk a w) c)
   unfolding split
-  uses-split a w = uses-worksheet _ c (length-hashPart key) (ct .long)
+  uses-split a w = uses-worksheet mlKem768 _ c (length-hashPart key) (ct .long)
 
   hits-drawn-counted : (t v : ℕ) → hits t v (drawn dk c) ≡ counted dk c t v
   hits-drawn-counted t v =
