@@ -1,0 +1,26 @@
+use Prim.Native.Nat.{_-_, _≤_}
+use mathlib.Core.Path.{_≡_}
+use borrow.Author.Needs.{needs}
+use lib.ListN.{length}
+use Rattle.kem_vectors.proofs.accumulated.turns.Statement.{statement}
+use Rattle.kem_vectors.proofs.accumulated.turns.Tie as tie
+
+abbrev Inv-loop : tie.InvT-loop
+Inv-loop draws feed₀ i₀ feed i = (i ≤ 100) × (length feed ≡ length feed₀)
+
+abbrev μ-loop : tie.MeasureT-loop
+μ-loop draws feed₀ i₀ feed i = 100 - i
+
+pub turns-spec : {M : Type 1} → statement M
+turns-spec =
+    tie.close
+    (tie.spec
+    Inv-loop
+    μ-loop
+    (λ c. search needs)
+    (λ c κs. search needs)
+    (λ c. search needs)
+    (λ c. search needs)
+    (λ c. search needs)
+    (λ c. search needs)
+    (λ c. search needs))
