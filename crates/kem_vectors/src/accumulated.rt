@@ -2,9 +2,10 @@
 ghost use mathlib.Core.Path.{_≡_};
 ghost use Prim.Native.Nat.{_<_};
 ghost use lib.ListN.{length};
-use crate::bytes::copy;
-use crate::print::print;
-use crate::print::print_hex;
+use crate::turns::make;
+use vector_support::bytes::copy;
+use vector_support::print::print;
+use vector_support::print::print_hex;
 
 // The turn's public key, ciphertext and secret.
 fn turn(draw: &[u8], feed: &mut [u8])
@@ -14,8 +15,7 @@ fn turn(draw: &[u8], feed: &mut [u8])
     let mut dk = [0u8; 2400];
     let mut ct = [0u8; 1088];
     let mut k = [0u8; 32];
-    mlkem::keygen(&draw[0..32], &draw[32..64], &mut ek, &mut dk);
-    mlkem::encaps(&ek, &draw[64..96], &mut ct, &mut k);
+    make(draw, &mut ek, &mut dk, &mut ct, &mut k);
     copy(&ek, &mut feed[0..1184]);
     copy(&ct, &mut feed[1184..2272]);
     copy(&k, &mut feed[2272..2304]);

@@ -1,29 +1,8 @@
-// ML-KEM-768's calls on public seeds, at the edges of their ranges and with wrong lengths. What it prints is held to the file stdout, whose
-// values come from another implementation (tools/kem_vectors).
-ghost use mathlib.Core.Path.{_≡_};
-ghost use lib.ListN.{length};
-
+// ML-KEM-768's calls on public seeds, and sampling from streams at the edges. What it prints is held to the file stdout, whose values come from
+// another implementation (tools/kem_vectors).
 mod accumulated;
-mod bytes;
-mod import;
-mod lengths;
-mod places;
-mod print;
-mod rows;
 mod sampling;
 mod turns;
-
-// With the key of the first turn.
-fn refuse(draws: &[u8])
-    requires { ⌜ length (now draws) ≡ 118400 ⌝ }
-{
-    let mut ek = [0u8; 1184];
-    let mut dk = [0u8; 2400];
-    mlkem::keygen(&draws[0..32], &draws[32..64], &mut ek, &mut dk);
-    lengths::run();
-    places::run(&dk);
-    rows::run(&dk);
-}
 
 // The draws of all turns are SHAKE128 of the empty string.
 fn main() {
@@ -32,6 +11,5 @@ fn main() {
     fips202::shake128(&empty, &mut draws);
     sampling::run();
     turns::run(&draws);
-    refuse(&draws);
     accumulated::run(&draws);
 }

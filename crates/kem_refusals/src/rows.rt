@@ -1,0 +1,50 @@
+// Import of a key that gets one fault after the other: document 01's rows are tried from top to bottom.
+ghost use mathlib.Core.Path.{_≡_};
+ghost use lib.ListN.{length};
+use crate::places::put_at;
+use vector_support::bytes::copy;
+use vector_support::import::import;
+use vector_support::import::mask_coefficients;
+use vector_support::import::mask_words;
+use vector_support::print::print;
+use vector_support::print::print_number;
+
+fn print_import(fault: &[u8], dk: &[u8], coeffs: &[u16]) {
+    let words = mask_words();
+    let mut out = [0u8; 32];
+    print(b"import, ");
+    print(fault);
+    print(b": ");
+    print_number(import(dk, coeffs, &words, &mut out));
+    print(b"\n");
+}
+
+fn change_hash(key: &mut [u8])
+    requires { ⌜ length (now key) ≡ 2400 ⌝ }
+{
+    key[2367] = key[2367] ^ 128;
+}
+
+fn import_faulty(key: &mut [u8], coeffs: &mut [u16])
+    requires { ⌜ (length (now key) ≡ 2400) × (length (now coeffs) ≡ 768) ⌝ }
+{
+    print_import(b"no fault", key, coeffs);
+    coeffs[100] = 3329;
+    print_import(b"and a mask", key, coeffs);
+    put_at(key, 0, 9, 3329);
+    print_import(b"and the secret part", key, coeffs);
+    change_hash(key);
+    print_import(b"and the hash", key, coeffs);
+    put_at(key, 1152, 5, 3329);
+    print_import(b"and the public key", key, coeffs);
+}
+
+pub fn run(dk: &[u8])
+    requires { ⌜ length (now dk) ≡ 2400 ⌝ }
+{
+    let mut key = [0u8; 2400];
+    let mut coeffs = [0u16; 768];
+    copy(dk, &mut key);
+    mask_coefficients(&mut coeffs);
+    import_faulty(&mut key, &mut coeffs);
+}
