@@ -109,34 +109,39 @@ fn import(
     print_refusal(answer, import_unchanged(s0, s1, z0, z1, public));
 }
 
-fn import_edge(at: usize, edge: Edge) {
-    print_edge(b"import", at, edge);
-    let dk = [255u8; 2401];
-    let coeffs = [65535u16; 769];
-    let words = [0u64; 5];
+// With the lengths of the outputs.
+fn import_into(dk: &[u8], coeffs: &[u16], words: &[u64], at: usize, edge: Edge) {
     let mut s0 = [0xeeeeu16; 769];
     let mut s1 = [0xeeeeu16; 769];
     let mut z0 = [0xeeee_eeee_eeee_eeeeu64; 5];
     let mut z1 = [0xeeee_eeee_eeee_eeeeu64; 5];
     let mut public = [0xeeu8; 1217];
+    let a = length_at(at, edge, 3, 768);
+    let b = length_at(at, edge, 4, 768);
+    let c = length_at(at, edge, 5, 4);
+    let d = length_at(at, edge, 6, 4);
+    let e = length_at(at, edge, 7, 1216);
+    import(
+        dk,
+        coeffs,
+        words,
+        &mut s0[..a],
+        &mut s1[..b],
+        &mut z0[..c],
+        &mut z1[..d],
+        &mut public[..e],
+    );
+}
+
+fn import_edge(at: usize, edge: Edge) {
+    print_edge(b"import", at, edge);
+    let dk = [255u8; 2401];
+    let coeffs = [65535u16; 769];
+    let words = [0u64; 5];
     let a = length_at(at, edge, 0, 2400);
     let b = length_at(at, edge, 1, 768);
     let c = length_at(at, edge, 2, 4);
-    let d = length_at(at, edge, 3, 768);
-    let e = length_at(at, edge, 4, 768);
-    let f = length_at(at, edge, 5, 4);
-    let g = length_at(at, edge, 6, 4);
-    let h = length_at(at, edge, 7, 1216);
-    import(
-        &dk[..a],
-        &coeffs[..b],
-        &words[..c],
-        &mut s0[..d],
-        &mut s1[..e],
-        &mut z0[..f],
-        &mut z1[..g],
-        &mut public[..h],
-    );
+    import_into(&dk[..a], &coeffs[..b], &words[..c], at, edge);
 }
 
 fn edges(edge: Edge) {

@@ -7,13 +7,14 @@ use vector_support::import::import;
 use vector_support::import::mask_coefficients;
 use vector_support::import::mask_words;
 use vector_support::print::print;
+use vector_support::print::print_decimal;
 use vector_support::print::print_number;
 
-fn print_import(fault: &[u8], dk: &[u8], coeffs: &[u16]) {
+fn print_import(faults: u64, dk: &[u8], coeffs: &[u16]) {
     let words = mask_words();
     let mut out = [0u8; 32];
-    print(b"import, ");
-    print(fault);
+    print(b"import, faults ");
+    print_decimal(faults);
     print(b": ");
     print_number(import(dk, coeffs, &words, &mut out));
     print(b"\n");
@@ -25,18 +26,19 @@ fn change_hash(key: &mut [u8])
     key[2367] = key[2367] ^ 128;
 }
 
+// A mask, the secret part, the hash, the public key.
 fn import_faulty(key: &mut [u8], coeffs: &mut [u16])
     requires { ⌜ (length (now key) ≡ 2400) × (length (now coeffs) ≡ 768) ⌝ }
 {
-    print_import(b"no fault", key, coeffs);
+    print_import(0, key, coeffs);
     coeffs[100] = 3329;
-    print_import(b"and a mask", key, coeffs);
+    print_import(1, key, coeffs);
     put_at(key, 0, 9, 3329);
-    print_import(b"and the secret part", key, coeffs);
+    print_import(2, key, coeffs);
     change_hash(key);
-    print_import(b"and the hash", key, coeffs);
+    print_import(3, key, coeffs);
     put_at(key, 1152, 5, 3329);
-    print_import(b"and the public key", key, coeffs);
+    print_import(4, key, coeffs);
 }
 
 pub fn run(dk: &[u8])

@@ -7,7 +7,7 @@ use vector_support::bytes::copy;
 use vector_support::print::print;
 use vector_support::print::print_hex;
 
-// The turn's public key, ciphertext and secret.
+// The turn's public key, ciphertext and secret. The rest of what a turn draws is a random ciphertext, for decapsulation.
 fn turn(draw: &[u8], feed: &mut [u8])
     requires { ⌜ (length (now draw) ≡ 1184) × (length (now feed) ≡ 2304) ⌝ }
 {
