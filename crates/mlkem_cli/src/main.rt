@@ -1,0 +1,42 @@
+// The program mlkem: the library's calls on files. The first argument names the call, the others are files and numbers.
+use commands::Command;
+use libc::STDERR_FILENO;
+use libc::STDOUT_FILENO;
+
+mod arguments; // the words of the command line
+mod commands; // the commands, their forms and the number of their arguments
+mod files; // whole files, read and written
+mod hashes; // sha3-256, sha3-512, shake128, shake256
+mod hex; // bytes as hexadecimal digits
+mod messages; // lines on standard error
+
+fn run(command: Command) {
+    match command {
+        Command::Help => commands::print_usage(STDOUT_FILENO),
+        Command::Digest256 => hashes::sha3_256(),
+        Command::Digest512 => hashes::sha3_512(),
+        Command::Shake128 => hashes::shake128(),
+        Command::Shake256 => hashes::shake256(),
+        Command::Unknown => commands::print_usage(STDERR_FILENO),
+    }
+}
+
+fn main() {
+    let count = os::arg_count();
+    if count < 2 {
+        commands::print_usage(STDERR_FILENO);
+        return;
+    }
+    let mut word = io::buffer();
+    let n = os::arg(1, &mut word);
+    let command = commands::named(&word[..n]);
+    if let Command::Unknown = command {
+        messages::unknown(&word[..n]);
+        return;
+    }
+    if count != commands::word_count(command) {
+        commands::print_form_line(command);
+        return;
+    }
+    run(command);
+}
