@@ -1,3 +1,5 @@
 pub mod Hashes
 pub mod Hex
+pub mod LittleEndian
 pub mod Numbers
+pub mod Split

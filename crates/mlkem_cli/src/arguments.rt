@@ -1,6 +1,5 @@
 // The words of the command line.
 ghost use mathlib.Core.Path.{_≡_};
-ghost use Prim.Native.Nat.{_≤_};
 ghost use Rattle.mlkem.specs.MlKem.{same as sameOf};
 ghost use Rattle.mlkem_cli.specs.Numbers.{AtMost};
 use crate::messages;

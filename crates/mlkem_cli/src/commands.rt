@@ -8,17 +8,14 @@ pub enum Command {
     Digest512,
     Shake128,
     Shake256,
+    KeyGen,
+    Encaps,
+    Import,
+    Sample,
     Unknown,
 }
 
-// The command that a word names.
-pub fn named(word: &[u8]) -> Command {
-    if same(word, b"help") {
-        return Command::Help;
-    }
-    if same(word, b"--help") {
-        return Command::Help;
-    }
+fn hash_named(word: &[u8]) -> Command {
     if same(word, b"sha3-256") {
         return Command::Digest256;
     }
@@ -34,6 +31,29 @@ pub fn named(word: &[u8]) -> Command {
     Command::Unknown
 }
 
+// The command that a word names.
+pub fn named(word: &[u8]) -> Command {
+    if same(word, b"help") {
+        return Command::Help;
+    }
+    if same(word, b"--help") {
+        return Command::Help;
+    }
+    if same(word, b"keygen") {
+        return Command::KeyGen;
+    }
+    if same(word, b"encaps") {
+        return Command::Encaps;
+    }
+    if same(word, b"import") {
+        return Command::Import;
+    }
+    if same(word, b"sample") {
+        return Command::Sample;
+    }
+    hash_named(word)
+}
+
 // How many words its command line has, the program's name among them.
 pub fn word_count(command: Command) -> usize {
     match command {
@@ -42,6 +62,10 @@ pub fn word_count(command: Command) -> usize {
         Command::Digest512 => 3,
         Command::Shake128 => 4,
         Command::Shake256 => 4,
+        Command::KeyGen => 6,
+        Command::Encaps => 6,
+        Command::Import => 5,
+        Command::Sample => 4,
         Command::Unknown => 2,
     }
 }
@@ -54,6 +78,10 @@ fn print_form(fd: i32, command: Command) {
         Command::Digest512 => io::write_all(fd, b"sha3-512 FILE\n"),
         Command::Shake128 => io::write_all(fd, b"shake128 FILE LENGTH\n"),
         Command::Shake256 => io::write_all(fd, b"shake256 FILE LENGTH\n"),
+        Command::KeyGen => io::write_all(fd, b"keygen D Z EK DK\n"),
+        Command::Encaps => io::write_all(fd, b"encaps EK M CT K\n"),
+        Command::Import => io::write_all(fd, b"import DK MASKS SPLIT\n"),
+        Command::Sample => io::write_all(fd, b"sample STREAM OUT\n"),
         Command::Unknown => io::write_all(fd, b"COMMAND ARGUMENTS\n"),
     }
     ;
@@ -70,6 +98,24 @@ fn print_entry(fd: i32, command: Command) {
     print_form(fd, command);
 }
 
+fn print_files(fd: i32) {
+    io::write_all(fd, b"Files, low byte first:\n");
+    io::write_all(fd, b"  D, Z, M, K   32 bytes each\n");
+    io::write_all(fd, b"  EK, DK, CT   1184, 2400 and 1088 bytes\n");
+    io::write_all(
+        fd,
+        b"  MASKS        768 coefficients of 16 bits, 4 words of 64 bits\n",
+    );
+    io::write_all(
+        fd,
+        b"  SPLIT        two times 768 coefficients, two times 4 words, 1216 bytes\n",
+    );
+    io::write_all(
+        fd,
+        b"  STREAM, OUT  840 bytes, 256 coefficients of 16 bits\n",
+    );
+}
+
 pub fn print_usage(fd: i32) {
     io::write_all(fd, b"usage: ");
     print_form(fd, Command::Unknown);
@@ -77,5 +123,10 @@ pub fn print_usage(fd: i32) {
     print_entry(fd, Command::Digest512);
     print_entry(fd, Command::Shake128);
     print_entry(fd, Command::Shake256);
+    print_entry(fd, Command::KeyGen);
+    print_entry(fd, Command::Encaps);
+    print_entry(fd, Command::Import);
+    print_entry(fd, Command::Sample);
     print_entry(fd, Command::Help);
+    print_files(fd);
 }

@@ -4,8 +4,8 @@ ghost use lib.ListN.{length};
 ghost use Rattle.mlkem_cli.specs.Hashes.{hashed};
 use crate::arguments;
 use crate::arguments::Natural;
-use crate::files;
 use crate::hex;
+use crate::inputs;
 use crate::messages;
 
 pub enum Hash {
@@ -41,7 +41,7 @@ fn fill(hash: Hash, message: &[u8], out: &mut [u8])
 
 // As many bytes as out has, of the file of argument 2.
 fn print_hash(hash: Hash, space: &mut [u8], out: &mut [u8]) {
-    let got = files::read_up_to(2, space);
+    let got = inputs::read_up_to(2, space);
     if !got.whole {
         return;
     }

@@ -5,10 +5,16 @@ use libc::STDOUT_FILENO;
 
 mod arguments; // the words of the command line
 mod commands; // the commands, their forms and the number of their arguments
-mod files; // whole files, read and written
 mod hashes; // sha3-256, sha3-512, shake128, shake256
 mod hex; // bytes as hexadecimal digits
+mod inputs; // files, read whole
+mod keys; // keygen, encaps
+mod little_endian; // coefficients and words as bytes
 mod messages; // lines on standard error
+mod outputs; // files, written whole
+mod refusals; // refused calls
+mod sampling; // sample
+mod splitting; // import
 
 fn run(command: Command) {
     match command {
@@ -17,6 +23,10 @@ fn run(command: Command) {
         Command::Digest512 => hashes::sha3_512(),
         Command::Shake128 => hashes::shake128(),
         Command::Shake256 => hashes::shake256(),
+        Command::KeyGen => keys::keygen(),
+        Command::Encaps => keys::encaps(),
+        Command::Import => splitting::import(),
+        Command::Sample => sampling::sample(),
         Command::Unknown => commands::print_usage(STDERR_FILENO),
     }
 }

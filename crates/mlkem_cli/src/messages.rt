@@ -47,6 +47,12 @@ pub fn bad_argument(i: usize) {
     say(b" is empty or too long\n");
 }
 
+pub fn same_name(path: &[u8]) {
+    say(b"mlkem: ");
+    say(path);
+    say(b": named for two outputs\n");
+}
+
 pub fn unknown(word: &[u8]) {
     say(b"usage: mlkem help lists the commands; there is no command ");
     say(word);

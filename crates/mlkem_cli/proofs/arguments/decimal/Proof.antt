@@ -6,21 +6,12 @@ use lib.ListN.{length}
 use Rattle.mlkem_cli.specs.Numbers.{AtMost}
 use Rattle.mlkem_cli.proofs.arguments.decimal.Statement.{statement}
 use Rattle.mlkem_cli.proofs.arguments.decimal.Tie as tie
-use Rattle.mlkem_cli.proofs.arguments.decimal.Reads as reads
-use Rattle.mlkem_cli.proofs.arguments.decimal.Lts as lts
-use Rattle.mlkem_cli.proofs.arguments.appended.Reads as appended-reads
 
 abbrev Inv-loop : tie.InvT-loop
 Inv-loop word most n₀ i₀ i-end n i = (i-end ≡ length word) × (i ≤ length word) × (n ≤ most)
 
 abbrev μ-loop : tie.MeasureT-loop
 μ-loop word most n₀ i₀ i-end n i = length word - i
-
-enum-known-m : tie.Need-enum-known-m Inv-loop μ-loop
-enum-known-m c = search needs
-
-enum-told : tie.Need-enum-told Inv-loop μ-loop
-enum-told c = search needs
 
 loop-again : tie.Need-loop-again Inv-loop μ-loop
 loop-again c = (refl, omega arith, subst (AtMost _) (c .before .m .given .1) (c .before .before .before .appended .ensures))
@@ -35,8 +26,8 @@ decimal-spec =
     (λ c. (refl, omega arith, omega arith))
     (λ c. omega arith)
     (λ c κs. search needs)
-    enum-known-m
-    enum-told
+    (λ c. search needs)
+    (λ c. search needs)
     (λ c. search needs)
     (λ c. omega arith)
     (λ c. omega arith)

@@ -2,7 +2,6 @@ use Prim.Native.Nat.{_≤_}
 use mathlib.Core.Path.{sym, subst}
 use native.Mathlib.Omega.{arith}
 use borrow.Author.Needs.{needs}
-use lib.ListN.{length}
 use lib.Seq.{length-take-le}
 use Rattle.mlkem_cli.specs.Numbers.{AtMost}
 use Rattle.mlkem_cli.proofs.hashes.print_some.Statement.{statement}

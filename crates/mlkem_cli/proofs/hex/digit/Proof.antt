@@ -1,14 +1,9 @@
-use Prim.Native.Nat.{ℕ, suc, _%_, _/_}
+use Prim.Native.Nat.{_%_, _/_}
 use mathlib.Core.Path.{_≡_, refl, _∙_}
 use native.Mathlib.Omega.{arith}
 use borrow.Author.Needs.{needs}
-use Rattle.io.specs.Digits.{glyph}
-use Rattle.mlkem_cli.specs.Hex.{half}
 use Rattle.mlkem_cli.proofs.hex.digit.Statement.{statement}
 use Rattle.mlkem_cli.proofs.hex.digit.Tie as tie
-use Rattle.mlkem_cli.proofs.hex.digit.Reads as reads
-use Rattle.mlkem_cli.proofs.hex.digit.Lts as lts
-use Rattle.mlkem_cli.proofs.hex.glyph.Reads as glyph-reads
 
 glyph-requires : tie.Need-glyph-requires
 glyph-requires c κs = omega (arith, c .before .before .shared-slice-known .given (c .before .before .before .args .i / 2))

@@ -1,4 +1,4 @@
-// Whole files, read and written. Files are named by the number of their argument. Where a call fails a line says why.
+// Files, read whole. A file is named by the number of its argument. Where reading fails a line says why.
 ghost use Rattle.io.specs.Counts.{Counts};
 use crate::messages;
 
@@ -8,7 +8,7 @@ pub struct Got {
     pub whole: bool,
 }
 
-// What is open, into the start of out.
+// From a descriptor, into the start of out.
 fn read_open(fd: i32, path: &[u8], out: &mut [u8]) -> Got
     ensures { λ r. ⌜ Counts (r .count) (now (out .exit)) ⌝ }
 {
@@ -65,4 +65,27 @@ pub fn read_up_to(i: usize, out: &mut [u8]) -> Got
         };
     }
     read_path(&path[..n], out)
+}
+
+fn read_sized(path: &[u8], out: &mut [u8]) -> bool {
+    let got = read_path(path, out);
+    if !got.whole {
+        return false;
+    }
+    if got.count != out.len() {
+        messages::shorter(path, got.count, out.len());
+        return false;
+    }
+    true
+}
+
+// A file of exactly out's length; false where it isn't one.
+pub fn read_exact(i: usize, out: &mut [u8]) -> bool {
+    let mut path = io::buffer();
+    let n = os::arg(i, &mut path);
+    if n == 0 {
+        messages::bad_argument(i);
+        return false;
+    }
+    read_sized(&path[..n], out)
 }
