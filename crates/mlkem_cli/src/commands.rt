@@ -70,54 +70,57 @@ pub fn word_count(command: Command) -> usize {
     }
 }
 
+fn write(fd: i32, text: &[u8]) {
+    io::write_all(fd, text);
+}
+
 fn print_form(fd: i32, command: Command) {
-    io::write_all(fd, b"mlkem ");
+    write(fd, b"mlkem ");
     match command {
-        Command::Help => io::write_all(fd, b"help\n"),
-        Command::Digest256 => io::write_all(fd, b"sha3-256 FILE\n"),
-        Command::Digest512 => io::write_all(fd, b"sha3-512 FILE\n"),
-        Command::Shake128 => io::write_all(fd, b"shake128 FILE LENGTH\n"),
-        Command::Shake256 => io::write_all(fd, b"shake256 FILE LENGTH\n"),
-        Command::KeyGen => io::write_all(fd, b"keygen D Z EK DK\n"),
-        Command::Encaps => io::write_all(fd, b"encaps EK M CT K\n"),
-        Command::Import => io::write_all(fd, b"import DK MASKS SPLIT\n"),
-        Command::Sample => io::write_all(fd, b"sample STREAM OUT\n"),
-        Command::Unknown => io::write_all(fd, b"COMMAND ARGUMENTS\n"),
+        Command::Help => write(fd, b"help\n"),
+        Command::Digest256 => write(fd, b"sha3-256 FILE\n"),
+        Command::Digest512 => write(fd, b"sha3-512 FILE\n"),
+        Command::Shake128 => write(fd, b"shake128 FILE LENGTH\n"),
+        Command::Shake256 => write(fd, b"shake256 FILE LENGTH\n"),
+        Command::KeyGen => write(fd, b"keygen D Z EK DK\n"),
+        Command::Encaps => write(fd, b"encaps EK M CT K\n"),
+        Command::Import => write(fd, b"import DK MASKS SPLIT\n"),
+        Command::Sample => write(fd, b"sample STREAM OUT\n"),
+        Command::Unknown => write(fd, b"COMMAND ARGUMENTS\n"),
     }
-    ;
 }
 
 // For a command line with a wrong number of words.
 pub fn print_form_line(command: Command) {
-    io::write_all(STDERR_FILENO, b"usage: ");
+    write(STDERR_FILENO, b"usage: ");
     print_form(STDERR_FILENO, command);
 }
 
 fn print_entry(fd: i32, command: Command) {
-    io::write_all(fd, b"  ");
+    write(fd, b"  ");
     print_form(fd, command);
 }
 
 fn print_files(fd: i32) {
-    io::write_all(fd, b"Files, low byte first:\n");
-    io::write_all(fd, b"  D, Z, M, K   32 bytes each\n");
-    io::write_all(fd, b"  EK, DK, CT   1184, 2400 and 1088 bytes\n");
-    io::write_all(
+    write(fd, b"Files, low byte first:\n");
+    write(fd, b"  D, Z, M, K   32 bytes each\n");
+    write(fd, b"  EK, DK, CT   1184, 2400 and 1088 bytes\n");
+    write(
         fd,
         b"  MASKS        768 coefficients of 16 bits, 4 words of 64 bits\n",
     );
-    io::write_all(
+    write(
         fd,
         b"  SPLIT        two times 768 coefficients, two times 4 words, 1216 bytes\n",
     );
-    io::write_all(
+    write(
         fd,
         b"  STREAM, OUT  840 bytes, 256 coefficients of 16 bits\n",
     );
 }
 
 pub fn print_usage(fd: i32) {
-    io::write_all(fd, b"usage: ");
+    write(fd, b"usage: ");
     print_form(fd, Command::Unknown);
     print_entry(fd, Command::Digest256);
     print_entry(fd, Command::Digest512);
