@@ -1,0 +1,22 @@
+use Rattle.mlkem.specs.Worksheet.{stage3}
+use borrow.Author.Needs.{needs}
+use Rattle.hash_stages.proofs.hashing.stage3.Statement.{statement}
+use Rattle.hash_stages.proofs.hashing.stage3.Tie as tie
+
+returns : tie.Need-returns
+unfolding stage3
+returns c cs =
+    let s = c .before .before .before .before .before .before in
+    let start = s .before .before .before .before .before .before .before .before .before .before .before in
+    rw (start .pre .2, start .pre .4) at (s .hash-shared .ensures cs)
+
+pub stage3-spec : {M : Type 1} → statement M
+stage3-spec =
+    tie.close
+    (tie.spec
+    (λ c. search needs)  -- slice-aggregate-hash-shared
+    (λ c. search needs)  -- slice-aggregate-hash-shared-2
+    (λ c κs. search needs)  -- hash-shared-requires
+    (λ c. search needs)  -- same-length
+    (λ c. search needs)  -- same-length-2
+    returns)
