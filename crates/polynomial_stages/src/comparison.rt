@@ -1,0 +1,81 @@
+// Stage 8: the ciphertext made again is compared with the ciphertext.
+ghost use mathlib.Core.Path.{_≡_};
+ghost use Prim.Native.Nat.{_*_, _/_, _%_, _<_, _≤_};
+ghost use lib.ListN.{length};
+ghost use Rattle.words.specs.Tab.{tab};
+ghost use Rattle.ring.specs.Bytes.{byteDecode};
+ghost use Rattle.worksheet.specs.Prog.{word};
+ghost use Rattle.worksheet.specs.Ran.{Draws};
+ghost use Rattle.worksheet.specs.SharedList.{sharedList};
+ghost use Rattle.mlkem.specs.Parameters.{mlKem768};
+ghost use Rattle.mlkem.specs.KPke.{parts};
+ghost use Rattle.mlkem.specs.PlanesValue.{planeOf};
+ghost use Rattle.mlkem.specs.Worksheet.{ciphertextWord, stage8 as stage8Of};
+ghost use Rattle.mlkem.specs.Layout.{planesOf};
+use gadgets::comparison::add_public;
+use gadgets::comparison::all_zero;
+use gadgets::planes::coefficient_planes;
+use ring::byte_decode;
+use worksheet::EnteredShares;
+use worksheet::Recorder;
+
+// The planes of 256 numbers, group by group.
+fn group_planes(f: &[u16], d: usize, out: &mut [u64])
+    requires { ⌜ (length (now f) ≡ 256) × (length (now out) ≡ 4 * d) × (d ≤ 11) ⌝ }
+    ensures { λ _. ⌜ now (out .exit) ≡ tab (4 * d) (λ j. planeOf (now (f .entry)) (j / d) (j % d)) ⌝ }
+{
+    for g in 0..4 {
+        let a = 64 * g;
+        let ae = a + 64;
+        let o = d * g;
+        let oe = o + d;
+        coefficient_planes(&f[a..ae], d, &mut out[o..oe]);
+    }
+}
+
+// Of an encoded polynomial.
+fn encoded_planes(b: &[u8], d: u32, out: &mut [u64])
+    requires { ⌜ (length (now b) ≡ 32 * d) × (length (now out) ≡ 4 * d) × (0 < d) × (d ≤ 11) ⌝ }
+    ensures { λ _. ⌜ now (out .exit) ≡ tab (4 * d) (λ j. planeOf (byteDecode d (now (b .entry))) (j / d) (j % d)) ⌝ }
+{
+    let mut f = [0u16; 256];
+    byte_decode(b, d, &mut f);
+    group_planes(&f, d as usize, out);
+}
+
+// Of k encoded polynomials.
+fn first_planes(c: &[u8], d: u32, k: usize, out: &mut [u64])
+    requires { ⌜ (length (now c) ≡ 32 * d * k) × (length (now out) ≡ 4 * d * k) × (0 < d) × (d ≤ 11) ⌝ }
+    ensures { λ _. ⌜ now (out .exit) ≡ tab (4 * d * k) (λ j. planeOf (byteDecode d (parts (32 * d) (now (c .entry)) (j / (4 * d)))) (j / d % 4) (j % d)) ⌝ }
+{
+    let n = 32 * (d as usize);
+    let m = 4 * (d as usize);
+    for i in 0..k {
+        let a = n * i;
+        let ae = a + n;
+        let o = m * i;
+        let oe = o + m;
+        encoded_planes(&c[a..ae], d, &mut out[o..oe]);
+    }
+}
+
+// The ciphertext's own planes, which are public.
+fn ciphertext_planes(c: &[u8], out: &mut [u64])
+    requires { ⌜ (length (now c) ≡ 1088) × (length (now out) ≡ 136) ⌝ }
+    ensures { λ _. ⌜ now (out .exit) ≡ tab 136 (ciphertextWord mlKem768 (now (c .entry))) ⌝ }
+{
+    first_planes(&c[0..960], 10, 3, &mut out[0..120]);
+    encoded_planes(&c[960..], 4, &mut out[120..]);
+}
+
+// The equal bit; w0 and w1 are stage 7's planes.
+pub fn stage8(rec: Recorder, c: &[u8], w0: &mut [u64], w1: &[u64], ws: &[u64]) -> EnteredShares
+    requires { ⌜ (length (now c) ≡ 1088) × (length (now w0) ≡ 136) × (length (now w1) ≡ 136) × (141 ≤ length (now ws)) ⌝ }
+    ensures { λ r. ⌜ Draws word 141 (stage8Of mlKem768 (now (c .entry)) (planesOf 3 10 4 (sharedList (now (w0 .entry)) (now (w1 .entry))))) rec (now (ws .entry)) (r .value) (r .rec) ⌝ }
+    ensures { λ r. ⌜ (r .value .s0 < 2) × (r .value .s1 < 2) ⌝ }
+{
+    let mut p = [0u64; 136];
+    ciphertext_planes(c, &mut p);
+    let rec = add_public(rec, &p, w0);
+    all_zero(rec, 135, w0, w1, ws)
+}

@@ -1,0 +1,98 @@
+// Stage 1: the noisy message in two shares.
+ghost use mathlib.Core.List.{map};
+ghost use mathlib.Core.Path.{_≡_};
+ghost use Prim.Native.Nat.{_*_, _<_, _≤_};
+ghost use lib.ListN.{length};
+ghost use Rattle.words.specs.Bounded.{Below};
+ghost use Rattle.words.specs.Residue.{q};
+ghost use Rattle.ring.specs.Bytes.{byteDecode};
+ghost use Rattle.ring.specs.Compress.{decompress};
+ghost use Rattle.ring.specs.Polynomial.{sub};
+ghost use Rattle.ring.specs.Transform.{ntt as nttOf, inverseNtt};
+ghost use Rattle.worksheet.specs.Ran.{Makes};
+ghost use Rattle.worksheet.specs.SharedList.{sharedList};
+ghost use Rattle.mlkem.specs.Parameters.{mlKem768};
+ghost use Rattle.mlkem.specs.KPke.{parts, concat, dot as dotOf, firstDecoded, secondDecoded};
+ghost use Rattle.mlkem.specs.Worksheet.{stage1 as stage1Of};
+use crate::passes::enter_both;
+use mlkem::vector::clear;
+use mlkem::vector::dot;
+use mlkem::vector::ntt_all;
+use ring::byte_decode;
+use ring::decompress_all;
+use ring::inverse_ntt;
+use ring::sub_from;
+use worksheet::Recorder;
+
+// The polynomial that b holds at depth d.
+fn decoded(b: &[u8], d: u32, f: &mut [u16])
+    requires { ⌜ (length (now b) ≡ 32 * d) × (0 < d) × (d ≤ 11) × (length (now f) ≡ 256) ⌝ }
+    ensures { λ _. ⌜ now (f .exit) ≡ map (decompress d) (byteDecode d (now (b .entry))) ⌝ }
+{
+    byte_decode(b, d, f);
+    decompress_all(f, d);
+}
+
+// The k polynomials that b holds.
+fn decoded_all(b: &[u8], d: u32, k: usize, u: &mut [u16])
+    requires { ⌜ (length (now b) ≡ 32 * d * k) × (0 < d) × (d ≤ 11) × (length (now u) ≡ 256 * k) ⌝ }
+    ensures { λ _. ⌜ now (u .exit) ≡ concat k (λ i. map (decompress d) (byteDecode d (parts (32 * d) (now (b .entry)) i))) ⌝ }
+{
+    let n = 32 * (d as usize);
+    for i in 0..k {
+        let a = 256 * i;
+        let e = a + 256;
+        let s = n * i;
+        let se = s + n;
+        decoded(&b[s..se], d, &mut u[a..e]);
+    }
+}
+
+// The transforms of the polynomials that the ciphertext's first part holds.
+fn transformed_first(c: &[u8], u: &mut [u16])
+    requires { ⌜ (length (now c) ≡ 1088) × (length (now u) ≡ 768) ⌝ }
+    ensures { λ _. ⌜ now (u .exit) ≡ concat 3 (λ i. nttOf (firstDecoded mlKem768 (now (c .entry)) i)) ⌝ }
+{
+    decoded_all(&c[0..960], 10, 3, u);
+    ntt_all(u, 3);
+}
+
+// The polynomial that the ciphertext's second part holds.
+fn decoded_second(c: &[u8], v: &mut [u16])
+    requires { ⌜ (length (now c) ≡ 1088) × (length (now v) ≡ 256) ⌝ }
+    ensures { λ _. ⌜ now (v .exit) ≡ secondDecoded mlKem768 (now (c .entry)) ⌝ }
+{
+    decoded(&c[960..], 4, v);
+}
+
+// A pass on one share: its product with u, transformed back, is taken from w.
+fn take_product(s: &[u16], u: &[u16], w: &mut [u16])
+    requires { ⌜ (length (now s) ≡ 768) × (length (now u) ≡ 768) × (length (now w) ≡ 256) ⌝ }
+    ensures { λ _. ⌜ now (w .exit) ≡ sub (now (w .entry)) (inverseNtt (dotOf 3 (parts 256 (now (s .entry))) (parts 256 (now (u .entry))))) ⌝ }
+{
+    let mut f = [0u16; 256];
+    dot(s, 0, 1, u, 3, &mut f);
+    inverse_ntt(&mut f);
+    sub_from(w, &f);
+}
+
+pub fn stage1(
+    rec: Recorder,
+    s0: &[u16],
+    s1: &[u16],
+    c: &[u8],
+    w0: &mut [u16],
+    w1: &mut [u16],
+) -> Recorder
+    requires { ⌜ (length (now s0) ≡ 768) × (length (now s1) ≡ 768) × (length (now c) ≡ 1088) × (length (now w0) ≡ 256) × (length (now w1) ≡ 256) ⌝ }
+    ensures { λ r. ⌜ Makes (stage1Of mlKem768 (sharedList (now (s0 .entry)) (now (s1 .entry))) (now (c .entry))) rec (sharedList (now (w0 .exit)) (now (w1 .exit))) r ⌝ }
+    ensures { λ _. ⌜ Below q (now (w0 .exit)) × Below q (now (w1 .exit)) ⌝ }
+{
+    let mut u = [0u16; 768];
+    transformed_first(c, &mut u);
+    decoded_second(c, w0);
+    take_product(s0, &u, w0);
+    clear(w1);
+    take_product(s1, &u, w1);
+    enter_both(rec, w0, w1)
+}
