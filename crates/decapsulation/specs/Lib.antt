@@ -1,0 +1,5 @@
+pub mod Groups
+pub mod Calls
+pub mod Told
+pub mod AnswerLaws
+pub mod Demand2

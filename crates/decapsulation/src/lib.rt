@@ -1,0 +1,7 @@
+// Masked decapsulation and its trace.
+mod decapsulation; // the calls
+mod lengths; // row 1 of the refusals
+mod worksheet_run; // the ten stages in order
+
+pub use decapsulation::decaps;
+pub use decapsulation::trace;
