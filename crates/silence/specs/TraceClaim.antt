@@ -1,0 +1,114 @@
+-- Demand 3 in terms of the trace call: counted over the same choices, what the trace hands back.
+use mathlib.Core.Path.{_≡_, refl, sym, ap, ap₂, _∙_}
+use mathlib.Core.Bool.{Bool, true, false, cond}
+use mathlib.Core.List.{List, _++_}
+use Prim.Native.Nat.{ℕ, _^_, _<_, _≤_}
+use native.Mathlib.Decide.{decLt}
+use native.Mathlib.Omega.{arith}
+use borrow.Author.Tests.{lt-ltb, le-ltb}
+use lib.Dec.{eqb, ltb}
+use lib.ListN.{length, getD, take, drop, replicate, length-append, length-take, length-drop}
+use lib.Seq.{take-at, drop-at}
+use Rattle.words.specs.Bounded.{Below, below-tab}
+use Rattle.words.specs.Residue.{q}
+use Rattle.words.specs.Tab.{length-tab}
+use Rattle.words.specs.Part.{length-part}
+use Rattle.worksheet.specs.Run.{run}
+use Rattle.worksheet.specs.Sum.{when}
+use Rattle.worksheet.specs.Count.{tally, strips, hit, hit-getD}
+use Rattle.worksheet.specs.Uses.{length-entries}
+use Rattle.mlkem.specs.declared.Answer.{Answer}
+use Rattle.mlkem.specs.declared.Answer.the-variants.{Done, ShortStream, NoSuchStep}
+use Rattle.mlkem.specs.Parameters.{mlKem768}
+use Rattle.mlkem.specs.MlKem.{publicPart, hashPart}
+use Rattle.mlkem.specs.Refusals.{number, reduced}
+use Rattle.mlkem.specs.TestLaws.{below-reduced}
+use Rattle.mlkem.specs.Calls.{secondCoeffs, secondWords, matrixFull, rhoOf}
+use Rattle.mlkem.specs.Worksheet.{SplitKey, worksheet}
+use Rattle.mlkem.specs.Split.{split}
+use Rattle.decapsulation.specs.Calls.{Input, sheet, traceAnswer, traceValue}
+use Rattle.decapsulation.specs.AnswerLaws.{KeyLengths, trace-rows, sheet-steps}
+use Rattle.decapsulation.specs.Demand2.{imported, keyOf-imported}
+use Rattle.silence.specs.Claim.{Key, Ciphertext, gives, choices}
+use Rattle.silence.specs.InRange.{tally-below, tally-when}
+use Rattle.silence.specs.Demand3.{hit-past, demand3}
+
+-- 1 where the trace of step t is carried out and hands back v, else 0
+abbrev pub handsBack : Input → ℕ → ℕ → ℕ
+handsBack g t v = when (eqb (number (traceAnswer mlKem768 g t)) 0) (when (eqb (traceValue mlKem768 g t) v) 1)
+
+-- how many choices of first shares and strip make the trace of step t hand back v, under the key dk split by import
+unfoldable pub traceChoices : List ℕ → List ℕ → ℕ → ℕ → ℕ
+traceChoices dk c t v =
+    tally (replicate 768 q) (λ a. tally (replicate 4 (2 ^ 64)) (λ w. strips 11750 7424 (λ ws cs. handsBack (imported dk a w c ws cs) t v)))
+
+module _ {dk c : List ℕ} (key : Key dk) (ct : Ciphertext c) where
+  length-publicPart : length (publicPart mlKem768 dk) ≡ 1184
+  length-publicPart = length-part 1152 1184 dk (omega (arith, key .accepts .long))
+
+  length-hashPart : length (hashPart mlKem768 dk) ≡ 32
+  length-hashPart = length-part 2336 32 dk (omega (arith, key .accepts .long))
+
+  abbrev full : Bool
+  full = matrixFull 3 (rhoOf mlKem768 (publicPart mlKem768 dk))
+
+  module _ (t v : ℕ) (a w ws cs : List ℕ) (la : length a ≡ 768) (ra : Below q a) (lw : length w ≡ 4)
+      (lws : length ws ≡ 11750) (lcs : length cs ≡ 7424) (rcs : Below q cs) where
+    abbrev g : Input
+    g = imported dk a w c ws cs
+
+    length-public : length (g .public) ≡ 1216
+    length-public = length-append (publicPart mlKem768 dk) (hashPart mlKem768 dk) ∙ omega (arith, length-publicPart, length-hashPart)
+
+    key-long : KeyLengths g
+    unfolding secondCoeffs secondWords
+    key-long = record { s0 = la; s1 = length-tab 768 _; z0 = lw; z1 = length-tab 4 _; public = length-public }
+
+    second-below : Below q (secondCoeffs mlKem768 dk a)
+    unfolding secondCoeffs
+    second-below = below-tab 768 (omega arith) (λ i h. omega arith)
+
+    answered : traceAnswer mlKem768 g t ≡ cond full (cond (ltb t 187794) Done NoSuchStep) ShortStream
+    answered =
+        trace-rows g t key-long (ct .long) lws lcs (below-reduced cs rcs) (below-reduced a ra) (below-reduced (secondCoeffs mlKem768 dk a) second-below)
+        ∙ ap (λ (l : List ℕ). cond (matrixFull 3 (drop 1152 l)) (cond (ltb t 187794) Done NoSuchStep) ShortStream)
+        (take-at (publicPart mlKem768 dk) (hashPart mlKem768 dk) 1184 length-publicPart)
+
+    entries-split : sheet mlKem768 g .entries ≡ run (worksheet mlKem768 (split mlKem768 dk a w) c) ws cs .entries
+    entries-split = ap (λ (k : SplitKey). run (worksheet mlKem768 k c) ws cs .entries) (keyOf-imported dk a w c ws cs length-publicPart)
+
+    long : length (run (worksheet mlKem768 (split mlKem768 dk a w) c) ws cs .entries) ≡ 187794
+    long = sym (ap length entries-split) ∙ sheet-steps g length-public (ct .long)
+
+    -- the trace hands back the worksheet's entry
+    handsBack-gives : handsBack g t v ≡ when full (gives dk c t v a w ws cs)
+    unfolding traceValue
+    handsBack-gives = ap (λ (r : Answer). when (eqb (number r) 0) (when (eqb (getD (sheet mlKem768 g .entries) t 0) v) 1)) answered ∙ go full (decLt t 187794)
+      where
+        go : (b : Bool) → Dec (t < 187794)
+            → when (eqb (number (cond b (cond (ltb t 187794) Done NoSuchStep) ShortStream)) 0) (when (eqb (getD (sheet mlKem768 g .entries) t 0) v) 1)
+            ≡ when b (gives dk c t v a w ws cs)
+        go false d = refl
+        go true (yes h) =
+            rw (lt-ltb t 187794 h)
+            (ap (λ (l : List ℕ). when (eqb (getD l t 0) v) 1) entries-split
+            ∙ sym (hit-getD t v (run (worksheet mlKem768 (split mlKem768 dk a w) c) ws cs .entries) (omega (arith, long))))
+        go true (no h) = rw (le-ltb t 187794 (omega arith)) (sym (hit-past t v _ (omega (arith, long))))
+
+  pub traceChoices-choices : (t v : ℕ) → traceChoices dk c t v ≡ choices dk c t v
+  unfolding traceChoices choices
+  traceChoices-choices t v =
+      tally-below 768 q (omega arith) (λ a la ra.
+      tally-below 4 (2 ^ 64) (omega arith) (λ w lw rw₀.
+      tally-below 11750 (2 ^ 64) (omega arith) (λ ws lws rws.
+      tally-below 7424 q (omega arith) (λ cs lcs rcs. handsBack-gives t v a w ws cs la ra lw lws lcs rcs)
+      ∙ tally-when full (replicate 7424 q) (λ cs. gives dk c t v a w ws cs))
+      ∙ tally-when full (replicate 11750 (2 ^ 64)) (λ ws. tally (replicate 7424 q) (λ cs. gives dk c t v a w ws cs)))
+      ∙ tally-when full (replicate 4 (2 ^ 64)) (λ w. strips 11750 7424 (λ ws cs. gives dk c t v a w ws cs)))
+      ∙ tally-when full (replicate 768 q) (λ a. tally (replicate 4 (2 ^ 64)) (λ w. strips 11750 7424 (λ ws cs. gives dk c t v a w ws cs)))
+
+-- under two accepted keys with one public part and one stored hash equally many choices make the trace hand back a value
+pub demand3-trace : {dk dk′ c : List ℕ} → Key dk → Key dk′ → Ciphertext c → publicPart mlKem768 dk ≡ publicPart mlKem768 dk′
+    → hashPart mlKem768 dk ≡ hashPart mlKem768 dk′ → (t v : ℕ) → traceChoices dk c t v ≡ traceChoices dk′ c t v
+demand3-trace key key′ ct e f t v =
+    traceChoices-choices key ct t v ∙ demand3 key key′ ct e f t v ∙ sym (traceChoices-choices key′ ct t v)
