@@ -6,7 +6,9 @@
  *   3  h isn't SHA3-256 of the public key part
  *   4  a coefficient of the secret part is 3329 or more
  *   5  a mask coefficient is 3329 or more
+ *   6  a share coefficient is 3329 or more
  *   7  an 840-byte stream yields fewer than 256 coefficients
+ *   8  the step number isn't below the worksheet's count, 187,794
  * A slice passes as a pointer and a number of elements. A buffer that is written overlaps no other buffer of its call.
  */
 #ifndef TIFOLANZO_H
@@ -49,6 +51,21 @@ uint32_t tifo_encaps(const uint8_t *ek, size_t ek_len, const uint8_t *m, size_t 
 uint32_t tifo_import(const uint8_t *dk, size_t dk_len, const uint16_t *mask_coeffs, size_t mask_coeffs_len, const uint64_t *mask_words, size_t mask_words_len,
                      uint16_t *s0, size_t s0_len, uint16_t *s1, size_t s1_len, uint64_t *z0, size_t z0_len, uint64_t *z1, size_t z1_len,
                      uint8_t *pub, size_t pub_len);
+
+/* Masked decapsulation of a split key, as import made it, and a ciphertext of 1,088 bytes (1, 5, 6, 7). The strip is 11,750 words and 7,424
+ * coefficients below 3329. k0 and k1, four words each, are the shares of the secret: it is k0 xor k1, and a word takes eight bytes, the low one
+ * first. A ciphertext that doesn't come from encapsulation isn't refused: its secret is FIPS 203's rejection secret.
+ * Strips are the caller's to make, as import's masks are: uniform, independent of all else, and fresh for each call. */
+uint32_t tifo_decaps(const uint16_t *s0, size_t s0_len, const uint16_t *s1, size_t s1_len, const uint64_t *z0, size_t z0_len,
+                     const uint64_t *z1, size_t z1_len, const uint8_t *pub, size_t pub_len, const uint8_t *ct, size_t ct_len,
+                     const uint64_t *words, size_t words_len, const uint16_t *coeffs, size_t coeffs_len,
+                     uint64_t *k0, size_t k0_len, uint64_t *k1, size_t k1_len);
+
+/* The same run, told a step, from 0 to 187,793 as docs/worksheet.md counts: *value takes that step's value, and nothing else is handed back
+ * (1, 5, 6, 7, 8). value points to one word, and is written only where the call returns 0. */
+uint32_t tifo_trace(const uint16_t *s0, size_t s0_len, const uint16_t *s1, size_t s1_len, const uint64_t *z0, size_t z0_len,
+                    const uint64_t *z1, size_t z1_len, const uint8_t *pub, size_t pub_len, const uint8_t *ct, size_t ct_len,
+                    const uint64_t *words, size_t words_len, const uint16_t *coeffs, size_t coeffs_len, uint64_t step, uint64_t *value);
 
 #ifdef __cplusplus
 }

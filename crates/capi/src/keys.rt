@@ -8,7 +8,7 @@ ghost use Rattle.mlkem.specs.Refusals.{number, after};
 ghost use Rattle.mlkem.specs.Calls.{sampleAnswer, keyGenAnswer, encapsAnswer, importAnswer, secondCoeffs, secondWords};
 use mlkem::Answer;
 
-fn key_refusal(answer: Answer) -> u32
+pub fn key_refusal(answer: Answer) -> u32
     ensures { λ r. ⌜ r ≡ number answer ⌝ }
 {
     match answer {

@@ -6,7 +6,8 @@ ghost use Rattle.fips202.specs.MaskedCalls.{sha3-512Call, shake256Call};
 ghost use Rattle.fips202.specs.Sponge.{sha3-256, sha3-512, shake128, shake256};
 use fips202::Answer;
 
-pub mod keys; // the key calls
+pub mod keys; // the key calls but these:
+pub mod masked_decapsulation; // masked decapsulation and its trace
 
 fn refusal(answer: Answer) -> u32
     ensures { λ r. ⌜ r ≡ number answer ⌝ }

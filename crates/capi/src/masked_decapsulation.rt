@@ -1,0 +1,45 @@
+// Masked decapsulation and its trace for C.
+ghost use mathlib.Core.Path.{_≡_};
+ghost use Rattle.mlkem.specs.Parameters.{mlKem768};
+ghost use Rattle.mlkem.specs.Refusals.{number, after};
+ghost use Rattle.decapsulation.specs.Calls.{input, decapsAnswer, decapsShares, traceAnswer, traceValue};
+use crate::keys::key_refusal;
+
+#[no_mangle]
+pub extern "C" fn tifo_decaps(
+    s0: &[u16],
+    s1: &[u16],
+    z0: &[u64],
+    z1: &[u64],
+    public: &[u8],
+    ct: &[u8],
+    words: &[u64],
+    coeffs: &[u16],
+    k0: &mut [u64],
+    k1: &mut [u64],
+) -> u32
+    ensures { λ r. ⌜ r ≡ number (decapsAnswer mlKem768 (input (now (s0 .entry)) (now (s1 .entry)) (now (z0 .entry)) (now (z1 .entry)) (now (public .entry)) (now (ct .entry)) (now (words .entry)) (now (coeffs .entry))) (now (k0 .entry)) (now (k1 .entry))) ⌝ }
+    ensures { λ _. ⌜ now (k0 .exit) ≡ after (decapsAnswer mlKem768 (input (now (s0 .entry)) (now (s1 .entry)) (now (z0 .entry)) (now (z1 .entry)) (now (public .entry)) (now (ct .entry)) (now (words .entry)) (now (coeffs .entry))) (now (k0 .entry)) (now (k1 .entry))) (decapsShares mlKem768 (input (now (s0 .entry)) (now (s1 .entry)) (now (z0 .entry)) (now (z1 .entry)) (now (public .entry)) (now (ct .entry)) (now (words .entry)) (now (coeffs .entry))) .s0) (now (k0 .entry)) ⌝ }
+    ensures { λ _. ⌜ now (k1 .exit) ≡ after (decapsAnswer mlKem768 (input (now (s0 .entry)) (now (s1 .entry)) (now (z0 .entry)) (now (z1 .entry)) (now (public .entry)) (now (ct .entry)) (now (words .entry)) (now (coeffs .entry))) (now (k0 .entry)) (now (k1 .entry))) (decapsShares mlKem768 (input (now (s0 .entry)) (now (s1 .entry)) (now (z0 .entry)) (now (z1 .entry)) (now (public .entry)) (now (ct .entry)) (now (words .entry)) (now (coeffs .entry))) .s1) (now (k1 .entry)) ⌝ }
+{
+    key_refusal(decapsulation::decaps(s0, s1, z0, z1, public, ct, words, coeffs, k0, k1))
+}
+
+#[no_mangle]
+pub extern "C" fn tifo_trace(
+    s0: &[u16],
+    s1: &[u16],
+    z0: &[u64],
+    z1: &[u64],
+    public: &[u8],
+    ct: &[u8],
+    words: &[u64],
+    coeffs: &[u16],
+    step: u64,
+    value: &mut u64,
+) -> u32
+    ensures { λ r. ⌜ r ≡ number (traceAnswer mlKem768 (input (now (s0 .entry)) (now (s1 .entry)) (now (z0 .entry)) (now (z1 .entry)) (now (public .entry)) (now (ct .entry)) (now (words .entry)) (now (coeffs .entry))) step) ⌝ }
+    ensures { λ _. ⌜ now (value .exit) ≡ after (traceAnswer mlKem768 (input (now (s0 .entry)) (now (s1 .entry)) (now (z0 .entry)) (now (z1 .entry)) (now (public .entry)) (now (ct .entry)) (now (words .entry)) (now (coeffs .entry))) step) (traceValue mlKem768 (input (now (s0 .entry)) (now (s1 .entry)) (now (z0 .entry)) (now (z1 .entry)) (now (public .entry)) (now (ct .entry)) (now (words .entry)) (now (coeffs .entry))) step) (now (value .entry)) ⌝ }
+{
+    key_refusal(decapsulation::trace(s0, s1, z0, z1, public, ct, words, coeffs, step, value))
+}
