@@ -1,39 +1,22 @@
-"""Our key calls and OpenSSL's (Python's cryptography) timed in turns, by the smallest of their times: bench/kem runs it on our library.
+"""Our key calls and OpenSSL's (Python's cryptography) timed in turns: bench/kem runs it on our library.
 
 Both go through Python, and a call of ours that is refused at once shows what a call itself costs. OpenSSL's encapsulation draws its own m, and it works
 out the matrix when it reads the public key, where ours does so in encapsulation: so that one is timed with the reading too.
 """
-import ctypes, sys, time
-from cryptography.hazmat.primitives.asymmetric.mlkem import MLKEM768PrivateKey, MLKEM768PublicKey
+import ctypes, sys
 
-TURNS, CALLS = 201, 20
+sys.dont_write_bytecode = True
+from cryptography.hazmat.primitives.asymmetric.mlkem import MLKEM768PrivateKey, MLKEM768PublicKey
+from turns import TURNS, compare, lent, microseconds
+
 lib = ctypes.CDLL(sys.argv[1])
 d, z, m = (bytes([i]) * 32 for i in (1, 2, 3))
 ek, dk, ct, k = (ctypes.create_string_buffer(n) for n in (1184, 2400, 1088, 32))
-
-
-def lent(*buffers):
-    return [x for b in buffers for x in (b, ctypes.c_size_t(len(b)))]
-
-
 key_args, encaps_args, refused_args = lent(d, z, ek, dk), lent(ek, m, ct, k), lent(d[1:], z, ek, dk)
 assert lib.tifo_keygen(*key_args) == 0 and lib.tifo_encaps(*encaps_args) == 0 and lib.tifo_keygen(*refused_args) == 1
 key = MLKEM768PrivateKey.from_seed_bytes(d + z)
 public = key.public_key()
 assert ek.raw == public.public_bytes_raw() and key.decapsulate(ct.raw) == k.raw
-
-
-def microseconds(f):
-    start = time.perf_counter()
-    for _ in range(CALLS):
-        f()
-    return (time.perf_counter() - start) / CALLS * 1e6
-
-
-def compare(name, ours, other):
-    times = [(microseconds(ours), microseconds(other)) for _ in range(TURNS)]
-    a, b = map(min, zip(*times))
-    print(f"{name:<33} ours {a:6.1f} us   OpenSSL {b:6.1f} us   ratio {a / b:.2f}")
 
 
 def ours_encaps():

@@ -1,0 +1,67 @@
+"""Reads what callgrind dumped at the borders of stages: instructions of each part of one masked decapsulation, for bench/decaps.
+
+The ten stage functions are inlined into `decapsulate`. Four functions that aren't inlined, each called at known places, mark the borders. What little is inlined
+between a border and the next stage counts with that stage: the end of stage 3 with stage 4, the start of stage 9's state with stage 8, its end with stage 10.
+"""
+import re, sys
+
+EXPAND, COMPRESS, NOISE, ABSORB = (
+    "mlkem::matrix::expand",
+    "polynomial_stages::compression::compress_poly",
+    "hash_stages::noise::noise_poly",
+    "fips202::masked_absorb::masked_absorb",
+)
+# what ends at which event, the event's times, and its entries
+PARTS = [
+    ("refusals", "before", EXPAND, 1, 0),
+    ("matrix", "after", EXPAND, 1, 0),
+    ("stage 1", "before", COMPRESS, 1, 512),
+    ("stage 2", "after", COMPRESS, 1, 1464),
+    ("stage 3", "after", ABSORB, 1, 7842),
+    ("stage 4", "before", NOISE, 1, 1024),
+    ("stage 5", "after", NOISE, 7, 94430),
+    ("stage 6", "before", COMPRESS, 1, 2048),
+    ("stage 7", "after", COMPRESS, 4, 8016),
+    ("stage 8", "before", ABSORB, 1, 1688),
+    ("stage 9", "after", ABSORB, 1, 70722),
+    ("stage 10", "at", "end", 1, 48),
+]
+
+
+def options():
+    return [f"--dump-{when}={f}" for f in (EXPAND, COMPRESS, NOISE, ABSORB) for when in ("before", "after")]
+
+
+def dumps(text):
+    """Each dump's event and instructions, from the first that has any."""
+    events = re.findall(r"^desc: Trigger: (?:--dump-(before|after)=(\S+)|Program termination)$.*?^totals: (\d+)$", text, re.M | re.S)
+    found = [(when or "at", f or "end", int(n)) for when, f, n in events]
+    return found[next(i for i, e in enumerate(found) if e[2]):]
+
+
+def costs(found):
+    parts, out, cost, times = iter(PARTS), [], 0, 0
+    name, when, f, wanted, entries = next(parts)
+    for event in found:
+        cost += event[2]
+        times += event[:2] == (when, f)
+        if times == wanted:
+            out.append((name, entries, cost))
+            name, when, f, wanted, entries = next(parts, (None, None, None, None, None))
+            cost = times = 0
+    if len(out) != len(PARTS):
+        sys.exit(f"no border for {name}: one of the marking functions is inlined or called elsewhere now")
+    return out
+
+
+def main():
+    if sys.argv[1:] == ["--options"]:
+        return print(*options())
+    out = costs(dumps(open(sys.argv[1]).read()))
+    total = sum(cost for _, _, cost in out)
+    for name, entries, cost in out:
+        each = f"   for each of {entries:6} entries {cost / entries:7.2f}" if entries else ""
+        print(f"{name:<9} {cost:8} instructions {100 * cost / total:5.1f} %{each}")
+
+
+main()
