@@ -7,14 +7,7 @@ use vector_support::print::print;
 use vector_support::print::print_hash;
 use vector_support::print::print_hex;
 use vector_support::print::print_number;
-
-// A turn's keys, ciphertext and secret, from d, z and m, which are the first 96 bytes of what it draws.
-pub fn make(draw: &[u8], ek: &mut [u8], dk: &mut [u8], ct: &mut [u8], k: &mut [u8])
-    requires { ⌜ length (now draw) ≡ 1184 ⌝ }
-{
-    mlkem::keygen(&draw[0..32], &draw[32..64], ek, dk);
-    mlkem::encaps(ek, &draw[64..96], ct, k);
-}
+use vector_support::turn::make;
 
 fn print_turn(ek: &[u8], dk: &[u8], ct: &[u8], k: &[u8]) {
     print(b"ek ");

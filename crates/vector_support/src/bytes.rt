@@ -51,6 +51,17 @@ pub fn word_bytes(w: &[u64], out: &mut [u8])
     }
 }
 
+pub fn same(a: &[u8], b: &[u8]) -> bool
+    requires { ⌜ length (now a) ≡ length (now b) ⌝ }
+{
+    for i in 0..a.len() {
+        if a[i] != b[i] {
+            return false;
+        }
+    }
+    true
+}
+
 // ---- a buffer holds 238 in each byte before a call that must be refused
 
 pub fn unchanged(bytes: &[u8]) -> bool {

@@ -6,10 +6,10 @@ use Rattle.kem_vectors.proofs.accumulated.turns.Statement.{statement}
 use Rattle.kem_vectors.proofs.accumulated.turns.Tie as tie
 
 abbrev Inv-loop : tie.InvT-loop
-Inv-loop draws feed₀ i₀ feed i = (i ≤ 100) × (length feed ≡ length feed₀)
+Inv-loop draws feed₀ found₀ i₀ feed found i = (i ≤ 100) × (found ≤ i) × (length feed ≡ length feed₀)
 
 abbrev μ-loop : tie.MeasureT-loop
-μ-loop draws feed₀ i₀ feed i = 100 - i
+μ-loop draws feed₀ found₀ i₀ feed found i = 100 - i
 
 pub turns-spec : {M : Type 1} → statement M
 turns-spec =
@@ -19,6 +19,7 @@ turns-spec =
     μ-loop
     (λ c. search needs)
     (λ c κs. search needs)
+    (λ c. search needs)
     (λ c. search needs)
     (λ c. search needs)
     (λ c. search needs)
