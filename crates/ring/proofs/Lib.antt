@@ -1,4 +1,4 @@
 pub mod Powers
-pub mod Layers
 pub mod InPlace
 pub mod Repack
+pub mod Shoup

@@ -1,8 +1,13 @@
 -- The code's two tables hold the powers of the root.
-use mathlib.Core.Path.{_≡_}
+use mathlib.Core.Path.{_≡_, ap, _∙_}
 use mathlib.Core.List.{List, [], _∷_}
-use Prim.Native.Nat.{ℕ}
-use Rattle.words.specs.Tab.{tab}
+use Prim.Native.Nat.{ℕ, _^_, _<_}
+use native.Mathlib.Nat.{mod-lt}
+use native.Mathlib.Omega.{arith}
+use lib.ListN.{getD}
+use Rattle.words.specs.Residue.{q}
+use Rattle.words.specs.Tab.{tab, getD-tab}
+use Rattle.words.specs.Residue.{q}
 use Rattle.words.specs.Table.{table-tab}
 use Rattle.words.specs.Numeral.{value}
 use Rattle.words.specs.Digit.{digit}
@@ -37,3 +42,11 @@ zetas-tab = table-tab zeta zetas tt
 pub gammas-tab : gammas ≡ tab 128 gamma
 unfolding gammas gamma bitRev7 value digit tab
 gammas-tab = table-tab gamma gammas tt
+
+module _ {l : List ℕ} (e : l ≡ tab 128 zeta) (i : ℕ) (h : i < 128) where
+  pub root : getD l i 0 ≡ zeta i
+  root = ap (λ (m : List ℕ). getD m i 0) e ∙ getD-tab 128 zeta i 0 h
+
+  pub root-below : getD l i 0 < q
+  unfolding zeta
+  root-below = rw root (mod-lt (17 ^ bitRev7 i) (omega arith))

@@ -44,13 +44,6 @@ pub fn low_byte(acc: u32) -> u8
     (acc % 256) as u8
 }
 
-pub fn pow2(l: u32) -> usize
-    requires { ⌜ l < 64 ⌝ }
-    ensures { λ r. ⌜ r ≡ 2 ^ l ⌝ }
-{
-    1 << l
-}
-
 // x 2^d
 pub fn shifted(x: u16, d: u32) -> u32
     requires { ⌜ d ≤ 12 ⌝ }

@@ -1,6 +1,6 @@
 // Numbers modulo q, without division.
 ghost use mathlib.Core.Path.{_≡_};
-ghost use Prim.Native.Nat.{_+_, _*_, _/_, _%_, _^_, _<_};
+ghost use Prim.Native.Nat.{_+_, _*_, _/_, _%_, _^_, _<_, _≤_};
 ghost use Rattle.words.specs.Residue.{q};
 ghost use Rattle.ring.specs.Polynomial.{minus};
 
@@ -25,10 +25,58 @@ pub fn reduce_short(x: u32) -> u16
     (x - ((x * 20159) >> 26) * 3329) as u16
 }
 
+// In steps of 16 bits, as the functions below, so that eight fit in a vector.
 pub fn remainder(x: u16) -> u16
     ensures { λ r. ⌜ r ≡ x % q ⌝ }
 {
-    reduce_short(x as u32)
+    let high = (((x as u32) * 20159) >> 16) as u16;
+    x - (high >> 10) * 3329
+}
+
+pub fn reduce_once(x: u16) -> u16
+    requires { ⌜ x < 2 * q ⌝ }
+    ensures { λ r. ⌜ r ≡ x % q ⌝ }
+{
+    if x < 3329 { x } else { x - 3329 }
+}
+
+pub fn reduced_sum(x: u16, y: u16) -> u16
+    requires { ⌜ (x < q) × (y < q) ⌝ }
+    ensures { λ r. ⌜ r ≡ (x + y) % q ⌝ }
+{
+    reduce_once(x + y)
+}
+
+pub fn reduced_difference(x: u16, y: u16) -> u16
+    requires { ⌜ (x < q) × (y < q) ⌝ }
+    ensures { λ r. ⌜ r ≡ minus x y ⌝ }
+{
+    reduce_once(x + 3329 - y)
+}
+
+// x - y by the low halves of both
+fn low_difference(x: u32, y: u32) -> u16
+    requires { ⌜ (y ≤ x) × (x < y + 2 ^ 16) ⌝ }
+    ensures { λ r. ⌜ r + y ≡ x ⌝ }
+{
+    std::num::wrapping_sub_u16((x % 65536) as u16, (y % 65536) as u16)
+}
+
+// what `multiple` takes beside z
+pub fn scaled(z: u16) -> u16
+    requires { ⌜ z < q ⌝ }
+    ensures { λ r. ⌜ r ≡ z * 2 ^ 16 / q ⌝ }
+{
+    quotient((z as u32) * 65536) as u16
+}
+
+// z x modulo q by Shoup's way: w x / 2^16 is the quotient of z x or one less.
+pub fn multiple(z: u16, w: u16, x: u16) -> u16
+    requires { ⌜ (z < q) × (w ≡ z * 2 ^ 16 / q) ⌝ }
+    ensures { λ r. ⌜ r ≡ z * x % q ⌝ }
+{
+    let estimate = ((w as u32) * (x as u32)) >> 16;
+    reduce_once(low_difference((z as u32) * (x as u32), estimate * 3329))
 }
 
 pub fn sum(x: u16, y: u16) -> u16

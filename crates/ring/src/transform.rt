@@ -1,33 +1,34 @@
 // The number-theoretic transform and its inverse, in place.
-use super::bits::pow2;
-use super::residue::difference;
-use super::residue::product;
+use super::residue::multiple;
+use super::residue::reduced_difference;
+use super::residue::reduced_sum;
 use super::residue::remainder;
-use super::residue::sum;
+use super::residue::scaled;
 use super::tables::ZETAS;
 ghost use mathlib.Core.Path.{_≡_};
-ghost use Prim.Native.Nat.{_+_, _*_, _%_, _<_, _≤_};
+ghost use Prim.Native.Nat.{_+_, _*_, _/_, _%_, _^_, _<_, _≤_};
 ghost use lib.ListN.{length, getD};
 ghost use Rattle.words.specs.Residue.{q};
 ghost use Rattle.words.specs.Tab.{tab};
 ghost use Rattle.ring.specs.Transform.{zeta, butterfly, block, layer, ntt, inverseButterfly, inverseBlock, inverseLayer, inverseNtt};
 
-fn butterfly_at(f: &mut [u16], z: u16, len: usize, j: usize)
-    requires { ⌜ j + len < length (now f) ⌝ }
+fn butterfly_at(f: &mut [u16], z: u16, w: u16, len: usize, j: usize)
+    requires { ⌜ (j + len < length (now f)) × (z < q) × (w ≡ z * 2 ^ 16 / q) ⌝ }
     ensures { λ _. ⌜ now (f .exit) ≡ butterfly z len j (now (f .entry)) ⌝ }
 {
-    let a = f[j];
-    let t = product(z, f[j + len]);
-    f[j + len] = difference(a, t);
-    f[j] = sum(a, t);
+    let a = remainder(f[j]);
+    let t = multiple(z, w, f[j + len]);
+    f[j + len] = reduced_difference(a, t);
+    f[j] = reduced_sum(a, t);
 }
 
 fn block_at(f: &mut [u16], z: u16, len: usize, start: usize)
-    requires { ⌜ start + 2 * len ≤ length (now f) ⌝ }
+    requires { ⌜ (start + 2 * len ≤ length (now f)) × (z < q) ⌝ }
     ensures { λ _. ⌜ now (f .exit) ≡ block z len start (now (f .entry)) ⌝ }
 {
+    let w = scaled(z);
     for j in 0..len {
-        butterfly_at(f, z, len, start + j);
+        butterfly_at(f, z, w, len, start + j);
     }
 }
 
@@ -45,27 +46,32 @@ pub fn ntt(f: &mut [u16])
     ensures { λ _. ⌜ now (f .exit) ≡ ntt (now (f .entry)) ⌝ }
 {
     let zetas = ZETAS;
-    for l in 0..7 {
-        layer_at(f, &zetas, pow2(l), pow2(7 - l));
-    }
+    layer_at(f, &zetas, 1, 128);
+    layer_at(f, &zetas, 2, 64);
+    layer_at(f, &zetas, 4, 32);
+    layer_at(f, &zetas, 8, 16);
+    layer_at(f, &zetas, 16, 8);
+    layer_at(f, &zetas, 32, 4);
+    layer_at(f, &zetas, 64, 2);
 }
 
-fn inverse_butterfly_at(f: &mut [u16], z: u16, len: usize, j: usize)
-    requires { ⌜ j + len < length (now f) ⌝ }
+fn inverse_butterfly_at(f: &mut [u16], z: u16, w: u16, len: usize, j: usize)
+    requires { ⌜ (j + len < length (now f)) × (z < q) × (w ≡ z * 2 ^ 16 / q) ⌝ }
     ensures { λ _. ⌜ now (f .exit) ≡ inverseButterfly z len j (now (f .entry)) ⌝ }
 {
-    let a = f[j];
-    let b = f[j + len];
-    f[j] = sum(a, b);
-    f[j + len] = product(z, difference(b, remainder(a)));
+    let a = remainder(f[j]);
+    let b = remainder(f[j + len]);
+    f[j] = reduced_sum(a, b);
+    f[j + len] = multiple(z, w, b + 3329 - a);
 }
 
 fn inverse_block_at(f: &mut [u16], z: u16, len: usize, start: usize)
-    requires { ⌜ start + 2 * len ≤ length (now f) ⌝ }
+    requires { ⌜ (start + 2 * len ≤ length (now f)) × (z < q) ⌝ }
     ensures { λ _. ⌜ now (f .exit) ≡ inverseBlock z len start (now (f .entry)) ⌝ }
 {
+    let w = scaled(z);
     for j in 0..len {
-        inverse_butterfly_at(f, z, len, start + j);
+        inverse_butterfly_at(f, z, w, len, start + j);
     }
 }
 
@@ -79,11 +85,12 @@ fn inverse_layer_at(f: &mut [u16], zetas: &[u16], k: usize, len: usize)
 }
 
 fn scale(f: &mut [u16], z: u16)
-    requires { ⌜ length (now f) ≡ 256 ⌝ }
+    requires { ⌜ (length (now f) ≡ 256) × (z < q) ⌝ }
     ensures { λ _. ⌜ now (f .exit) ≡ tab 256 (λ i. getD (now (f .entry)) i 0 * z % q) ⌝ }
 {
+    let w = scaled(z);
     for i in 0..256 {
-        f[i] = product(f[i], z);
+        f[i] = multiple(z, w, f[i]);
     }
 }
 
@@ -92,8 +99,12 @@ pub fn inverse_ntt(f: &mut [u16])
     ensures { λ _. ⌜ now (f .exit) ≡ inverseNtt (now (f .entry)) ⌝ }
 {
     let zetas = ZETAS;
-    for l in 0..7 {
-        inverse_layer_at(f, &zetas, pow2(6 - l), pow2(l + 1));
-    }
+    inverse_layer_at(f, &zetas, 64, 2);
+    inverse_layer_at(f, &zetas, 32, 4);
+    inverse_layer_at(f, &zetas, 16, 8);
+    inverse_layer_at(f, &zetas, 8, 16);
+    inverse_layer_at(f, &zetas, 4, 32);
+    inverse_layer_at(f, &zetas, 2, 64);
+    inverse_layer_at(f, &zetas, 1, 128);
     scale(f, 3303);
 }

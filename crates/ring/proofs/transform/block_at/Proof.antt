@@ -8,10 +8,10 @@ use Rattle.ring.proofs.transform.block_at.Statement.{statement}
 use Rattle.ring.proofs.transform.block_at.Tie as tie
 
 abbrev Inv-loop : tie.InvT-loop
-Inv-loop f₀ z len start j₀ f j = (length f ≡ length f₀) × Reached len (λ j. butterfly z len (start + j)) f₀ j f
+Inv-loop f₀ z len start w j₀ f j = (length f ≡ length f₀) × Reached len (λ j. butterfly z len (start + j)) f₀ j f
 
 abbrev μ-loop : tie.MeasureT-loop
-μ-loop f₀ z len start j₀ f j = len - j
+μ-loop f₀ z len start w j₀ f j = len - j
 
 loop-again : tie.Need-loop-again Inv-loop μ-loop
 loop-again c =
@@ -27,9 +27,10 @@ block-at-spec =
     (tie.spec
     Inv-loop
     μ-loop
+    (λ c κs. omega arith)
     (λ c. (refl, reached-start))
     (λ c. omega arith)
-    (λ c κs. omega arith)
+    (λ c κs. (omega arith, omega arith, c .before .before .before .scaled .ensures))
     (λ c. omega arith)
     (λ c. omega arith)
     loop-again

@@ -1,5 +1,6 @@
-use mathlib.Core.Path.{ap, ap₂, _∙_}
-use Prim.Native.Nat.{ℕ, _+_, _%_}
+use mathlib.Core.Path.{ap₂, _∙_}
+use Prim.Native.Nat.{ℕ, _+_, _-_, _*_, _%_}
+use native.Mathlib.Nat.{mod-add-mod}
 use native.Mathlib.Omega.{arith}
 use lib.ListN.{getD, set, length-set}
 use borrow.Author.Needs.{needs}
@@ -12,12 +13,14 @@ use Rattle.ring.proofs.transform.butterfly_at.Tie as tie
 returns : tie.Need-returns
 unfolding butterfly
 returns c =
-    let a = c .before .before .before .before .before .before .args in
+    let a = c .before .before .before .before .before .before .before .args in
     let x = getD (a .f .now) (a .j) 0 in
-    let e = c .before .before .product .ensures in
+    let t = a .z * getD (a .f .now) (a .j + a .len) 0 % q in
+    let r = c .before .before .before .before .remainder .ensures in
+    let e = c .before .before .multiple .ensures in
     ap₂ (λ (m n : ℕ). set (set (a .f .now) (a .j + a .len) m) (a .j) n)
-    (c .before .difference .ensures ∙ ap (minus x) e)
-    (c .sum .ensures ∙ ap (λ (t : ℕ). (x + t) % q) e)
+    (c .before .reduced-difference .ensures ∙ ap₂ minus r e ∙ mod-add-mod x q ((q - 1) * t))
+    (c .reduced-sum .ensures ∙ ap₂ (λ (m n : ℕ). (m + n) % q) r e ∙ mod-add-mod x q t)
 
 pub butterfly-at-spec : {M : Type 1} → statement M
 butterfly-at-spec =
@@ -25,6 +28,7 @@ butterfly-at-spec =
     (tie.spec
     (λ c. search needs)
     (λ c. search needs)
+    (λ c κs. search needs)
     (λ c. search needs)
     (λ c. search needs)
     (λ c. search needs)

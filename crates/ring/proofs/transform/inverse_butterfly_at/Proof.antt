@@ -1,10 +1,11 @@
-use mathlib.Core.Path.{ap, ap₂, _∙_}
-use Prim.Native.Nat.{ℕ, _+_, _*_, _%_}
+use mathlib.Core.Path.{_≡_, sym, ap, ap₂, _∙_}
+use Prim.Native.Nat.{ℕ, _+_, _-_, _*_, _%_}
+use native.Mathlib.Nat.{add-mod}
+use native.Mathlib.Omega.{arith}
 use lib.ListN.{getD, set}
 use borrow.Author.Needs.{needs}
-use Rattle.words.specs.Residue.{q}
+use Rattle.words.specs.Residue.{q, mul-mod-mod}
 use Rattle.ring.specs.Polynomial.{minus}
-use Rattle.ring.specs.Sum.{minus-mod}
 use Rattle.ring.specs.Transform.{inverseButterfly}
 use Rattle.ring.proofs.transform.inverse_butterfly_at.Statement.{statement}
 use Rattle.ring.proofs.transform.inverse_butterfly_at.Tie as tie
@@ -15,9 +16,13 @@ returns c =
     let a = c .before .before .before .before .before .before .before .args in
     let x = getD (a .f .now) (a .j) 0 in
     let y = getD (a .f .now) (a .j + a .len) 0 in
+    let p = c .before .before .before .before .remainder in
+    let r = c .before .before .remainder2 in
+    let d = r .result + 3329 - p .result in
+    let e : d % q ≡ minus y x = omega (arith, p .ensures, r .ensures) in
     ap₂ (λ (m n : ℕ). set (set (a .f .now) (a .j) m) (a .j + a .len) n)
-    (c .before .before .before .sum .ensures)
-    (c .product .ensures ∙ ap (λ (t : ℕ). a .z * t % q) (c .before .difference .ensures ∙ ap (minus y) (c .before .before .remainder .ensures) ∙ minus-mod y x))
+    (c .before .reduced-sum .ensures ∙ ap₂ (λ (m n : ℕ). (m + n) % q) (p .ensures) (r .ensures) ∙ sym (add-mod x y q))
+    (c .multiple .ensures ∙ sym (mul-mod-mod (a .z) d q) ∙ ap (λ (t : ℕ). a .z * t % q) e)
 
 pub inverse-butterfly-at-spec : {M : Type 1} → statement M
 inverse-butterfly-at-spec =
@@ -25,14 +30,16 @@ inverse-butterfly-at-spec =
     (tie.spec
     (λ c. search needs)
     (λ c. search needs)
+    (λ c κs. search needs)
     (λ c. search needs)
     (λ c. search needs)
     (λ c. search needs)
     (λ c κs. search needs)
+    (λ c κs. search needs)
     (λ c. search needs)
     (λ c. search needs)
-    (λ c κs. search needs)
-    (λ c κs. search needs)
+    (λ c. search needs)
+    (λ c. search needs)
     (λ c κs. search needs)
     (λ c. search needs)
     (λ c. search needs)

@@ -2,10 +2,11 @@ use mathlib.Core.Path.{_≡_, refl, ap, _∙_}
 use Prim.Native.Nat.{ℕ, _-_, _*_}
 use native.Mathlib.Nat.{mul-le-mul-right}
 use native.Mathlib.Omega.{arith}
-use lib.ListN.{length, getD}
-use Rattle.words.specs.Tab.{length-tab, getD-tab}
+use lib.ListN.{length}
+use Rattle.words.specs.Tab.{length-tab}
 use Rattle.words.specs.Iterate.{Reached, reached-start, reached-turn, reached-end}
 use Rattle.ring.specs.Transform.{zeta, inverseBlock, inverseLayer}
+use Rattle.ring.proofs.Powers.{root, root-below}
 use Rattle.ring.proofs.transform.inverse_layer_at.Statement.{statement}
 use Rattle.ring.proofs.transform.inverse_layer_at.Tie as tie
 
@@ -25,14 +26,18 @@ mul-inverse-block-at-4 c =
 
 inverse-block-at-requires : tie.Need-inverse-block-at-requires Inv-loop μ-loop
 inverse-block-at-requires c κs =
-    omega (arith, mul-le-mul-right (2 * c .before .before .before .before .before .before .args .len) (c .before .before .loop-test .taken))
+    let s = c .before .before .before .before .before .before in
+    let a = c .before .before .before .loop in (
+      omega (arith, mul-le-mul-right (2 * s .args .len) (c .before .before .loop-test .taken)),
+      root-below (s .pre .3) (2 * s .args .k - 1 - a .b) (omega arith),
+    )
 
 loop-again : tie.Need-loop-again Inv-loop μ-loop
 loop-again c =
     let a = c .before .before .before .before .before .before .loop in
     let s = c .before .before .before .before .before .before .before .before .before in
     let i = 2 * s .args .k - 1 - a .b in
-    let e = ap (λ (l : _). getD l i 0) (s .pre .3) ∙ getD-tab 128 zeta i 0 (omega arith) in (
+    let e = root (s .pre .3) i (omega arith) in (
       omega arith,
       omega arith,
       reached-turn (a .inv .2) (omega arith)
