@@ -33,11 +33,12 @@ pub fn remainder(x: u16) -> u16
     x - (high >> 10) * 3329
 }
 
+// Bit 15 of x + 2^15 - q tells whether x is q or more; there is no branch.
 pub fn reduce_once(x: u16) -> u16
     requires { ⌜ x < 2 * q ⌝ }
     ensures { λ r. ⌜ r ≡ x % q ⌝ }
 {
-    if x < 3329 { x } else { x - 3329 }
+    x - ((x + 29439) >> 15) * 3329
 }
 
 pub fn reduced_sum(x: u16, y: u16) -> u16
