@@ -1,44 +1,12 @@
 // Each lent buffer empty, one element short and one element long, the others having their lengths. Keys and masks hold values that are out of
 // range: a wrong length is refused before them.
-ghost use Prim.Native.Nat.{_+_, _<_, _≤_};
 use vector_support::bytes::unchanged;
 use vector_support::bytes::unchanged_coefficients;
 use vector_support::bytes::unchanged_words;
-use vector_support::print::print;
-use vector_support::print::print_decimal;
+use vector_support::edges::Edge;
+use vector_support::edges::length_at;
+use vector_support::edges::print_edge;
 use vector_support::print::print_refusal;
-
-enum Edge {
-    Empty,
-    Short,
-    Long,
-}
-
-// The length of buffer i, which should be n, where buffer `at` has a wrong one.
-fn length_at(at: usize, edge: Edge, i: usize, n: usize) -> usize
-    requires { ⌜ (0 < n) × (n < 10000) ⌝ }
-    ensures { λ r. ⌜ r ≤ n + 1 ⌝ }
-{
-    if at != i {
-        return n;
-    }
-    match edge {
-        Edge::Empty => 0,
-        Edge::Short => n - 1,
-        Edge::Long => n + 1,
-    }
-}
-
-fn print_edge(call: &[u8], at: usize, edge: Edge) {
-    print(call);
-    print(b", buffer ");
-    print_decimal(at as u64);
-    match edge {
-        Edge::Empty => print(b" empty: "),
-        Edge::Short => print(b" short: "),
-        Edge::Long => print(b" long: "),
-    }
-}
 
 fn sample(stream: &[u8], out: &mut [u16]) {
     let answer = mlkem::sample(stream, out);
