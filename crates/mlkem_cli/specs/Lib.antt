@@ -1,5 +1,1 @@
 pub mod Hashes
-pub mod Hex
-pub mod LittleEndian
-pub mod Numbers
-pub mod Split

@@ -1,5 +1,5 @@
 // The commands, their forms and the number of their arguments.
-use crate::arguments::same;
+use cli_support::arguments::same;
 use libc::STDERR_FILENO;
 
 pub enum Command {
@@ -11,7 +11,10 @@ pub enum Command {
     KeyGen,
     Encaps,
     Import,
+    Decaps,
+    Trace,
     Sample,
+    Demo,
     Unknown,
 }
 
@@ -48,8 +51,17 @@ pub fn named(word: &[u8]) -> Command {
     if same(word, b"import") {
         return Command::Import;
     }
+    if same(word, b"decaps") {
+        return Command::Decaps;
+    }
+    if same(word, b"trace") {
+        return Command::Trace;
+    }
     if same(word, b"sample") {
         return Command::Sample;
+    }
+    if same(word, b"demo") {
+        return Command::Demo;
     }
     hash_named(word)
 }
@@ -65,7 +77,10 @@ pub fn word_count(command: Command) -> usize {
         Command::KeyGen => 6,
         Command::Encaps => 6,
         Command::Import => 5,
+        Command::Decaps => 6,
+        Command::Trace => 6,
         Command::Sample => 4,
+        Command::Demo => 2,
         Command::Unknown => 2,
     }
 }
@@ -85,7 +100,10 @@ fn print_form(fd: i32, command: Command) {
         Command::KeyGen => write(fd, b"keygen D Z EK DK\n"),
         Command::Encaps => write(fd, b"encaps EK M CT K\n"),
         Command::Import => write(fd, b"import DK MASKS SPLIT\n"),
+        Command::Decaps => write(fd, b"decaps SPLIT CT STRIP SHARES\n"),
+        Command::Trace => write(fd, b"trace SPLIT CT STRIP STEP\n"),
         Command::Sample => write(fd, b"sample STREAM OUT\n"),
+        Command::Demo => write(fd, b"demo\n"),
         Command::Unknown => write(fd, b"COMMAND ARGUMENTS\n"),
     }
 }
@@ -113,9 +131,18 @@ fn print_files(fd: i32) {
         fd,
         b"  SPLIT        two times 768 coefficients, two times 4 words, 1216 bytes\n",
     );
+    write(fd, b"  STRIP        11750 words, 7424 coefficients\n");
+    write(
+        fd,
+        b"  SHARES       two times 4 words, which join to K by xor\n",
+    );
     write(
         fd,
         b"  STREAM, OUT  840 bytes, 256 coefficients of 16 bits\n",
+    );
+    write(
+        fd,
+        b"STEP is decimal, and trace prints the value in decimal.\n",
     );
 }
 
@@ -129,7 +156,10 @@ pub fn print_usage(fd: i32) {
     print_entry(fd, Command::KeyGen);
     print_entry(fd, Command::Encaps);
     print_entry(fd, Command::Import);
+    print_entry(fd, Command::Decaps);
+    print_entry(fd, Command::Trace);
     print_entry(fd, Command::Sample);
+    print_entry(fd, Command::Demo);
     print_entry(fd, Command::Help);
     print_files(fd);
 }

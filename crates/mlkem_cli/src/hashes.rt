@@ -2,11 +2,11 @@
 ghost use mathlib.Core.Path.{_≡_};
 ghost use lib.ListN.{length};
 ghost use Rattle.mlkem_cli.specs.Hashes.{hashed};
-use crate::arguments;
-use crate::arguments::Natural;
-use crate::hex;
-use crate::inputs;
-use crate::messages;
+use cli_support::arguments;
+use cli_support::arguments::Natural;
+use cli_support::hex;
+use cli_support::inputs;
+use cli_support::messages;
 
 pub enum Hash {
     Digest256,

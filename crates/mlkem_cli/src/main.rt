@@ -1,18 +1,13 @@
 // The program mlkem: the library's calls on files. The first argument names the call, the others are files and numbers.
+use cli_support::messages;
 use commands::Command;
 use libc::STDERR_FILENO;
 use libc::STDOUT_FILENO;
 
-mod arguments; // the words of the command line
 mod commands; // the commands, their forms and the number of their arguments
+mod decapsulating; // decaps, trace
 mod hashes; // sha3-256, sha3-512, shake128, shake256
-mod hex; // bytes as hexadecimal digits
-mod inputs; // files, read whole
 mod keys; // keygen, encaps
-mod little_endian; // coefficients and words as bytes
-mod messages; // lines on standard error
-mod outputs; // files, written whole
-mod refusals; // refused calls
 mod sampling; // sample
 mod splitting; // import
 
@@ -26,7 +21,10 @@ fn run(command: Command) {
         Command::KeyGen => keys::keygen(),
         Command::Encaps => keys::encaps(),
         Command::Import => splitting::import(),
+        Command::Decaps => decapsulating::decaps(),
+        Command::Trace => decapsulating::trace(),
         Command::Sample => sampling::sample(),
+        Command::Demo => cli_demo::demo(),
         Command::Unknown => commands::print_usage(STDERR_FILENO),
     }
 }

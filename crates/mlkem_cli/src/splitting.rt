@@ -1,16 +1,11 @@
 // Import on files.
-ghost use mathlib.Core.List.{_++_};
 ghost use mathlib.Core.Path.{_≡_};
 ghost use lib.ListN.{length};
-ghost use Rattle.mlkem_cli.specs.LittleEndian.{bytesOf};
-ghost use Rattle.mlkem_cli.specs.Split.{splitBytes};
-use crate::inputs::read_exact;
-use crate::little_endian::get_coefficients;
-use crate::little_endian::get_words;
-use crate::little_endian::put_coefficients;
-use crate::little_endian::put_words;
-use crate::outputs::write_secret;
-use crate::refusals::is_refused;
+use cli_support::inputs::read_exact;
+use cli_support::little_endian::get_coefficients;
+use cli_support::little_endian::get_words;
+use cli_support::refusals::is_refused;
+use cli_support::split_file::write_split;
 
 // The masks' file: 768 coefficients, then 4 words.
 fn read_masks(i: usize, coeffs: &mut [u16], words: &mut [u64]) -> bool
@@ -23,47 +18,6 @@ fn read_masks(i: usize, coeffs: &mut [u16], words: &mut [u64]) -> bool
     get_coefficients(&b[0..1536], coeffs);
     get_words(&b[1536..1568], words);
     true
-}
-
-fn pack_coefficients(s0: &[u16], s1: &[u16], out: &mut [u8])
-    requires { ⌜ (length (now s0) ≡ 768) × (length (now s1) ≡ 768) × (length (now out) ≡ 3072) ⌝ }
-    ensures { λ _. ⌜ now (out .exit) ≡ bytesOf 2 (now (s0 .entry)) ++ bytesOf 2 (now (s1 .entry)) ⌝ }
-{
-    put_coefficients(s0, &mut out[0..1536]);
-    put_coefficients(s1, &mut out[1536..]);
-}
-
-fn pack_words(z0: &[u64], z1: &[u64], out: &mut [u8])
-    requires { ⌜ (length (now z0) ≡ 4) × (length (now z1) ≡ 4) × (length (now out) ≡ 64) ⌝ }
-    ensures { λ _. ⌜ now (out .exit) ≡ bytesOf 8 (now (z0 .entry)) ++ bytesOf 8 (now (z1 .entry)) ⌝ }
-{
-    put_words(z0, &mut out[0..32]);
-    put_words(z1, &mut out[32..]);
-}
-
-fn pack_rest(z0: &[u64], z1: &[u64], public: &[u8], out: &mut [u8])
-    requires { ⌜ (length (now z0) ≡ 4) × (length (now z1) ≡ 4) × (length (now public) ≡ 1216) × (length (now out) ≡ 1280) ⌝ }
-    ensures { λ _. ⌜ now (out .exit) ≡ (bytesOf 8 (now (z0 .entry)) ++ bytesOf 8 (now (z1 .entry))) ++ now (public .entry) ⌝ }
-{
-    pack_words(z0, z1, &mut out[0..64]);
-    bytes::copy(public, &mut out[64..]);
-}
-
-// A split key's file: the shares of the secret, those of z, the public key and its hash.
-fn pack(s0: &[u16], s1: &[u16], z0: &[u64], z1: &[u64], public: &[u8], out: &mut [u8])
-    requires { ⌜ (length (now s0) ≡ 768) × (length (now s1) ≡ 768) × (length (now z0) ≡ 4) × (length (now z1) ≡ 4) × (length (now public) ≡ 1216) × (length (now out) ≡ 4352) ⌝ }
-    ensures { λ _. ⌜ now (out .exit) ≡ splitBytes (now (s0 .entry)) (now (s1 .entry)) (now (z0 .entry)) (now (z1 .entry)) (now (public .entry)) ⌝ }
-{
-    pack_coefficients(s0, s1, &mut out[0..3072]);
-    pack_rest(z0, z1, public, &mut out[3072..]);
-}
-
-fn write_split(i: usize, s0: &[u16], s1: &[u16], z0: &[u64], z1: &[u64], public: &[u8])
-    requires { ⌜ (length (now s0) ≡ 768) × (length (now s1) ≡ 768) × (length (now z0) ≡ 4) × (length (now z1) ≡ 4) × (length (now public) ≡ 1216) ⌝ }
-{
-    let mut split = [0u8; 4352];
-    pack(s0, s1, z0, z1, public, &mut split);
-    write_secret(i, &split);
 }
 
 // mlkem import DK MASKS SPLIT

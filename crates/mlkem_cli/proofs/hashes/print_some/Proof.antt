@@ -3,7 +3,7 @@ use mathlib.Core.Path.{sym, subst}
 use native.Mathlib.Omega.{arith}
 use borrow.Author.Needs.{needs}
 use lib.Seq.{length-take-le}
-use Rattle.mlkem_cli.specs.Numbers.{AtMost}
+use Rattle.cli_support.specs.Numbers.{AtMost}
 use Rattle.mlkem_cli.proofs.hashes.print_some.Statement.{statement}
 use Rattle.mlkem_cli.proofs.hashes.print_some.Tie as tie
 

@@ -1,0 +1,30 @@
+use borrow.Author.Needs.{needs}
+use native.Mathlib.Omega.{arith}
+use Rattle.mlkem.proofs.Joined.{two-parts}
+use Rattle.cli_support.specs.LittleEndian.{length-bytesOf}
+use Rattle.cli_support.proofs.split_file.pack_words.Statement.{statement}
+use Rattle.cli_support.proofs.split_file.pack_words.Tie as tie
+
+returns : tie.Need-returns
+returns c =
+    let b = c .before .before .before .before .before .before in
+    let s = b .before .before .before .before .before in
+    let a = s .args in
+    two-parts (a .out .now) 32 (omega (arith, length-bytesOf 8 (a .z0 .now), s .pre)) (omega (arith, length-bytesOf 8 (a .z1 .now), s .pre))
+    (b .put-words .ensures)
+    (c .before .before .put-words2 .ensures)
+
+pub pack-words-spec : {M : Type 1} → statement M
+pack-words-spec =
+    tie.close
+    (tie.spec
+    (λ c. search needs)
+    (λ c. search needs)
+    (λ c. search needs)
+    (λ c κs. search needs)
+    (λ c. search needs)
+    (λ c. search needs)
+    (λ c. search needs)
+    (λ c κs. search needs)
+    (λ c. search needs)
+    returns)

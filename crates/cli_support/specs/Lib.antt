@@ -1,0 +1,4 @@
+pub mod Hex
+pub mod LittleEndian
+pub mod Numbers
+pub mod Split
