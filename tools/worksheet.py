@@ -8,6 +8,10 @@ ALL = 2**64 - 1
 COLUMNS = [(x, y) for y in range(5) for x in range(5)]
 
 
+def lanes_of(data):
+    return [int.from_bytes(data[i:i + 8], "little") for i in range(0, len(data), 8)]
+
+
 def rotate(v, n):
     return (v << n | v >> 64 - n) & ALL
 
