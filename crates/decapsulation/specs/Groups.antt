@@ -27,7 +27,7 @@ module _ (p : Parameters) where
   abbrev rejectOr : SplitKey → List ℕ → SharedList → Shares → Prog SharedList
   rejectOr key c g b = stage9 p (key .z) c >>= stage10 p b g
 
-  -- K' and the coins
+  -- the coins: the last four of stage 3's eight words
   abbrev pub coinsOf : SharedList → SharedList
   coinsOf g = unzip 4 (λ i. sharedAt g (4 + i))
 
