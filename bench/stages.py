@@ -6,10 +6,10 @@ between a border and the next stage counts with that stage: the end of stage 3 w
 import re, sys
 
 EXPAND, COMPRESS, NOISE, ABSORB = (
-    "mlkem::matrix::expand",
+    "kpke::matrix::expand",
     "polynomial_stages::compression::compress_poly",
     "hash_stages::noise::noise_poly",
-    "fips202::masked_absorb::masked_absorb",
+    "masked_fips202::masked_absorb::masked_absorb",
 )
 # what ends at which event, the event's times, and its entries
 PARTS = [

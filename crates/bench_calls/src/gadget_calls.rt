@@ -15,7 +15,7 @@ pub extern "C" fn bench_adder(x: &[u64; 24], y: &[u64; 24], masks: &[u64], left:
     }
     let a = *x;
     let b = *y;
-    let o = gadgets::adder::adder(Recorder { left, value: 0 }, 23, a, b, masks);
+    let o = masked_compression::adder::adder(Recorder { left, value: 0 }, 23, a, b, masks);
     let sum = o.value;
     o.rec.value ^ sum.s0[22] ^ sum.s1[22]
 }
@@ -25,7 +25,13 @@ pub extern "C" fn bench_adder(x: &[u64; 24], y: &[u64; 24], masks: &[u64], left:
 pub extern "C" fn bench_compress10(x0: &[u16], x1: &[u16], masks: &[u64], left: u64) -> u64
     requires { ⌜ (length (now x0) ≡ 64) × (length (now x1) ≡ 64) × Below q (now x0) × Below q (now x1) × (68 ≤ length (now masks)) ⌝ }
 {
-    let o = gadgets::compression::masked_compress(Recorder { left, value: 0 }, 10, x0, x1, masks);
+    let o = masked_compression::compression::masked_compress(
+        Recorder { left, value: 0 },
+        10,
+        x0,
+        x1,
+        masks,
+    );
     let sum = o.value;
     o.rec.value ^ sum.s0[22] ^ sum.s1[22]
 }
@@ -35,7 +41,13 @@ pub extern "C" fn bench_compress10(x0: &[u16], x1: &[u16], masks: &[u64], left: 
 pub extern "C" fn bench_compress4(x0: &[u16], x1: &[u16], masks: &[u64], left: u64) -> u64
     requires { ⌜ (length (now x0) ≡ 64) × (length (now x1) ≡ 64) × Below q (now x0) × Below q (now x1) × (50 ≤ length (now masks)) ⌝ }
 {
-    let o = gadgets::compression::masked_compress(Recorder { left, value: 0 }, 4, x0, x1, masks);
+    let o = masked_compression::compression::masked_compress(
+        Recorder { left, value: 0 },
+        4,
+        x0,
+        x1,
+        masks,
+    );
     let sum = o.value;
     o.rec.value ^ sum.s0[16] ^ sum.s1[16]
 }
@@ -46,7 +58,7 @@ pub extern "C" fn bench_sampler(b0: u64, b1: u64, masks: &[u16], left: u64) -> u
     requires { ⌜ (4 ≤ length (now masks)) × Below q (now masks) ⌝ }
 {
     let b = Shares { s0: b0, s1: b1 };
-    let o = gadgets::sampler::sampler(Recorder { left, value: 0 }, 2, b, masks);
+    let o = masked_sampler::sampler::sampler(Recorder { left, value: 0 }, 2, b, masks);
     o.rec.value ^ (o.s0 as u64) ^ (o.s1 as u64)
 }
 
@@ -62,6 +74,12 @@ pub extern "C" fn bench_fold(w0: &[u64], w1: &[u64], masks: &[u64], left: u64) -
     if masks.len() < 141 {
         return 0;
     }
-    let o = gadgets::comparison::all_zero(Recorder { left, value: 0 }, 135, w0, w1, masks);
+    let o = masked_comparison::comparison::all_zero(
+        Recorder { left, value: 0 },
+        135,
+        w0,
+        w1,
+        masks,
+    );
     o.rec.value ^ o.value.s0 ^ o.value.s1
 }

@@ -1,8 +1,8 @@
 // Sampling, key making, encapsulation and import for C.
 ghost use mathlib.Core.List.{_++_};
 ghost use mathlib.Core.Path.{_≡_};
-ghost use Rattle.ring.specs.Sample.{sampleNtt};
-ghost use Rattle.mlkem.specs.Parameters.{mlKem768};
+ghost use Rattle.codec.specs.Sample.{sampleNtt};
+ghost use Rattle.kpke.specs.Parameters.{mlKem768};
 ghost use Rattle.mlkem.specs.MlKem.{keyGenEk, keyGenDk, encapsKey, encapsCt, publicPart, hashPart};
 ghost use Rattle.mlkem.specs.Refusals.{number, after};
 ghost use Rattle.mlkem.specs.Calls.{sampleAnswer, keyGenAnswer, encapsAnswer, importAnswer, secondCoeffs, secondWords};

@@ -2,7 +2,7 @@
 ghost use mathlib.Core.Path.{_≡_};
 ghost use lib.ListN.{length};
 ghost use Rattle.fips202.specs.Calls.{number, sizedAnswer, sizedOutput};
-ghost use Rattle.fips202.specs.MaskedCalls.{sha3-512Call, shake256Call};
+ghost use Rattle.masked_fips202.specs.MaskedCalls.{sha3-512Call, shake256Call};
 ghost use Rattle.fips202.specs.Sponge.{sha3-256, sha3-512, shake128, shake256};
 use fips202::Answer;
 
@@ -64,7 +64,7 @@ pub extern "C" fn tifo_masked_sha3_512(
     ensures { λ _. ⌜ now (out0 .exit) ≡ sha3-512Call (now (in0 .entry)) (now (in1 .entry)) (now (masks .entry)) (now (out0 .entry)) (now (out1 .entry)) .out0 ⌝ }
     ensures { λ _. ⌜ now (out1 .exit) ≡ sha3-512Call (now (in0 .entry)) (now (in1 .entry)) (now (masks .entry)) (now (out0 .entry)) (now (out1 .entry)) .out1 ⌝ }
 {
-    refusal(fips202::masked_sha3_512(in0, in1, masks, out0, out1))
+    refusal(masked_fips202::masked_sha3_512(in0, in1, masks, out0, out1))
 }
 
 #[no_mangle]
@@ -79,5 +79,5 @@ pub extern "C" fn tifo_masked_shake256(
     ensures { λ _. ⌜ now (out0 .exit) ≡ shake256Call (now (in0 .entry)) (now (in1 .entry)) (now (masks .entry)) (now (out0 .entry)) (now (out1 .entry)) .out0 ⌝ }
     ensures { λ _. ⌜ now (out1 .exit) ≡ shake256Call (now (in0 .entry)) (now (in1 .entry)) (now (masks .entry)) (now (out0 .entry)) (now (out1 .entry)) .out1 ⌝ }
 {
-    refusal(fips202::masked_shake256(in0, in1, masks, out0, out1))
+    refusal(masked_fips202::masked_shake256(in0, in1, masks, out0, out1))
 }

@@ -1,6 +1,6 @@
 // Masked decapsulation and its trace for C.
 ghost use mathlib.Core.Path.{_≡_};
-ghost use Rattle.mlkem.specs.Parameters.{mlKem768};
+ghost use Rattle.kpke.specs.Parameters.{mlKem768};
 ghost use Rattle.mlkem.specs.Refusals.{number, after};
 ghost use Rattle.decapsulation.specs.Calls.{input, decapsAnswer, decapsShares, traceAnswer, traceValue};
 use crate::keys::key_refusal;

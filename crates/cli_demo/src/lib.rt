@@ -14,8 +14,8 @@ use cli_support::little_endian::put_words;
 use cli_support::messages;
 use cli_support::refusals::is_refused;
 use cli_support::strip_file;
+use kpke::copy::copy_bytes;
 use libc::STDOUT_FILENO;
-use mlkem::copy::copy_bytes;
 
 mod text; // lines on standard output
 mod values; // masks and shares

@@ -9,7 +9,7 @@ use Rattle.words.specs.Part.{length-part}
 use Rattle.words.specs.Tab.{tab, tab-of}
 use Rattle.worksheet.specs.SharedList.{sharedList, sharedAt, unzip}
 use Rattle.decapsulation.specs.Groups.{coinsOf}
-use Rattle.mlkem.specs.Parameters.{mlKem768}
+use Rattle.kpke.specs.Parameters.{mlKem768}
 
 last-four : (l : List ℕ) → length l ≡ 8 → take 4 (drop 4 l) ≡ tab 4 (λ i. getD l (4 + i) 0)
 last-four l e =

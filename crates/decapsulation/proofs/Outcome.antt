@@ -15,11 +15,10 @@ use Rattle.worksheet.specs.Ran.{Ran}
 use Rattle.worksheet.specs.SharedList.{SharedList, sharedList}
 use Rattle.mlkem.specs.declared.Answer.{Answer}
 use Rattle.mlkem.specs.declared.Answer.the-variants.{Done, WrongLength, PublicKeyRange, WrongHash, SecretRange, MaskRange, ShareRange, ShortStream, NoSuchStep}
-use Rattle.mlkem.specs.Parameters.{mlKem768}
-use Rattle.mlkem.specs.KPke.{concat, matrix}
+use Rattle.kpke.specs.Parameters.{mlKem768}
+use Rattle.kpke.specs.KPke.{concat, matrix, matrixFull}
 use Rattle.mlkem.specs.Refusals.{after}
-use Rattle.mlkem.specs.Calls.{matrixFull}
-use Rattle.mlkem.specs.Expanded.{Expanded, expanded-concat}
+use Rattle.kpke.specs.Expanded.{Expanded, expanded-concat}
 use Rattle.mlkem.specs.Worksheet.{worksheet}
 use Rattle.decapsulation.specs.Calls.{Input, keyOf, sheet, decapsShares, traceAnswer, traceValue}
 use Rattle.decapsulation.specs.Told.{toldAnswer, toldValue}

@@ -11,9 +11,9 @@ use lib.ListN.{length, take, drop, replicate, length-drop}
 use Rattle.worksheet.specs.Uses.{length-entries}
 use Rattle.mlkem.specs.declared.Answer.{Answer}
 use Rattle.mlkem.specs.declared.Answer.the-variants.{Done, WrongLength, MaskRange, ShareRange, ShortStream, NoSuchStep}
-use Rattle.mlkem.specs.Parameters.{mlKem768}
+use Rattle.kpke.specs.Parameters.{mlKem768}
 use Rattle.mlkem.specs.Refusals.{number, answer, lent, sized, reduced}
-use Rattle.mlkem.specs.Calls.{matrixFull}
+use Rattle.kpke.specs.KPke.{matrixFull}
 use Rattle.mlkem.specs.WorksheetUses.{uses-worksheet}
 use Rattle.decapsulation.specs.Calls.{Input, keyOf, sheet, lengths, decapsAnswer, traceAnswer}
 use Rattle.decapsulation.specs.Told.{toldAnswer}

@@ -8,9 +8,10 @@ use Rattle.worksheet.specs.Run.{Run, run}
 use Rattle.worksheet.specs.SharedList.{SharedList, sharedList}
 use Rattle.mlkem.specs.declared.Answer.{Answer}
 use Rattle.mlkem.specs.declared.Answer.the-variants.{WrongLength, MaskRange, ShareRange, ShortStream, NoSuchStep}
-use Rattle.mlkem.specs.Parameters.{Parameters, ekBytes, ctBytes}
+use Rattle.kpke.specs.Parameters.{Parameters, ekBytes, ctBytes}
 use Rattle.mlkem.specs.Refusals.{Row, row, answer, Lent, lent, sized, reduced}
-use Rattle.mlkem.specs.Calls.{matrixFull, rhoOf}
+use Rattle.kpke.specs.KPke.{matrixFull}
+use Rattle.mlkem.specs.Calls.{rhoOf}
 use Rattle.mlkem.specs.Worksheet.{SplitKey, worksheet}
 use Rattle.mlkem.specs.WorksheetUses.{stripWords, stripCoeffs}
 

@@ -9,7 +9,7 @@ use lib.Seq.{take-at, drop-at}
 use Rattle.words.specs.Bounded.{Below, below-drop}
 use Rattle.worksheet.specs.SharedList.{joinedList}
 use Rattle.mlkem.specs.declared.Answer.the-variants.{Done}
-use Rattle.mlkem.specs.Parameters.{mlKem768}
+use Rattle.kpke.specs.Parameters.{mlKem768}
 use Rattle.mlkem.specs.Fits.{fits768}
 use Rattle.mlkem.specs.MlKem.{publicPart, hashPart}
 use Rattle.mlkem.specs.MlKem as fips203

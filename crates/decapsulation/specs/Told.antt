@@ -7,7 +7,7 @@ use lib.ListN.{length}
 use Rattle.worksheet.specs.Recording.{noteAll}
 use Rattle.mlkem.specs.declared.Answer.{Answer}
 use Rattle.mlkem.specs.declared.Answer.the-variants.{WrongLength, NoSuchStep}
-use Rattle.mlkem.specs.Parameters.{Parameters}
+use Rattle.kpke.specs.Parameters.{Parameters}
 use Rattle.mlkem.specs.Refusals.{row, answer, lent, sized}
 use Rattle.decapsulation.specs.Calls.{Input, sheet, lengths, rangeRows}
 

@@ -3,15 +3,15 @@ ghost use mathlib.Core.Bool.{_&&_};
 ghost use mathlib.Core.Path.{_≡_};
 ghost use Prim.Native.Nat.{_+_, _<_, _≤_};
 ghost use lib.ListN.{length};
-ghost use Rattle.mlkem.specs.Parameters.{mlKem768};
+ghost use Rattle.kpke.specs.Parameters.{mlKem768};
 ghost use Rattle.mlkem.specs.Refusals.{after, reduced as reducedOf};
 ghost use Rattle.decapsulation.specs.Calls.{input, decapsAnswer, decapsShares, traceAnswer, traceValue};
 ghost use Rattle.decapsulation.specs.Told.{toldAnswer, toldValue};
 use crate::lengths::exact_key;
 use crate::lengths::exact_rest;
 use crate::worksheet_run::run;
+use kpke::matrix::expand;
 use mlkem::Answer;
-use mlkem::matrix::expand;
 use mlkem::tests::reduced;
 use worksheet::Recorder;
 

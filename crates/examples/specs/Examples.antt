@@ -15,13 +15,13 @@ use Rattle.worksheet.specs.Run.{run}
 use Rattle.worksheet.specs.Sharing.{shares, joined}
 use Rattle.worksheet.specs.MaskedAnd.{maskedAnd}
 use Rattle.worksheet.specs.Gates.{maskedXor}
-use Rattle.ring.specs.Bytes.{bitsOf}
-use Rattle.ring.specs.Compress.{compress, decompress}
-use Rattle.ring.specs.Sample.{first, second, accepted, sum, samplePolyCbd}
+use Rattle.codec.specs.Bytes.{bitsOf}
+use Rattle.codec.specs.Compress.{compress, decompress}
+use Rattle.codec.specs.Sample.{first, second, accepted, sum, samplePolyCbd}
 use Rattle.ring.specs.Transform.{bitRev7, zeta}
-use Rattle.gadgets.specs.Adder.{maskPlane, carryStep, sumPlane, adder}
-use Rattle.gadgets.specs.Compression.{fixedPoint, maskedCompress}
-use Rattle.gadgets.specs.Coefficient.{bitToCoeff, sums, sampler}
+use Rattle.masked_compression.specs.Adder.{maskPlane, carryStep, sumPlane, adder}
+use Rattle.masked_compression.specs.Compression.{fixedPoint, maskedCompress}
+use Rattle.masked_sampler.specs.Coefficient.{bitToCoeff, sums, sampler}
 
 -- what the definitions give, and document 01's result
 pub record Row : Type 0 where

@@ -3,11 +3,3 @@ pub mod Padding
 pub mod Calls
 pub mod Blocks
 pub mod Lanes
-pub mod MaskedSponge
-pub mod MaskedSpongeUses
-pub mod MaskedBytes
-pub mod MaskedCalls
-pub mod XorBytes
-pub mod MaskedSpongeValue
-pub mod MaskedBlocksSilence
-pub mod MaskedSpongeSilence

@@ -24,7 +24,7 @@ fn mix_block(s: State, p: &[u8], rate: usize) -> State
 }
 
 // At most 200 bytes, and zeros.
-pub(crate) fn zero_filled(p: &[u8]) -> [u8; 200]
+pub fn zero_filled(p: &[u8]) -> [u8; 200]
     requires { ⌜ length (now p) ≤ 200 ⌝ }
     ensures { λ r. ⌜ r ≡ now (p .entry) ++ replicate (200 - length (now (p .entry))) 0 ⌝ }
 {
@@ -38,7 +38,7 @@ pub(crate) fn zero_filled(p: &[u8]) -> [u8; 200]
 }
 
 // The message's rest p, which is shorter than a block, and its padding.
-pub(crate) fn last_block(p: &[u8], rate: usize, suffix: u8) -> [u8; 200]
+pub fn last_block(p: &[u8], rate: usize, suffix: u8) -> [u8; 200]
     requires { ⌜ (length (now p) < rate) × (rate ≤ 200) × (suffix < 128) ⌝ }
     ensures { λ r. ⌜ take rate r ≡ now (p .entry) ++ padding suffix (rate - length (now (p .entry))) ⌝ }
 {

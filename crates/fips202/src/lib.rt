@@ -7,15 +7,9 @@ ghost use Rattle.fips202.specs.Sponge.{sponge as spongeOf, sha3-256, sha
 use crate::absorb::absorb;
 use crate::squeeze::squeeze;
 
-mod absorb; // a message taken in
+pub mod absorb; // a message taken in
 pub mod bytes; // a lane and its bytes
-pub mod masked; // SHA3-512 and SHAKE256 on two shares
-pub mod masked_absorb; // a message taken in on two shares
-pub mod masked_squeeze; // output given out on two shares
-mod squeeze; // output given out
-
-pub use masked::masked_sha3_512;
-pub use masked::masked_shake256;
+pub mod squeeze; // output given out
 
 // A call's answer; specs/Calls.antt gives document 01's number for each.
 pub enum Answer {

@@ -8,7 +8,7 @@ use crate::bytes;
 use keccak::state::State;
 
 // The first bytes of the state, whole lanes first.
-pub(crate) fn extract(s: State, out: &mut [u8])
+pub fn extract(s: State, out: &mut [u8])
     requires { ⌜ length (now out) ≤ 200 ⌝ }
     ensures { λ _. ⌜ now (out .exit) ≡ tab (length (now (out .entry))) (byteOf (s .lanes)) ⌝ }
 {

@@ -13,11 +13,11 @@ use Rattle.worksheet.specs.declared.Recorder.{Recorder}
 use Rattle.worksheet.specs.Ran.{Ran, bind, over}
 use Rattle.worksheet.specs.RanLoops.{chain-start}
 use Rattle.worksheet.specs.SharedList.{SharedList, sharedList, sharedAt, unzip}
-use Rattle.fips202.specs.MaskedSponge.{maskedAbsorb, maskedSqueeze, maskedSponge}
-use Rattle.mlkem.specs.KPke.{concat}
+use Rattle.masked_fips202.specs.MaskedSponge.{maskedAbsorb, maskedSqueeze, maskedSponge}
+use Rattle.kpke.specs.KPke.{concat}
 use Rattle.mlkem.specs.Worksheet.{bytesOf, four, hashShared}
 use Rattle.mlkem.specs.WordBytes.{length-bytesOf, bytesOf-append}
-use Rattle.mlkem.proofs.Joined.{two-parts}
+use Rattle.kpke.proofs.Joined.{two-parts}
 
 bytesOf-one : (x : ℕ) → bytesOf (x ∷ []) ≡ digits 256 8 x
 unfolding bytesOf

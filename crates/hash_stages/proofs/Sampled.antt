@@ -10,9 +10,9 @@ use Rattle.worksheet.specs.declared.Shares.{Shares}
 use Rattle.worksheet.specs.Ran.{Ran}
 use Rattle.worksheet.specs.Sharing.{shares}
 use Rattle.worksheet.specs.SharedList.{SharedList}
-use Rattle.gadgets.specs.Coefficient.{sampler}
-use Rattle.gadgets.specs.Coefficient as Coefficient
-use Rattle.gadgets.specs.SamplerLaws.{sampler-cong}
+use Rattle.masked_sampler.specs.Coefficient.{sampler}
+use Rattle.masked_sampler.specs.Coefficient as Coefficient
+use Rattle.masked_sampler.specs.SamplerLaws.{sampler-cong}
 use Rattle.mlkem.specs.Worksheet.{bitOf}
 
 -- the word that holds coefficient i's bits, from the first of them on

@@ -7,12 +7,12 @@ ghost use Rattle.words.specs.Tab.{tab};
 ghost use Rattle.worksheet.specs.Prog.{word};
 ghost use Rattle.worksheet.specs.Ran.{Draws};
 ghost use Rattle.worksheet.specs.SharedList.{sharedList};
-ghost use Rattle.mlkem.specs.Parameters.{mlKem768};
+ghost use Rattle.kpke.specs.Parameters.{mlKem768};
 ghost use Rattle.mlkem.specs.Worksheet.{bytesOf, hashShared, stage3 as stage3Of, stage9 as stage9Of};
 use fips202::bytes::store;
-use fips202::masked_absorb::masked_absorb;
 use keccak::state::State;
-use mlkem::copy::copy_bytes;
+use kpke::copy::copy_bytes;
+use masked_fips202::masked_absorb::masked_absorb;
 use worksheet::Recorder;
 
 // The bytes of words, the lowest first.

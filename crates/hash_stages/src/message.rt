@@ -7,10 +7,10 @@ ghost use Rattle.words.specs.Residue.{q};
 ghost use Rattle.worksheet.specs.Prog.{coeff};
 ghost use Rattle.worksheet.specs.Ran.{Draws};
 ghost use Rattle.worksheet.specs.SharedList.{sharedList};
-ghost use Rattle.mlkem.specs.Parameters.{mlKem768};
+ghost use Rattle.kpke.specs.Parameters.{mlKem768};
 ghost use Rattle.mlkem.specs.Worksheet.{stage4 as stage4Of};
-use gadgets::coefficient::bit_of;
-use gadgets::coefficient::bit_to_coeff;
+use masked_sampler::coefficient::bit_of;
+use masked_sampler::coefficient::bit_to_coeff;
 use worksheet::Recorder;
 use worksheet::Shares;
 

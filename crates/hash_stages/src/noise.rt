@@ -8,12 +8,12 @@ ghost use Rattle.worksheet.specs.Prog.{times, coeff};
 ghost use Rattle.worksheet.specs.Ran.{Ran, Draws};
 ghost use Rattle.worksheet.specs.SharedList.{sharedList, zip};
 ghost use Rattle.worksheet.specs.Sharing.{shares};
-ghost use Rattle.gadgets.specs.Coefficient.{sampler as samplerOf};
-ghost use Rattle.mlkem.specs.Parameters.{mlKem768};
+ghost use Rattle.masked_sampler.specs.Coefficient.{sampler as samplerOf};
+ghost use Rattle.kpke.specs.Parameters.{mlKem768};
 ghost use Rattle.mlkem.specs.Worksheet.{bitOf, noisePoly, stage5 as stage5Of};
 ghost use Rattle.mlkem.specs.Layout.{polynomials, noiseOf};
 use crate::hashing::hash_shared;
-use gadgets::sampler::sampler;
+use masked_sampler::sampler::sampler;
 use worksheet::Recorder;
 use worksheet::Shares;
 

@@ -5,9 +5,9 @@ ghost use lib.ListN.{length};
 ghost use Rattle.worksheet.specs.Prog.{word};
 ghost use Rattle.worksheet.specs.Ran.{Draws};
 ghost use Rattle.worksheet.specs.SharedList.{sharedList};
-ghost use Rattle.mlkem.specs.Parameters.{mlKem768};
+ghost use Rattle.kpke.specs.Parameters.{mlKem768};
 ghost use Rattle.mlkem.specs.Worksheet.{stage10 as stage10Of};
-use gadgets::selection::select;
+use masked_comparison::selection::select;
 use worksheet::Recorder;
 use worksheet::Shares;
 

@@ -43,7 +43,7 @@ fn sha3_512(in0: &[u8], in1: &[u8], masks: &[u64]) {
     let mut out0 = [0u8; 64];
     let mut out1 = [0u8; 64];
     print(b"masked sha3-512 ");
-    print_answer(fips202::masked_sha3_512(in0, in1, masks, &mut out0, &mut out1));
+    print_answer(masked_fips202::masked_sha3_512(in0, in1, masks, &mut out0, &mut out1));
     join(&mut out0, &out1);
     print_hex(&out0);
 }
@@ -52,7 +52,7 @@ fn shake256(in0: &[u8], in1: &[u8], masks: &[u64]) {
     let mut out0 = [0u8; 200];
     let mut out1 = [0u8; 200];
     print(b"masked shake256 ");
-    print_answer(fips202::masked_shake256(in0, in1, masks, &mut out0, &mut out1));
+    print_answer(masked_fips202::masked_shake256(in0, in1, masks, &mut out0, &mut out1));
     join(&mut out0, &out1);
     print_hex(&out0);
 }
@@ -104,7 +104,7 @@ fn hash_messages(masks: &[u64]) {
 fn refuse_sha3_512(in0: &[u8], in1: &[u8], masks: &[u64], out0: &mut [u8], out1: &mut [u8]) {
     clear(out0);
     clear(out1);
-    print_answer(fips202::masked_sha3_512(in0, in1, masks, out0, out1));
+    print_answer(masked_fips202::masked_sha3_512(in0, in1, masks, out0, out1));
     print_hex(out0);
     print_hex(out1);
 }
@@ -112,7 +112,7 @@ fn refuse_sha3_512(in0: &[u8], in1: &[u8], masks: &[u64], out0: &mut [u8], out1:
 fn refuse_shake256(in0: &[u8], in1: &[u8], masks: &[u64], out0: &mut [u8], out1: &mut [u8]) {
     clear(out0);
     clear(out1);
-    print_answer(fips202::masked_shake256(in0, in1, masks, out0, out1));
+    print_answer(masked_fips202::masked_shake256(in0, in1, masks, out0, out1));
     print_hex(out0);
     print_hex(out1);
 }

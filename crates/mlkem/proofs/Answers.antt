@@ -7,11 +7,12 @@ use borrow.Author.Tests.{eq-eqb}
 use lib.ListN.{length, take, drop}
 use Rattle.mlkem.specs.declared.Answer.{Answer}
 use Rattle.mlkem.specs.declared.Answer.the-variants.{Done, PublicKeyRange, WrongHash, SecretRange, MaskRange, ShortStream}
-use Rattle.mlkem.specs.Parameters.{mlKem768}
-use Rattle.mlkem.specs.Functions.{H, G₁}
+use Rattle.kpke.specs.Parameters.{mlKem768}
+use Rattle.kpke.specs.Functions.{H, G₁}
 use Rattle.mlkem.specs.MlKem.{same}
 use Rattle.mlkem.specs.Refusals.{answer, sized, reduced}
-use Rattle.mlkem.specs.Calls.{matrixFull, coefficients, keyRows, keyGenAnswer, encapsAnswer, importAnswer}
+use Rattle.kpke.specs.KPke.{matrixFull, coefficients}
+use Rattle.mlkem.specs.Calls.{keyRows, keyGenAnswer, encapsAnswer, importAnswer}
 
 pub keyGenAnswer-sized : (d z ek dk : List ℕ) → length d ≡ 32 → length z ≡ 32 → length ek ≡ 1184 → length dk ≡ 2400
     → keyGenAnswer mlKem768 d z ek dk ≡ cond (not (matrixFull 3 (G₁ (d ++ 3 ∷ [])))) ShortStream Done

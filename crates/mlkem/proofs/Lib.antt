@@ -1,9 +1,2 @@
-pub mod Joined
-pub mod Tested
-pub mod Sampled
-pub mod Encoded
-pub mod Parts
-pub mod Encrypted
-pub mod Keys
 pub mod Answers
 pub mod Shares

@@ -8,8 +8,9 @@ use Rattle.words.specs.Bounded.{Below}
 use Rattle.words.specs.Residue.{q}
 use Rattle.words.specs.Tab.{tab, tab-cong}
 use Rattle.ring.specs.Polynomial.{minus, sub}
-use Rattle.mlkem.specs.Parameters.{mlKem768}
-use Rattle.mlkem.specs.Calls.{coefficients, secondCoeffs}
+use Rattle.kpke.specs.Parameters.{mlKem768}
+use Rattle.kpke.specs.KPke.{coefficients}
+use Rattle.mlkem.specs.Calls.{secondCoeffs}
 
 pub sub-secondCoeffs : (dk a : List ℕ) → length (coefficients 3 (take 1152 dk)) ≡ 768 → Below q a → sub (coefficients 3 (take 1152 dk)) a ≡ secondCoeffs mlKem768 dk a
 unfolding sub secondCoeffs

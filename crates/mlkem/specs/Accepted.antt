@@ -16,12 +16,13 @@ use Rattle.words.specs.Tab.{getD-tab}
 use Rattle.fips202.specs.Sponge.{laneOf}
 use Rattle.mlkem.specs.declared.Answer.{Answer}
 use Rattle.mlkem.specs.declared.Answer.the-variants.{Done, WrongLength, PublicKeyRange, WrongHash, SecretRange, MaskRange}
-use Rattle.mlkem.specs.Parameters.{Parameters, vectorBytes, ekBytes, dkBytes}
-use Rattle.mlkem.specs.Functions.{H}
+use Rattle.kpke.specs.Parameters.{Parameters, vectorBytes, ekBytes, dkBytes}
+use Rattle.kpke.specs.Functions.{H}
 use Rattle.mlkem.specs.MlKem.{same, secretPart, publicPart, hashPart, zPart}
 use Rattle.mlkem.specs.Refusals.{number, answer, lent, sized, reduced}
 use Rattle.mlkem.specs.TestLaws.{and-left, reduced-below}
-use Rattle.mlkem.specs.Calls.{coefficients, keyRows, importAnswer, secondCoeffs, secondWords}
+use Rattle.kpke.specs.KPke.{coefficients}
+use Rattle.mlkem.specs.Calls.{keyRows, importAnswer, secondCoeffs, secondWords}
 
 -- a call that is carried out passed the row's test
 passed : (b : Bool) (r : Answer) {s : Answer} → 0 < number r → cond (not b) r s ≡ Done → (b ≡ true) × (s ≡ Done)

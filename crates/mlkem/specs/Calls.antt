@@ -1,5 +1,5 @@
 -- What key making, encapsulation, import and sampling answer and leave in the lent buffers, for a parameter set.
-use mathlib.Core.Bool.{Bool, not}
+use mathlib.Core.Bool.{not}
 use mathlib.Core.List.{List, [], _∷_, _++_}
 use Prim.Native.Nat.{ℕ, _+_, _-_, _*_, _%_}
 use lib.ListN.{getD, take, drop}
@@ -7,28 +7,18 @@ use Rattle.words.specs.Word.{xor}
 use Rattle.words.specs.Residue.{q}
 use Rattle.fips202.specs.Sponge.{laneOf}
 use Rattle.words.specs.Tab.{tab}
-use Rattle.words.specs.Table.{every}
-use Rattle.ring.specs.Bytes.{byteDecode}
-use Rattle.ring.specs.Sample.{full}
+use Rattle.codec.specs.Sample.{full}
 use Rattle.mlkem.specs.declared.Answer.{Answer}
 use Rattle.mlkem.specs.declared.Answer.the-variants.{WrongLength, PublicKeyRange, WrongHash, SecretRange, MaskRange, ShortStream}
-use Rattle.mlkem.specs.Parameters.{Parameters, vectorBytes, ekBytes, dkBytes, ctBytes}
-use Rattle.mlkem.specs.Functions.{H, G₁, XOF}
-use Rattle.mlkem.specs.KPke.{parts, concat}
+use Rattle.kpke.specs.Parameters.{Parameters, vectorBytes, ekBytes, dkBytes, ctBytes}
+use Rattle.kpke.specs.Functions.{H, G₁}
+use Rattle.kpke.specs.KPke.{coefficients, matrixFull}
 use Rattle.mlkem.specs.MlKem.{same, secretPart, publicPart, hashPart, zPart}
 use Rattle.mlkem.specs.Refusals.{Row, row, answer, lent, sized, reduced}
 
 -- sampling
 unfoldable pub sampleAnswer : List ℕ → List ℕ → Answer
 sampleAnswer stream out = answer (row (not (sized (lent stream 840 ∷ lent out 256 ∷ []))) WrongLength ∷ row (not (full stream)) ShortStream ∷ [])
-
--- each of the matrix's streams yields 256 coefficients
-unfoldable pub matrixFull : ℕ → List ℕ → Bool
-matrixFull k rho = every k (λ i. every k (λ j. full (XOF rho i j)))
-
--- the coefficients that an encoded vector holds, as they stand
-unfoldable pub coefficients : ℕ → List ℕ → List ℕ
-coefficients k b = concat k (λ i. byteDecode 12 (parts 384 b i))
 
 module _ (p : Parameters) where
   abbrev pub rhoOf : List ℕ → List ℕ

@@ -13,12 +13,12 @@ use lib.ListN.{length, drop, take-append-drop, length-drop}
 use lib.Seq.{drop-at}
 use Rattle.words.specs.Bounded.{Below, below-take, below-drop}
 use Rattle.words.specs.Part.{length-part, part-append}
-use Rattle.ring.specs.Bytes.{byteEncode, byteDecode}
-use Rattle.ring.specs.BytesLaws.{length-byteEncode, length-byteDecode, below-byteDecode, byteDecode-byteEncode, byteEncode-byteDecode}
-use Rattle.mlkem.specs.Parameters.{Parameters, ctBytes}
-use Rattle.mlkem.specs.KPke.{parts, concat}
-use Rattle.mlkem.specs.VectorLaws
-use Rattle.mlkem.specs.VectorLaws.{part-fits, length-concat, concat-cong, concat-parts, parts-concat}
+use Rattle.codec.specs.Bytes.{byteEncode, byteDecode}
+use Rattle.codec.specs.BytesLaws.{length-byteEncode, length-byteDecode, below-byteDecode, byteDecode-byteEncode, byteEncode-byteDecode}
+use Rattle.kpke.specs.Parameters.{Parameters, ctBytes}
+use Rattle.kpke.specs.KPke.{parts, concat}
+use Rattle.kpke.specs.VectorLaws
+use Rattle.kpke.specs.VectorLaws.{part-fits, length-concat, concat-cong, concat-parts, parts-concat}
 use Rattle.mlkem.specs.PlanesValue.{planeOf, ext-planes}
 use Rattle.mlkem.specs.Worksheet.{ciphertextWord, planeWords}
 

@@ -14,13 +14,13 @@ use Rattle.words.specs.WordLaws.{xor-same, xor-zero, xor-cancel}
 use Rattle.words.specs.Bounded.{Below}
 use Rattle.words.specs.Plane.{plane-bits}
 use Rattle.words.specs.Table.{every, every-at, every-true}
-use Rattle.ring.specs.Compress.{compress}
-use Rattle.ring.specs.CompressLaws.{compress-lt, getD-compress}
+use Rattle.codec.specs.Compress.{compress}
+use Rattle.codec.specs.CompressLaws.{compress-lt, getD-compress}
 use Rattle.worksheet.specs.Turns.{Each}
 use Rattle.worksheet.specs.Gives.{Gives, ret-g, gives-bind, gives-weaken, gives-times}
 use Rattle.worksheet.specs.Sharing.{none, Sharing}
-use Rattle.gadgets.specs.ComparisonLaws.{isZero, gives-addPublic, gives-allZero}
-use Rattle.mlkem.specs.Parameters.{Parameters, ctBytes}
+use Rattle.masked_comparison.specs.ComparisonLaws.{isZero, gives-addPublic, gives-allZero}
+use Rattle.kpke.specs.Parameters.{Parameters, ctBytes}
 use Rattle.mlkem.specs.MlKem.{same}
 use Rattle.mlkem.specs.TestLaws.{same-refl, same-true}
 use Rattle.mlkem.specs.Worksheet.{Planes, Reencrypted, nothing, planeWord, ciphertextWord, planeWords, stage7, stage8}

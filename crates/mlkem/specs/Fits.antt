@@ -1,7 +1,7 @@
 -- What the laws of the worksheet ask of a parameter set.
 use Prim.Native.Nat.{ℕ, _*_, _<_}
 use native.Mathlib.Omega.{arith}
-use Rattle.mlkem.specs.Parameters.{Parameters, mlKem768}
+use Rattle.kpke.specs.Parameters.{Parameters, mlKem768}
 
 pub record Fits (p : Parameters) : Type 0 where
   pub eta1 : 0 < p .eta1

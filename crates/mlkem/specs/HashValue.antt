@@ -14,10 +14,10 @@ use Rattle.worksheet.specs.Gives.{Gives, gives-weaken}
 use Rattle.worksheet.specs.SharedList.{SharedList, sharedList, sharedAt, unzip, sharedAt-unzip, joinedList}
 use Rattle.fips202.specs.Sponge.{padded, absorbed, squeezed, sponge, sha3-512, shake256}
 use Rattle.fips202.specs.Lanes.{byte-place}
-use Rattle.fips202.specs.XorBytes.{byte-xor}
-use Rattle.fips202.specs.MaskedSpongeValue.{SharedMessage, outputWord, gives-maskedSponge}
-use Rattle.mlkem.specs.Parameters.{Parameters}
-use Rattle.mlkem.specs.Functions.{J, G₁, G₂}
+use Rattle.masked_fips202.specs.XorBytes.{byte-xor}
+use Rattle.masked_fips202.specs.MaskedSpongeValue.{SharedMessage, outputWord, gives-maskedSponge}
+use Rattle.kpke.specs.Parameters.{Parameters}
+use Rattle.kpke.specs.Functions.{J, G₁, G₂}
 use Rattle.mlkem.specs.Worksheet.{bytesOf, four, hashShared, stage3, stage9}
 use Rattle.mlkem.specs.WordBytes.{length-bytesOf, below-bytesOf, getD-bytesOf, take-bytesOf, drop-bytesOf}
 use Rattle.mlkem.specs.Joined.{WordSharing}

@@ -4,12 +4,12 @@ use mathlib.Core.List.{List, _++_}
 use Prim.Native.Nat.{ℕ, _*_, _^_, _<_}
 use lib.ListN.{length, getD}
 use Rattle.words.specs.Bounded.{Below}
-use Rattle.ring.specs.Bytes.{byteEncode}
+use Rattle.codec.specs.Bytes.{byteEncode}
 use Rattle.ring.specs.Polynomial.{add}
 use Rattle.worksheet.specs.Sharing.{Sharing}
 use Rattle.worksheet.specs.SharedList.{SharedList, sharedAt, joinedList}
-use Rattle.mlkem.specs.Parameters.{Parameters, ekBytes}
-use Rattle.mlkem.specs.KPke.{parts, concat}
+use Rattle.kpke.specs.Parameters.{Parameters, ekBytes}
+use Rattle.kpke.specs.KPke.{parts, concat}
 use Rattle.mlkem.specs.Worksheet.{SplitKey, bytesOf}
 
 -- the sums modulo q of two shares of coefficients

@@ -8,18 +8,18 @@ use lib.Seq.{take-at, drop-at, drop-drop, take-length}
 use Rattle.words.specs.Bounded.{below-take, below-drop}
 use Rattle.words.specs.Tab.{length-tab}
 use Rattle.words.specs.Part.{length-part}
-use Rattle.ring.specs.Bytes.{byteEncode, byteDecode12}
-use Rattle.ring.specs.BytesLaws.{length-byteEncode, byteDecode12-byteEncode}
-use Rattle.ring.specs.Compress.{compress}
+use Rattle.codec.specs.Bytes.{byteEncode, byteDecode12}
+use Rattle.codec.specs.BytesLaws.{length-byteEncode, byteDecode12-byteEncode}
+use Rattle.codec.specs.Compress.{compress}
 use Rattle.ring.specs.Polynomial.{sub}
 use Rattle.ring.specs.Sum.{below-add, length-add}
 use Rattle.ring.specs.Transform.{inverseNtt}
 use Rattle.worksheet.specs.SharedList.{joinedList}
-use Rattle.mlkem.specs.Parameters.{Parameters, vectorBytes, ekBytes}
-use Rattle.mlkem.specs.KPke.{parts, concat, secondDecoded, noisyMessage, decrypt}
+use Rattle.kpke.specs.Parameters.{Parameters, vectorBytes, ekBytes}
+use Rattle.kpke.specs.KPke.{parts, concat, secondDecoded, noisyMessage, decrypt}
 use Rattle.mlkem.specs.MlKem.{secretPart, publicPart, hashPart, zPart}
-use Rattle.mlkem.specs.VectorLaws
-use Rattle.mlkem.specs.VectorLaws.{part-fits, length-concat, parts-concat, dot-cong}
+use Rattle.kpke.specs.VectorLaws
+use Rattle.kpke.specs.VectorLaws.{part-fits, length-concat, parts-concat, dot-cong}
 use Rattle.mlkem.specs.Worksheet.{SplitKey, bytesOf}
 use Rattle.mlkem.specs.WordBytes.{length-bytesOf}
 use Rattle.mlkem.specs.Joined.{joinedCoeffs, joinedDk, InOrder}

@@ -7,7 +7,7 @@ use lib.ListN.{length, getD}
 use Rattle.words.specs.Residue.{q}
 use Rattle.words.specs.Tab.{tab, length-tab, getD-tab, tab-of}
 use Rattle.words.specs.Digit.{digit, xor-digit}
-use Rattle.ring.specs.Bytes.{bitsOf}
+use Rattle.codec.specs.Bytes.{bitsOf}
 use Rattle.ring.specs.Polynomial.{add}
 use Rattle.ring.specs.Sum.{length-add, getD-add, getD-add-lt}
 use Rattle.worksheet.specs.declared.Shares.{Shares}

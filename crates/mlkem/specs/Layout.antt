@@ -5,7 +5,7 @@ use lib.ListN.{take, drop}
 use Rattle.words.specs.Tab.{tab}
 use Rattle.worksheet.specs.declared.Shares.{Shares}
 use Rattle.worksheet.specs.SharedList.{SharedList, sharedList, zip}
-use Rattle.mlkem.specs.KPke.{parts}
+use Rattle.kpke.specs.KPke.{parts}
 use Rattle.mlkem.specs.Worksheet.{Noise, Reencrypted, Planes}
 
 -- part i of n elements of both shares

@@ -9,8 +9,8 @@ use lib.Seq.{length-take-le, take-at, drop-at}
 use Rattle.words.specs.Part.{part-take, part-append}
 use Rattle.words.specs.Tab.{tab, tab-cong}
 use Rattle.worksheet.specs.SharedList.{SharedList, sharedList}
-use Rattle.mlkem.specs.KPke.{parts}
-use Rattle.mlkem.specs.VectorLaws.{part-fits}
+use Rattle.kpke.specs.KPke.{parts}
+use Rattle.kpke.specs.VectorLaws.{part-fits}
 use Rattle.mlkem.specs.Layout.{partOf, partsBy}
 
 -- l, its part i of n elements now r

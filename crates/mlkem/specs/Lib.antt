@@ -1,7 +1,3 @@
-pub mod Parameters
-pub mod Functions
-pub mod KPke
-pub mod VectorLaws
 pub mod MlKem
 pub mod Refusals
 pub mod TestLaws
@@ -11,14 +7,12 @@ pub mod WorksheetUses
 pub mod Layout
 pub mod LayoutLaws
 pub mod Split
-pub mod Expanded
 pub mod Accepted
 pub mod Fits
 pub mod Joined
 pub mod WordBytes
 pub mod JoinedLaws
 pub mod JoinedKey
-pub mod DotLaws
 pub mod PolynomialValue
 pub mod PlanesValue
 pub mod MessageValue

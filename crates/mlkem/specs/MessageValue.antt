@@ -10,14 +10,14 @@ use Rattle.words.specs.Tab.{tab, length-tab, getD-tab, tab-of}
 use Rattle.words.specs.Numeral.{value}
 use Rattle.words.specs.Digit.{digit, digit-lt}
 use Rattle.words.specs.Residue.{q}
-use Rattle.ring.specs.Bytes.{bitsOf, byteEncode, byteDecode}
-use Rattle.ring.specs.BytesLaws.{length-bitsOf, below-bitsOf, getD-numbersOf, bitsOf-numbersOf, length-byteEncode, below-byteEncode, length-byteDecode}
-use Rattle.ring.specs.Compress.{compress, decompress}
+use Rattle.codec.specs.Bytes.{bitsOf, byteEncode, byteDecode}
+use Rattle.codec.specs.BytesLaws.{length-bitsOf, below-bitsOf, getD-numbersOf, bitsOf-numbersOf, length-byteEncode, below-byteEncode, length-byteDecode}
+use Rattle.codec.specs.Compress.{compress, decompress}
 use Rattle.worksheet.specs.Gives.{Gives, ret-g, gives-bind, gives-times}
 use Rattle.worksheet.specs.Sharing.{joined, none}
 use Rattle.worksheet.specs.SharedList.{SharedList}
-use Rattle.gadgets.specs.CoefficientLaws.{gives-bitToCoeff, bit-1665}
-use Rattle.mlkem.specs.Parameters.{Parameters}
+use Rattle.masked_sampler.specs.CoefficientLaws.{gives-bitToCoeff, bit-1665}
+use Rattle.kpke.specs.Parameters.{Parameters}
 use Rattle.mlkem.specs.Worksheet.{bytesOf, bitOf, stage2, stage4}
 use Rattle.mlkem.specs.WordBytes.{length-bytesOf, below-bytesOf, bitsOf-bytesOf, getD-bitsOf, ext-bytes}
 use Rattle.mlkem.specs.PlanesValue.{planeOf, digit-planeOf, gives-compressPoly}

@@ -4,9 +4,9 @@ use mathlib.Core.List.{List, [], _∷_, _++_}
 use Prim.Native.Nat.{ℕ, _+_}
 use lib.Dec.{eqb}
 use lib.ListN.{take, drop}
-use Rattle.mlkem.specs.Parameters.{Parameters, vectorBytes, ekBytes}
-use Rattle.mlkem.specs.Functions.{H, J, G₁, G₂}
-use Rattle.mlkem.specs.KPke.{ekPke, dkPke, encrypt, decrypt}
+use Rattle.kpke.specs.Parameters.{Parameters, vectorBytes, ekBytes}
+use Rattle.kpke.specs.Functions.{H, J, G₁, G₂}
+use Rattle.kpke.specs.KPke.{ekPke, dkPke, encrypt, decrypt}
 
 -- two strings are equal
 unfoldable pub same : List ℕ → List ℕ → Bool

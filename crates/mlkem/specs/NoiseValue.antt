@@ -10,16 +10,16 @@ use Rattle.words.specs.Bounded.{below-nil, below-cons}
 use Rattle.words.specs.Tab.{tab, tab-cong, tab-of}
 use Rattle.words.specs.Part.{length-part}
 use Rattle.words.specs.Digit.{digit-lt}
-use Rattle.ring.specs.Bytes.{bitsOf}
-use Rattle.ring.specs.BytesLaws.{length-bitsOf}
+use Rattle.codec.specs.Bytes.{bitsOf}
+use Rattle.codec.specs.BytesLaws.{length-bitsOf}
 use Rattle.ring.specs.Polynomial.{minus}
-use Rattle.ring.specs.Sample.{sum, samplePolyCbd}
+use Rattle.codec.specs.Sample.{sum, samplePolyCbd}
 use Rattle.worksheet.specs.Gives.{Gives, ret-g, gives-bind, gives-times}
 use Rattle.worksheet.specs.Sharing.{joined, none}
 use Rattle.worksheet.specs.SharedList.{SharedList}
-use Rattle.gadgets.specs.SamplerLaws.{binomial, gives-sampler}
-use Rattle.mlkem.specs.Parameters.{Parameters}
-use Rattle.mlkem.specs.KPke.{noise}
+use Rattle.masked_sampler.specs.SamplerLaws.{binomial, gives-sampler}
+use Rattle.kpke.specs.Parameters.{Parameters}
+use Rattle.kpke.specs.KPke.{noise}
 use Rattle.mlkem.specs.Worksheet.{bytesOf, bitOf, noisePoly, stage5}
 use Rattle.mlkem.specs.WordBytes.{length-bytesOf}
 use Rattle.mlkem.specs.Joined.{PolySharing, WordSharing}

@@ -9,15 +9,15 @@ use Rattle.words.specs.Bounded.{Below}
 use Rattle.words.specs.Digit.{digit, ext-bits}
 use Rattle.words.specs.Plane.{plane, digit-plane, plane-cong}
 use Rattle.words.specs.Residue.{q}
-use Rattle.ring.specs.Compress.{compress}
-use Rattle.ring.specs.CompressLaws.{getD-compress}
+use Rattle.codec.specs.Compress.{compress}
+use Rattle.codec.specs.CompressLaws.{getD-compress}
 use Rattle.worksheet.specs.declared.Shares.{Shares}
 use Rattle.worksheet.specs.Turns.{Each, each-weaken}
 use Rattle.worksheet.specs.Gives.{Gives, gives-weaken, gives-times}
 use Rattle.worksheet.specs.Sharing.{Sharing}
 use Rattle.worksheet.specs.SharedList.{SharedList, sharedAt}
-use Rattle.gadgets.specs.Compression.{maskedCompress}
-use Rattle.gadgets.specs.CompressionLaws.{gives-maskedCompress}
+use Rattle.masked_compression.specs.Compression.{maskedCompress}
+use Rattle.masked_compression.specs.CompressionLaws.{gives-maskedCompress}
 use Rattle.mlkem.specs.Worksheet.{compressPoly}
 use Rattle.mlkem.specs.Joined.{PolySharing}
 use Rattle.mlkem.specs.JoinedLaws.{polySharing-at}

@@ -5,23 +5,23 @@ use Prim.Native.Nat.{ℕ, _*_, _<_, _≤_}
 use native.Mathlib.Omega.{arith}
 use lib.ListN.{length, drop, replicate, length-map, length-replicate, length-take}
 use Rattle.words.specs.Part.{length-part}
-use Rattle.ring.specs.Bytes.{byteDecode, byteDecode12}
-use Rattle.ring.specs.BytesLaws.{length-byteDecode, length-byteDecode12}
-use Rattle.ring.specs.Compress.{decompress}
+use Rattle.codec.specs.Bytes.{byteDecode, byteDecode12}
+use Rattle.codec.specs.BytesLaws.{length-byteDecode, length-byteDecode12}
+use Rattle.codec.specs.Compress.{decompress}
 use Rattle.ring.specs.Polynomial.{add, sub}
 use Rattle.ring.specs.Sum.{length-add, length-sub, add-swap, part-add, sub-shares}
-use Rattle.ring.specs.Sample.{sampleNtt, accepted}
+use Rattle.codec.specs.Sample.{sampleNtt, accepted}
 use Rattle.ring.specs.Transform.{ntt, inverseNtt}
 use Rattle.ring.specs.Linear.{ntt-linear, inverseNtt-linear}
 use Rattle.worksheet.specs.Pass.{enterBoth, gives-enterBoth}
 use Rattle.worksheet.specs.Turns.{Each}
 use Rattle.worksheet.specs.Gives.{Gives, ret-g, gives-bind, gives-weaken, gives-times}
 use Rattle.worksheet.specs.SharedList.{SharedList}
-use Rattle.mlkem.specs.Parameters.{Parameters, vectorBytes}
-use Rattle.mlkem.specs.Functions.{XOF}
-use Rattle.mlkem.specs.KPke.{parts, dot, matrix, firstDecoded, secondDecoded, noisyMessage}
-use Rattle.mlkem.specs.VectorLaws.{part-fits, dot-cong}
-use Rattle.mlkem.specs.DotLaws.{length-dot, dot-add-left, dot-add-right}
+use Rattle.kpke.specs.Parameters.{Parameters, vectorBytes}
+use Rattle.kpke.specs.Functions.{XOF}
+use Rattle.kpke.specs.KPke.{parts, dot, matrix, firstDecoded, secondDecoded, noisyMessage}
+use Rattle.kpke.specs.VectorLaws.{part-fits, dot-cong}
+use Rattle.kpke.specs.DotLaws.{length-dot, dot-add-left, dot-add-right}
 use Rattle.mlkem.specs.Worksheet.{Noise, Reencrypted, nothing, first, second, stage1, uShare, vShare, stage6}
 use Rattle.mlkem.specs.Joined.{joinedCoeffs, PolySharing}
 

@@ -2,7 +2,7 @@
 use mathlib.Core.List.{List}
 use Prim.Native.Nat.{ℕ}
 use Rattle.worksheet.specs.SharedList.{sharedList}
-use Rattle.mlkem.specs.Parameters.{Parameters}
+use Rattle.kpke.specs.Parameters.{Parameters}
 use Rattle.mlkem.specs.MlKem.{publicPart, hashPart}
 use Rattle.mlkem.specs.Calls.{secondCoeffs, secondWords}
 use Rattle.mlkem.specs.Worksheet.{SplitKey}

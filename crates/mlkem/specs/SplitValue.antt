@@ -11,22 +11,22 @@ use Rattle.words.specs.Tab.{tab, length-tab, getD-tab, tab-cong}
 use Rattle.words.specs.Part.{length-part}
 use Rattle.words.specs.Numeral.{digits-value, getD-digits}
 use Rattle.words.specs.Residue.{q}
-use Rattle.ring.specs.Bytes.{byteEncode, byteDecode}
-use Rattle.ring.specs.BytesLaws.{length-byteDecode, byteEncode-byteDecode}
+use Rattle.codec.specs.Bytes.{byteEncode, byteDecode}
+use Rattle.codec.specs.BytesLaws.{length-byteDecode, byteEncode-byteDecode}
 use Rattle.ring.specs.Polynomial.{add}
 use Rattle.ring.specs.Sum.{length-add, getD-add-lt}
 use Rattle.worksheet.specs.Prog.{word, coeff, bound}
 use Rattle.worksheet.specs.Run.{run}
 use Rattle.worksheet.specs.SharedList.{sharedList, joinedList}
 use Rattle.fips202.specs.Sponge.{laneOf}
-use Rattle.fips202.specs.XorBytes.{laneOf-bits}
-use Rattle.mlkem.specs.Parameters.{Parameters, vectorBytes, ekBytes, ctBytes}
+use Rattle.masked_fips202.specs.XorBytes.{laneOf-bits}
+use Rattle.kpke.specs.Parameters.{Parameters, vectorBytes, ekBytes, ctBytes}
 use Rattle.mlkem.specs.Fits.{Fits}
-use Rattle.mlkem.specs.KPke.{parts, concat}
+use Rattle.kpke.specs.KPke.{parts, concat, coefficients}
 use Rattle.mlkem.specs.MlKem.{secretPart, publicPart, hashPart, zPart, decaps}
-use Rattle.mlkem.specs.VectorLaws
-use Rattle.mlkem.specs.VectorLaws.{part-fits, length-concat, concat-cong, concat-parts, parts-concat}
-use Rattle.mlkem.specs.Calls.{coefficients, secondCoeffs, secondWords}
+use Rattle.kpke.specs.VectorLaws
+use Rattle.kpke.specs.VectorLaws.{part-fits, length-concat, concat-cong, concat-parts, parts-concat}
+use Rattle.mlkem.specs.Calls.{secondCoeffs, secondWords}
 use Rattle.mlkem.specs.Split.{split}
 use Rattle.mlkem.specs.Accepted.{Accepted, join-coefficients, join-words}
 use Rattle.mlkem.specs.Worksheet.{bytesOf, worksheet}

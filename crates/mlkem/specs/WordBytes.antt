@@ -11,8 +11,8 @@ use lib.Seq.{getD-append-add, take-append-add, drop-append-add, take-nil, drop-n
 use Rattle.words.specs.Bounded.{Below, below-nil, below-append}
 use Rattle.words.specs.Numeral.{digits, length-digits, below-digits, getD-digits, digits-split}
 use Rattle.words.specs.Digit.{digit, digit-zero}
-use Rattle.ring.specs.Bytes.{bitsOf, numbersOf}
-use Rattle.ring.specs.BytesLaws.{bitsOf-append, numbersOf-bitsOf}
+use Rattle.codec.specs.Bytes.{bitsOf, numbersOf}
+use Rattle.codec.specs.BytesLaws.{bitsOf-append, numbersOf-bitsOf}
 use Rattle.mlkem.specs.Worksheet.{bytesOf}
 
 pub length-bytesOf : (l : List ℕ) → length (bytesOf l) ≡ 8 * length l

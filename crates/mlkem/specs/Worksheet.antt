@@ -8,7 +8,7 @@ use Rattle.words.specs.Digit.{digit}
 use Rattle.words.specs.Numeral.{digits}
 use Rattle.words.specs.Plane.{plane}
 use Rattle.words.specs.Tab.{tab}
-use Rattle.ring.specs.Bytes.{byteDecode, byteDecode12}
+use Rattle.codec.specs.Bytes.{byteDecode, byteDecode12}
 use Rattle.ring.specs.Polynomial.{add, sub}
 use Rattle.ring.specs.Transform.{ntt, inverseNtt}
 use Rattle.worksheet.specs.declared.Shares.{Shares}
@@ -16,12 +16,12 @@ use Rattle.worksheet.specs.Prog.{Prog, ret, _>>=_, times}
 use Rattle.worksheet.specs.Sharing.{shares, none}
 use Rattle.worksheet.specs.SharedList.{SharedList, sharedList, sharedAt, unzip}
 use Rattle.worksheet.specs.Pass.{enterBoth}
-use Rattle.fips202.specs.MaskedSponge.{maskedSponge}
-use Rattle.gadgets.specs.Compression.{maskedCompress}
-use Rattle.gadgets.specs.Coefficient.{bitToCoeff, sampler}
-use Rattle.gadgets.specs.Comparison.{addPublic, allZero, select}
-use Rattle.mlkem.specs.Parameters.{Parameters, vectorBytes}
-use Rattle.mlkem.specs.KPke.{parts, dot, matrix, firstDecoded, noisyMessage}
+use Rattle.masked_fips202.specs.MaskedSponge.{maskedSponge}
+use Rattle.masked_compression.specs.Compression.{maskedCompress}
+use Rattle.masked_sampler.specs.Coefficient.{bitToCoeff, sampler}
+use Rattle.masked_comparison.specs.Comparison.{addPublic, allZero, select}
+use Rattle.kpke.specs.Parameters.{Parameters, vectorBytes}
+use Rattle.kpke.specs.KPke.{parts, dot, matrix, firstDecoded, noisyMessage}
 
 -- a split key: the secret's and z's shares, and the public key with h
 pub record SplitKey : Type 0 where

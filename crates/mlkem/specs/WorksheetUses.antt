@@ -10,12 +10,12 @@ use Rattle.worksheet.specs.Prog.{entry}
 use Rattle.worksheet.specs.Uses.{Uses, ret-u, enter-u, uses-recount, uses-bind, uses-map, uses-times}
 use Rattle.worksheet.specs.SharedList.{SharedList}
 use Rattle.worksheet.specs.Pass.{enterBoth}
-use Rattle.fips202.specs.MaskedSpongeUses.{uses-maskedSponge}
-use Rattle.gadgets.specs.CompressionLaws.{uses-maskedCompress}
-use Rattle.gadgets.specs.CoefficientLaws.{uses-bitToCoeff}
-use Rattle.gadgets.specs.SamplerLaws.{uses-sampler}
-use Rattle.gadgets.specs.ComparisonLaws.{uses-addPublic, uses-allZero, uses-select}
-use Rattle.mlkem.specs.Parameters.{Parameters, mlKem768, ctBytes}
+use Rattle.masked_fips202.specs.MaskedSpongeUses.{uses-maskedSponge}
+use Rattle.masked_compression.specs.CompressionLaws.{uses-maskedCompress}
+use Rattle.masked_sampler.specs.CoefficientLaws.{uses-bitToCoeff}
+use Rattle.masked_sampler.specs.SamplerLaws.{uses-sampler}
+use Rattle.masked_comparison.specs.ComparisonLaws.{uses-addPublic, uses-allZero, uses-select}
+use Rattle.kpke.specs.Parameters.{Parameters, mlKem768, ctBytes}
 use Rattle.mlkem.specs.WordBytes.{length-bytesOf}
 use Rattle.mlkem.specs.Worksheet.{SplitKey, Noise, Reencrypted, Planes, bytesOf, four, compressPoly, hashShared, noisePoly}
 use Rattle.mlkem.specs.Worksheet.{planeWords, stage1, stage2, stage3, stage4, stage5, stage6, stage7, stage8, stage9, stage10, worksheet}

@@ -8,8 +8,8 @@ use lib.ListN.{length, getD, take, drop, length-map, length-take}
 use lib.Seq.{getD-take}
 use Rattle.words.specs.Bounded.{Below}
 use Rattle.words.specs.Tab.{tab, length-tab, getD-tab, tab-of}
-use Rattle.ring.specs.Bytes.{byteEncode, byteDecode}
-use Rattle.ring.specs.Compress.{compress, decompress}
+use Rattle.codec.specs.Bytes.{byteEncode, byteDecode}
+use Rattle.codec.specs.Compress.{compress, decompress}
 use Rattle.ring.specs.Sum.{length-add}
 use Rattle.worksheet.specs.declared.Shares.{Shares}
 use Rattle.worksheet.specs.Prog.{word, coeff, bound}
@@ -17,12 +17,12 @@ use Rattle.worksheet.specs.Run.{run}
 use Rattle.worksheet.specs.Gives.{Gives, ret-g, gives-bind, gives-weaken, gives-times, gives-run}
 use Rattle.worksheet.specs.Sharing.{joined, none, Sharing, sharing-joined}
 use Rattle.worksheet.specs.SharedList.{SharedList, sharedAt, joinedList, joinedList-unzip}
-use Rattle.gadgets.specs.ComparisonLaws.{isZero}
-use Rattle.gadgets.specs.SelectionLaws.{gives-select}
-use Rattle.mlkem.specs.Parameters.{Parameters, ctBytes}
+use Rattle.masked_comparison.specs.ComparisonLaws.{isZero}
+use Rattle.masked_comparison.specs.SelectionLaws.{gives-select}
+use Rattle.kpke.specs.Parameters.{Parameters, ctBytes}
 use Rattle.mlkem.specs.Fits.{Fits}
-use Rattle.mlkem.specs.Functions.{G₂}
-use Rattle.mlkem.specs.KPke.{parts, noise, firstPart, secondPart, ephemeral, publicVector, encrypt, noisyMessage}
+use Rattle.kpke.specs.Functions.{G₂}
+use Rattle.kpke.specs.KPke.{parts, noise, firstPart, secondPart, ephemeral, publicVector, encrypt, noisyMessage}
 use Rattle.mlkem.specs.MlKem.{same, decaps}
 use Rattle.mlkem.specs.Worksheet.{SplitKey, bytesOf, nothing, uShare, vShare, stage10, worksheet}
 use Rattle.mlkem.specs.Joined.{joinedCoeffs, joinedDk, InOrder, PolySharing, WordSharing}

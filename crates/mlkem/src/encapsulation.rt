@@ -1,19 +1,19 @@
 // ML-KEM.Encaps_internal (FIPS 203, algorithm 17).
 ghost use mathlib.Core.Path.{_≡_};
 ghost use lib.ListN.{length, drop};
-ghost use Rattle.mlkem.specs.Parameters.{mlKem768};
+ghost use Rattle.kpke.specs.Parameters.{mlKem768};
 ghost use Rattle.mlkem.specs.MlKem.{encapsKey, encapsCt};
 ghost use Rattle.mlkem.specs.Refusals.{after};
 ghost use Rattle.mlkem.specs.Calls.{encapsAnswer};
-ghost use Rattle.mlkem.specs.Expanded.{Expanded};
+ghost use Rattle.kpke.specs.Expanded.{Expanded};
 use crate::Answer;
-use crate::copy::copy_bytes;
-use crate::encrypt::encrypt;
-use crate::hashes::hash_g;
-use crate::hashes::hash_h;
-use crate::matrix::expand;
 use crate::tests::reduced;
-use crate::vector::decode_all;
+use kpke::copy::copy_bytes;
+use kpke::encrypt::encrypt;
+use kpke::hashes::hash_g;
+use kpke::hashes::hash_h;
+use kpke::matrix::expand;
+use kpke::vector::decode_all;
 
 // For the matrix a.
 fn write_secret(a: &[u16], ek: &[u8], m: &[u8], ct: &mut [u8], k: &mut [u8])

@@ -1,98 +1,40 @@
-// ML-KEM.KeyGen_internal (FIPS 203, algorithms 13 and 16).
+// ML-KEM.KeyGen_internal (FIPS 203, algorithm 16).
 ghost use mathlib.Core.List.{List, [], _∷_, _++_};
 ghost use mathlib.Core.Path.{_≡_};
-ghost use Prim.Native.Nat.{ℕ, _+_, _*_, _<_, _≤_};
+ghost use Prim.Native.Nat.{ℕ, _+_};
 ghost use lib.ListN.{length, take};
-ghost use Rattle.words.specs.Bounded.{Below};
-ghost use Rattle.words.specs.Residue.{q};
 ghost use Rattle.fips202.specs.Sponge.{sha3-256, sha3-512};
-ghost use Rattle.ring.specs.Bytes.{byteEncode};
-ghost use Rattle.ring.specs.Transform.{ntt as nttOf};
-ghost use Rattle.mlkem.specs.Parameters.{mlKem768};
-ghost use Rattle.mlkem.specs.KPke.{parts, concat, noise as noiseOf, publicPolynomial};
+ghost use Rattle.kpke.specs.Parameters.{mlKem768};
+ghost use Rattle.kpke.specs.Expanded.{Expanded};
 ghost use Rattle.mlkem.specs.MlKem.{keyGenEk, keyGenDk};
 ghost use Rattle.mlkem.specs.Refusals.{after};
 ghost use Rattle.mlkem.specs.Calls.{keyGenAnswer};
-ghost use Rattle.mlkem.specs.Expanded.{placesOf, Expanded};
 use crate::Answer;
-use crate::copy::copy_bytes;
-use crate::hashes::hash_g_seed;
-use crate::hashes::hash_h;
-use crate::matrix::expand;
-use crate::noise::noise;
-use crate::noise::transformed_noise;
-use crate::vector::dot;
-use crate::vector::encode_all;
-use ring::add_to;
-use ring::ntt;
+use kpke::copy::copy_bytes;
+use kpke::hashes::hash_g_seed;
+use kpke::hashes::hash_h;
+use kpke::matrix::expand;
 
-// Line 18 at row i, for the matrix a and the secret s.
-fn public_polynomial(
-    a: &[u16],
-    s: &[u16],
-    sigma: &[u8],
-    eta: u32,
-    k: usize,
-    i: usize,
-    f: &mut [u16],
-)
-    requires { ⌜ (length (now a) ≡ 256 * k * k) × (length (now s) ≡ 256 * k) × (length (now sigma) ≡ 32) × (0 < eta) × (eta ≤ 3) × (k ≤ 128) × (i < k) × (length (now f) ≡ 256) ⌝ }
-    ensures { λ _. ⌜ now (f .exit) ≡ publicPolynomial k (placesOf k (now (a .entry))) (parts 256 (now (s .entry))) (λ j. nttOf (noiseOf eta (now (sigma .entry)) (k + j))) i ⌝ }
+// Line 3, what follows K-PKE's key.
+fn write_rest(ek: &[u8], z: &[u8], rest: &mut [u8])
+    requires { ⌜ (length (now z) ≡ 32) × (length (now rest) ≡ length (now ek) + 64) ⌝ }
+    ensures { λ _. ⌜ now (rest .exit) ≡ now (ek .entry) ++ (sha3-256 (now (ek .entry)) ++ now (z .entry)) ⌝ }
 {
-    let mut e = [0u16; 256];
-    dot(a, k * i, 1, s, k, f);
-    noise(sigma, eta, k + i, &mut e);
-    ntt(&mut e);
-    add_to(f, &e);
-}
-
-fn public_vector(a: &[u16], s: &[u16], sigma: &[u8], eta: u32, k: usize, t: &mut [u16])
-    requires { ⌜ (length (now a) ≡ 256 * k * k) × (length (now s) ≡ 256 * k) × (length (now sigma) ≡ 32) × (0 < eta) × (eta ≤ 3) × (k ≤ 128) × (length (now t) ≡ 256 * k) ⌝ }
-    ensures { λ _. ⌜ now (t .exit) ≡ concat k (publicPolynomial k (placesOf k (now (a .entry))) (parts 256 (now (s .entry))) (λ j. nttOf (noiseOf eta (now (sigma .entry)) (k + j)))) ⌝ }
-{
-    for i in 0..k {
-        let b = 256 * i;
-        let e = b + 256;
-        public_polynomial(a, s, sigma, eta, k, i, &mut t[b..e]);
-    }
-}
-
-// Line 19.
-fn write_ek(t: &[u16], rho: &[u8], k: usize, ek: &mut [u8])
-    requires { ⌜ (length (now t) ≡ 256 * k) × Below q (now t) × (length (now rho) ≡ 32) × (length (now ek) ≡ 384 * k + 32) ⌝ }
-    ensures { λ _. ⌜ now (ek .exit) ≡ concat k (λ i. byteEncode 12 (parts 256 (now (t .entry)) i)) ++ now (rho .entry) ⌝ }
-{
-    let n = 384 * k;
-    encode_all(t, 12, k, &mut ek[0..n]);
-    copy_bytes(rho, &mut ek[n..]);
-}
-
-// Line 20, and algorithm 16, line 3.
-fn write_dk(s: &[u16], ek: &[u8], z: &[u8], k: usize, dk: &mut [u8])
-    requires { ⌜ (length (now s) ≡ 256 * k) × Below q (now s) × (length (now ek) ≡ 384 * k + 32) × (length (now z) ≡ 32) × (length (now dk) ≡ 768 * k + 96) ⌝ }
-    ensures { λ _. ⌜ now (dk .exit) ≡ concat k (λ i. byteEncode 12 (parts 256 (now (s .entry)) i)) ++ (now (ek .entry) ++ (sha3-256 (now (ek .entry)) ++ now (z .entry))) ⌝ }
-{
-    let n = 384 * k;
-    let h = n + ek.len();
+    let h = ek.len();
     let e = h + 32;
-    encode_all(s, 12, k, &mut dk[0..n]);
-    copy_bytes(ek, &mut dk[n..h]);
-    hash_h(ek, &mut dk[h..e]);
-    copy_bytes(z, &mut dk[e..]);
+    copy_bytes(ek, &mut rest[0..h]);
+    hash_h(ek, &mut rest[h..e]);
+    copy_bytes(z, &mut rest[e..]);
 }
 
-// Lines 8 to 20 for the matrix a and line 1's hash g.
+// For the matrix a and the hash g that K-PKE's keys are made from.
 fn write_keys(a: &[u16], g: &[u8], z: &[u8], ek: &mut [u8], dk: &mut [u8])
     requires { ⌜ Expanded 3 (take 32 (now g)) (now a) × (length (now g) ≡ 64) × (length (now z) ≡ 32) × (length (now ek) ≡ 1184) × (length (now dk) ≡ 2400) ⌝ }
     ensures { λ _. ⌜ ((d : List ℕ) → now (g .entry) ≡ sha3-512 (d ++ 3 ∷ []) → now (ek .exit) ≡ keyGenEk mlKem768 d) ⌝ }
     ensures { λ _. ⌜ ((d : List ℕ) → now (g .entry) ≡ sha3-512 (d ++ 3 ∷ []) → now (dk .exit) ≡ keyGenDk mlKem768 d (now (z .entry))) ⌝ }
 {
-    let mut s = [0u16; 768];
-    let mut t = [0u16; 768];
-    transformed_noise(&g[32..], 2, 3, &mut s);
-    public_vector(a, &s, &g[32..], 2, 3, &mut t);
-    write_ek(&t, &g[0..32], 3, ek);
-    write_dk(&s, ek, z, 3, dk);
+    kpke::key_making::write_keys(a, g, ek, &mut dk[0..1152]);
+    write_rest(ek, z, &mut dk[1152..]);
 }
 
 fn keygen_sized(d: &[u8], z: &[u8], ek: &mut [u8], dk: &mut [u8]) -> Answer

@@ -1,15 +1,9 @@
 // ML-KEM-768 (FIPS 203).
-pub mod copy; // copies of slices
 mod encapsulation;
-mod encrypt;
-mod hashes;
 mod key_making;
-pub mod matrix; // the matrix from its streams
-mod noise;
 mod sampling;
 mod splitting;
 pub mod tests; // tests of lent values
-pub mod vector; // vectors of polynomials
 
 pub use encapsulation::encaps;
 pub use key_making::keygen;

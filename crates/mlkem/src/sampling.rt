@@ -1,11 +1,11 @@
 // Sampling from a lent stream.
 ghost use mathlib.Core.Path.{_≡_};
-ghost use Rattle.ring.specs.Sample.{sampleNtt};
+ghost use Rattle.codec.specs.Sample.{sampleNtt};
 ghost use Rattle.mlkem.specs.Refusals.{after};
 ghost use Rattle.mlkem.specs.Calls.{sampleAnswer};
 use crate::Answer;
-use ring::Sampled;
-use ring::sample_ntt;
+use codec::Sampled;
+use codec::sample_ntt;
 
 pub fn sample(stream: &[u8], out: &mut [u16]) -> Answer
     ensures { λ r. ⌜ r ≡ sampleAnswer (now (stream .entry)) (now (out .entry)) ⌝ }

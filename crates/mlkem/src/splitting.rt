@@ -6,18 +6,18 @@ ghost use Rattle.words.specs.Word.{xor};
 ghost use Rattle.words.specs.Tab.{tab};
 ghost use Rattle.fips202.specs.Sponge.{laneOf};
 ghost use Rattle.ring.specs.Polynomial.{sub};
-ghost use Rattle.mlkem.specs.Parameters.{mlKem768};
+ghost use Rattle.kpke.specs.Parameters.{mlKem768};
 ghost use Rattle.mlkem.specs.MlKem.{publicPart, hashPart};
 ghost use Rattle.mlkem.specs.Refusals.{after};
 ghost use Rattle.mlkem.specs.Calls.{importAnswer, secondCoeffs, secondWords};
 use crate::Answer;
-use crate::copy::copy_bytes;
-use crate::copy::copy_coefficients;
-use crate::hashes::hash_h;
 use crate::tests::reduced;
 use crate::tests::same;
-use crate::vector::decode_all;
 use fips202::bytes::load;
+use kpke::copy::copy_bytes;
+use kpke::copy::copy_coefficients;
+use kpke::hashes::hash_h;
+use kpke::vector::decode_all;
 use ring::sub_from;
 
 // The shares of the coefficients s, of which r is the first.

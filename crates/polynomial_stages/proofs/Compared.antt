@@ -17,7 +17,7 @@ use Rattle.words.specs.Fill.{Filled, filled-start, filled-part, filled-end}
 use Rattle.words.specs.Part.{part-take}
 use Rattle.words.specs.Plane.{plane, plane-cong}
 use Rattle.words.specs.Tab.{tab, tab-add, tab-cong, length-tab, getD-tab}
-use Rattle.ring.specs.Bytes.{byteDecode}
+use Rattle.codec.specs.Bytes.{byteDecode}
 use Rattle.worksheet.specs.declared.Recorder.{Recorder}
 use Rattle.worksheet.specs.declared.Shares.{Shares}
 use Rattle.worksheet.specs.Prog.{word, ret, _>>=_, entry, loop-cong, times-cong}
@@ -26,11 +26,11 @@ use Rattle.worksheet.specs.Gives.{gives-run}
 use Rattle.worksheet.specs.Sharing.{shares, none, joined, Sharing, sharing-joined}
 use Rattle.worksheet.specs.SharedList.{SharedList, sharedList, sharedAt, zip, getD-zip}
 use Rattle.worksheet.specs.Gates.{maskedOr}
-use Rattle.gadgets.specs.Comparison.{addPublic, foldOr, allZero}
-use Rattle.gadgets.specs.ComparisonLaws.{gives-allZero}
-use Rattle.mlkem.specs.Parameters.{Parameters}
-use Rattle.mlkem.specs.KPke.{parts}
-use Rattle.mlkem.specs.VectorLaws.{part-fits}
+use Rattle.masked_comparison.specs.Comparison.{addPublic, foldOr, allZero}
+use Rattle.masked_comparison.specs.ComparisonLaws.{gives-allZero}
+use Rattle.kpke.specs.Parameters.{Parameters}
+use Rattle.kpke.specs.KPke.{parts}
+use Rattle.kpke.specs.VectorLaws.{part-fits}
 use Rattle.mlkem.specs.PlanesValue.{planeOf}
 use Rattle.mlkem.specs.CiphertextPlanes.{firstWords, first-lt}
 use Rattle.mlkem.specs.Worksheet.{planeWord, ciphertextWord, planeWords, stage8}

@@ -13,9 +13,9 @@ use Rattle.worksheet.specs.declared.Shares.{Shares}
 use Rattle.worksheet.specs.Prog.{entry, times-cong}
 use Rattle.worksheet.specs.Sharing.{shares, none}
 use Rattle.worksheet.specs.SharedList.{SharedList, sharedList, sharedAt, zip, unzip, getD-zip, zip-zero, zip-set}
-use Rattle.gadgets.specs.Compression.{fixedPoint, fixedPoints, maskedCompress}
-use Rattle.mlkem.specs.KPke.{parts}
-use Rattle.mlkem.specs.VectorLaws.{part-fits}
+use Rattle.masked_compression.specs.Compression.{fixedPoint, fixedPoints, maskedCompress}
+use Rattle.kpke.specs.KPke.{parts}
+use Rattle.kpke.specs.VectorLaws.{part-fits}
 use Rattle.mlkem.specs.Worksheet.{nothing}
 use Rattle.mlkem.specs.Layout.{partOf, partsBy, groups, polynomials, planesOf}
 

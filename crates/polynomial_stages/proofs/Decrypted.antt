@@ -4,9 +4,9 @@ use mathlib.Core.List.{List, map}
 use Prim.Native.Nat.{ℕ, _*_}
 use lib.ListN.{length, take, replicate, length-map}
 use Rattle.words.specs.Part.{part-take}
-use Rattle.ring.specs.Bytes.{byteDecode}
-use Rattle.ring.specs.BytesLaws.{length-byteDecode}
-use Rattle.ring.specs.Compress.{decompress}
+use Rattle.codec.specs.Bytes.{byteDecode}
+use Rattle.codec.specs.BytesLaws.{length-byteDecode}
+use Rattle.codec.specs.Compress.{decompress}
 use Rattle.ring.specs.Linear.{ntt-linear}
 use Rattle.ring.specs.Polynomial.{sub}
 use Rattle.ring.specs.Sum.{length-sub}
@@ -15,9 +15,9 @@ use Rattle.worksheet.specs.declared.Recorder.{Recorder}
 use Rattle.worksheet.specs.Pass.{enterBoth}
 use Rattle.worksheet.specs.Ran.{Makes}
 use Rattle.worksheet.specs.SharedList.{SharedList, sharedList}
-use Rattle.mlkem.specs.Parameters.{Parameters}
-use Rattle.mlkem.specs.KPke.{parts, concat, dot, firstDecoded, secondDecoded, noisyMessage}
-use Rattle.mlkem.specs.VectorLaws.{part-fits, Each, parts-concat, concat-cong, dot-cong}
+use Rattle.kpke.specs.Parameters.{Parameters}
+use Rattle.kpke.specs.KPke.{parts, concat, dot, firstDecoded, secondDecoded, noisyMessage}
+use Rattle.kpke.specs.VectorLaws.{part-fits, Each, parts-concat, concat-cong, dot-cong}
 use Rattle.mlkem.specs.Worksheet.{stage1}
 
 length-decoded : (d : ℕ) (b : List ℕ) → length (map (decompress d) (byteDecode d b)) ≡ 256

@@ -7,7 +7,7 @@ use lib.ListN.{length, take, drop}
 use Rattle.words.specs.Bounded.{Below}
 use Rattle.words.specs.Residue.{q}
 use Rattle.words.specs.Tab.{length-tab, getD-tab}
-use Rattle.ring.specs.Bytes.{byteDecode12}
+use Rattle.codec.specs.Bytes.{byteDecode12}
 use Rattle.ring.specs.Polynomial.{add}
 use Rattle.ring.specs.Sum.{length-add, below-add}
 use Rattle.ring.specs.Transform.{ntt, inverseNtt}
@@ -16,12 +16,12 @@ use Rattle.worksheet.specs.Pass.{enterBoth}
 use Rattle.worksheet.specs.Prog.{times, times-cong}
 use Rattle.worksheet.specs.Ran.{Ran, Makes, bind, over}
 use Rattle.worksheet.specs.SharedList.{SharedList, sharedList}
-use Rattle.mlkem.specs.Parameters.{Parameters, vectorBytes}
-use Rattle.mlkem.specs.KPke.{parts, concat, matrix}
-use Rattle.mlkem.specs.Expanded.{placesOf, Expanded}
-use Rattle.mlkem.specs.VectorLaws.{parts-concat, dot-cong}
+use Rattle.kpke.specs.Parameters.{Parameters, vectorBytes}
+use Rattle.kpke.specs.KPke.{parts, concat, matrix}
+use Rattle.kpke.specs.Expanded.{placesOf, Expanded}
+use Rattle.kpke.specs.VectorLaws.{parts-concat, dot-cong}
 use Rattle.mlkem.specs.Worksheet.{nothing, first, second, uShare, vShare, stage6}
-use Rattle.mlkem.proofs.Parts.{below-concat, decoded-at}
+use Rattle.kpke.proofs.Parts.{below-concat, decoded-at}
 use Rattle.mlkem.specs.Layout.{partOf, partsBy, polynomials, noiseOf, reencryptedOf}
 use Rattle.polynomial_stages.specs.Passes.{uPass, vPass}
 

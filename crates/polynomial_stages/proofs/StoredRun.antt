@@ -13,8 +13,8 @@ use Rattle.worksheet.specs.Prog.{Prog, word, times}
 use Rattle.worksheet.specs.Ran.{Ran, Draws, part-words}
 use Rattle.worksheet.specs.RanLoops.{times-start, times-turn}
 use Rattle.worksheet.specs.SharedList.{SharedList, sharedList}
-use Rattle.mlkem.specs.VectorLaws.{part-fits}
-use Rattle.mlkem.proofs.Joined.{length-span}
+use Rattle.kpke.specs.VectorLaws.{part-fits}
+use Rattle.kpke.proofs.Joined.{length-span}
 use Rattle.mlkem.specs.Layout.{partsBy}
 use Rattle.mlkem.specs.LayoutLaws.{stored, partsBy-start, partsBy-turn}
 

@@ -7,8 +7,8 @@ use lib.ListN.{length}
 use Rattle.words.specs.Part.{length-part}
 use Rattle.ring.specs.Linear.{ntt-linear}
 use Rattle.ring.specs.Transform.{ntt}
-use Rattle.mlkem.specs.KPke.{parts, concat, dot}
-use Rattle.mlkem.specs.VectorLaws.{part-fits, parts-concat, dot-cong}
+use Rattle.kpke.specs.KPke.{parts, concat, dot}
+use Rattle.kpke.specs.VectorLaws.{part-fits, parts-concat, dot-cong}
 
 -- the product with all parts of a
 pub dot-whole : (k : ℕ) (a : List ℕ) (g : ℕ → List ℕ) → dot k (λ j. parts 256 a (0 + 1 * j)) g ≡ dot k (parts 256 a) g

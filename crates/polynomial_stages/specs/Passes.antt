@@ -3,7 +3,7 @@ use mathlib.Core.List.{List}
 use Prim.Native.Nat.{ℕ}
 use Rattle.ring.specs.Polynomial.{add}
 use Rattle.ring.specs.Transform.{inverseNtt}
-use Rattle.mlkem.specs.KPke.{dot}
+use Rattle.kpke.specs.KPke.{dot}
 
 -- row i of u, for the matrix a and the error e
 unfoldable pub uPass : ℕ → (ℕ → ℕ → List ℕ) → (ℕ → List ℕ) → List ℕ → ℕ → List ℕ

@@ -7,12 +7,12 @@ ghost use Rattle.words.specs.Residue.{q};
 ghost use Rattle.worksheet.specs.Prog.{word, times};
 ghost use Rattle.worksheet.specs.Ran.{Draws};
 ghost use Rattle.worksheet.specs.SharedList.{sharedList, sharedAt, zip};
-ghost use Rattle.gadgets.specs.Compression.{maskedCompress};
-ghost use Rattle.mlkem.specs.Parameters.{mlKem768};
+ghost use Rattle.masked_compression.specs.Compression.{maskedCompress};
+ghost use Rattle.kpke.specs.Parameters.{mlKem768};
 ghost use Rattle.mlkem.specs.Worksheet.{compressPoly, stage2 as stage2Of, stage7 as stage7Of};
 ghost use Rattle.mlkem.specs.Layout.{partOf, partsBy, groups, reencryptedOf, planesOf};
-use gadgets::adder::Planes;
-use gadgets::compression::masked_compress;
+use masked_compression::adder::Planes;
+use masked_compression::compression::masked_compress;
 use worksheet::Recorder;
 
 // The d planes from place 13 on.

@@ -6,7 +6,7 @@ ghost use Rattle.worksheet.specs.Pass.{entries, enterBoth};
 ghost use Rattle.worksheet.specs.Prog.{times};
 ghost use Rattle.worksheet.specs.Ran.{Makes};
 ghost use Rattle.worksheet.specs.SharedList.{sharedList};
-ghost use Rattle.mlkem.specs.KPke.{parts};
+ghost use Rattle.kpke.specs.KPke.{parts};
 ghost use Rattle.mlkem.specs.Layout.{polynomials};
 use worksheet::Recorder;
 

@@ -1,4 +1,3 @@
 pub mod Powers
 pub mod InPlace
-pub mod Repack
 pub mod Shoup

@@ -1,12 +1,5 @@
-pub mod Bytes
-pub mod BytesLaws
-pub mod Compress
-pub mod CompressLaws
 pub mod Polynomial
 pub mod Sum
 pub mod Transform
 pub mod Linear
 pub mod MultiplyLaws
-pub mod Sample
-pub mod SampleLaws
-pub mod Collect

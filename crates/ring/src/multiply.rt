@@ -1,7 +1,7 @@
 // Products of polynomials in the transformed domain, in place.
-use super::residue::product;
-use super::residue::reduce;
-use super::tables::GAMMAS;
+use crate::residue::product;
+use crate::residue::reduce;
+use crate::tables::GAMMAS;
 ghost use mathlib.Core.Path.{_≡_};
 ghost use Prim.Native.Nat.{_+_, _*_, _%_, _<_};
 ghost use lib.ListN.{length};

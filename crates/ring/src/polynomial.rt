@@ -1,7 +1,7 @@
 // Sums and differences of polynomials, in place.
-use super::residue::difference;
-use super::residue::remainder;
-use super::residue::sum;
+use crate::residue::difference;
+use crate::residue::remainder;
+use crate::residue::sum;
 ghost use mathlib.Core.Path.{_≡_};
 ghost use lib.ListN.{length};
 ghost use Rattle.ring.specs.Polynomial.{add, sub};

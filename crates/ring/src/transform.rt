@@ -1,10 +1,10 @@
 // The number-theoretic transform and its inverse, in place.
-use super::residue::multiple;
-use super::residue::reduced_difference;
-use super::residue::reduced_sum;
-use super::residue::remainder;
-use super::residue::scaled;
-use super::tables::ZETAS;
+use crate::residue::multiple;
+use crate::residue::reduced_difference;
+use crate::residue::reduced_sum;
+use crate::residue::remainder;
+use crate::residue::scaled;
+use crate::tables::ZETAS;
 ghost use mathlib.Core.Path.{_≡_};
 ghost use Prim.Native.Nat.{_+_, _*_, _/_, _%_, _^_, _<_, _≤_};
 ghost use lib.ListN.{length, getD};

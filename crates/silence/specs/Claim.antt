@@ -8,9 +8,10 @@ use Rattle.words.specs.Residue.{q}
 use Rattle.worksheet.specs.Run.{run}
 use Rattle.worksheet.specs.Sum.{when}
 use Rattle.worksheet.specs.Count.{tally, strips, hit}
-use Rattle.mlkem.specs.Parameters.{mlKem768}
+use Rattle.kpke.specs.Parameters.{mlKem768}
 use Rattle.mlkem.specs.MlKem.{publicPart}
-use Rattle.mlkem.specs.Calls.{matrixFull, rhoOf}
+use Rattle.kpke.specs.KPke.{matrixFull}
+use Rattle.mlkem.specs.Calls.{rhoOf}
 use Rattle.mlkem.specs.Worksheet.{worksheet}
 use Rattle.mlkem.specs.Split.{split}
 use Rattle.mlkem.specs.Accepted.{Accepted}

@@ -12,10 +12,10 @@ use Rattle.worksheet.specs.Sharing.{none}
 use Rattle.worksheet.specs.SharedList.{SharedList, unzip}
 use Rattle.worksheet.specs.Choice.{SameShare}
 use Rattle.worksheet.specs.Pass.{pass-stage}
-use Rattle.gadgets.specs.CompressionSilence.{compressEntries, groups-stage}
-use Rattle.gadgets.specs.PolynomialSilence.{Anything}
-use Rattle.mlkem.specs.Parameters.{Parameters}
-use Rattle.mlkem.specs.KPke.{parts, dot, firstDecoded, noisyMessage}
+use Rattle.masked_compression.specs.CompressionSilence.{compressEntries, groups-stage}
+use Rattle.masked_sampler.specs.PolynomialSilence.{Anything}
+use Rattle.kpke.specs.Parameters.{Parameters}
+use Rattle.kpke.specs.KPke.{parts, dot, firstDecoded, noisyMessage}
 use Rattle.mlkem.specs.Worksheet.{compressPoly, stage1, stage2}
 
 -- the entries of a pass on each share of a polynomial

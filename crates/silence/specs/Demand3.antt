@@ -17,10 +17,11 @@ use Rattle.worksheet.specs.Couple.{Like, SameAt, draw-c, ret-c, equal-hits, sam
 use Rattle.worksheet.specs.CoupleLoops.{like-times}
 use Rattle.worksheet.specs.Matching.{identity}
 use Rattle.worksheet.specs.SharedList.{SharedList, sharedList}
-use Rattle.mlkem.specs.Parameters.{mlKem768}
+use Rattle.kpke.specs.Parameters.{mlKem768}
 use Rattle.mlkem.specs.Fits.{fits768}
 use Rattle.mlkem.specs.MlKem.{publicPart, hashPart}
-use Rattle.mlkem.specs.Calls.{secondCoeffs, secondWords, matrixFull, rhoOf}
+use Rattle.kpke.specs.KPke.{matrixFull}
+use Rattle.mlkem.specs.Calls.{secondCoeffs, secondWords, rhoOf}
 use Rattle.mlkem.specs.Worksheet.{worksheet}
 use Rattle.mlkem.specs.WorksheetUses.{uses-worksheet}
 use Rattle.mlkem.specs.Split.{split}

@@ -8,8 +8,8 @@ use Rattle.words.specs.Bounded.{Below, below-append, below-zeros}
 use Rattle.worksheet.specs.Stage.{Stage, comap}
 use Rattle.worksheet.specs.SharedList.{SharedList}
 use Rattle.worksheet.specs.Choice.{KeptShared}
-use Rattle.fips202.specs.MaskedSpongeSilence.{SharedBytes, maskedSponge-stage}
-use Rattle.gadgets.specs.PolynomialSilence.{Anything}
+use Rattle.masked_fips202.specs.MaskedSpongeSilence.{SharedBytes, maskedSponge-stage}
+use Rattle.masked_sampler.specs.PolynomialSilence.{Anything}
 use Rattle.mlkem.specs.Worksheet.{bytesOf, four, hashShared}
 use Rattle.mlkem.specs.WordBytes.{below-bytesOf}
 use Rattle.mlkem.specs.WorksheetUses.{hashEntries, length-bytesOf-four}

@@ -12,9 +12,9 @@ use Rattle.worksheet.specs.Turns.{Turns}
 use Rattle.worksheet.specs.Stage.{Stage, andThen, andAlso, Beside, moves, comap, times-stage}
 use Rattle.worksheet.specs.SharedList.{SharedList}
 use Rattle.worksheet.specs.Choice.{KeptShared, SameShare}
-use Rattle.gadgets.specs.SamplerSilence.{samplerEntries}
-use Rattle.gadgets.specs.PolynomialSilence.{Anything, bitsToCoeffs-stage, samples-stage}
-use Rattle.mlkem.specs.Parameters.{Parameters}
+use Rattle.masked_sampler.specs.SamplerSilence.{samplerEntries}
+use Rattle.masked_sampler.specs.PolynomialSilence.{Anything, bitsToCoeffs-stage, samples-stage}
+use Rattle.kpke.specs.Parameters.{Parameters}
 use Rattle.mlkem.specs.Fits.{Fits}
 use Rattle.mlkem.specs.Worksheet.{Noise, bitOf, noisePoly, stage3, stage4, stage5}
 use Rattle.mlkem.specs.WorksheetUses.{hashEntries}

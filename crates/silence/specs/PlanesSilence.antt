@@ -18,9 +18,9 @@ use Rattle.worksheet.specs.Stage.{Stage, comap, times-stage}
 use Rattle.worksheet.specs.Sharing.{none}
 use Rattle.worksheet.specs.SharedList.{SharedList}
 use Rattle.worksheet.specs.Choice.{Kept, KeptWords, KeptList, SameShare}
-use Rattle.gadgets.specs.CompressionSilence.{coupled-maskedCompress, groups-stage}
-use Rattle.gadgets.specs.ComparisonSilence.{allZeroEntries, compare-stage}
-use Rattle.mlkem.specs.Parameters.{Parameters}
+use Rattle.masked_compression.specs.CompressionSilence.{coupled-maskedCompress, groups-stage}
+use Rattle.masked_comparison.specs.ComparisonSilence.{allZeroEntries, compare-stage}
+use Rattle.kpke.specs.Parameters.{Parameters}
 use Rattle.mlkem.specs.Fits.{Fits}
 use Rattle.mlkem.specs.Worksheet.{Planes, nothing, compressPoly, planeWord, planeWords, ciphertextWord, stage7, stage8}
 use Rattle.silence.specs.Pair.{pair-stage}

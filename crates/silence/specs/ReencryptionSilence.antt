@@ -12,8 +12,8 @@ use Rattle.worksheet.specs.Stage.{Stage, times-stage}
 use Rattle.worksheet.specs.SharedList.{SharedList}
 use Rattle.worksheet.specs.Choice.{SameShare}
 use Rattle.worksheet.specs.Pass.{enterBoth, pass-stage, coupled-pass}
-use Rattle.mlkem.specs.Parameters.{Parameters}
-use Rattle.mlkem.specs.VectorLaws.{dot-cong}
+use Rattle.kpke.specs.Parameters.{Parameters}
+use Rattle.kpke.specs.VectorLaws.{dot-cong}
 use Rattle.mlkem.specs.Worksheet.{Noise, Reencrypted, nothing, first, second, uShare, vShare, stage6}
 use Rattle.silence.specs.Pair.{pair-stage}
 use Rattle.silence.specs.DecryptionSilence.{passEntries}

@@ -19,9 +19,10 @@ use Rattle.worksheet.specs.Sharing.{shares, share}
 use Rattle.worksheet.specs.CoeffSharing.{CoeffSharing, coeffKeep-lt, share-coeffKeep}
 use Rattle.worksheet.specs.SharedList.{sharedList}
 use Rattle.worksheet.specs.Choice.{SameShare}
-use Rattle.mlkem.specs.Parameters.{Parameters}
+use Rattle.kpke.specs.Parameters.{Parameters}
 use Rattle.mlkem.specs.MlKem.{secretPart}
-use Rattle.mlkem.specs.Calls.{coefficients, secondCoeffs}
+use Rattle.kpke.specs.KPke.{coefficients}
+use Rattle.mlkem.specs.Calls.{secondCoeffs}
 
 -- ---- one coefficient X, whose first share is x
 

@@ -19,11 +19,12 @@ use Rattle.worksheet.specs.Count.{tally, strips, hit, hit-getD}
 use Rattle.worksheet.specs.Uses.{length-entries}
 use Rattle.mlkem.specs.declared.Answer.{Answer}
 use Rattle.mlkem.specs.declared.Answer.the-variants.{Done, ShortStream, NoSuchStep}
-use Rattle.mlkem.specs.Parameters.{mlKem768}
+use Rattle.kpke.specs.Parameters.{mlKem768}
 use Rattle.mlkem.specs.MlKem.{publicPart, hashPart}
 use Rattle.mlkem.specs.Refusals.{number, reduced}
 use Rattle.mlkem.specs.TestLaws.{below-reduced}
-use Rattle.mlkem.specs.Calls.{secondCoeffs, secondWords, matrixFull, rhoOf}
+use Rattle.kpke.specs.KPke.{matrixFull}
+use Rattle.mlkem.specs.Calls.{secondCoeffs, secondWords, rhoOf}
 use Rattle.mlkem.specs.Worksheet.{SplitKey, worksheet}
 use Rattle.mlkem.specs.Split.{split}
 use Rattle.decapsulation.specs.Calls.{Input, sheet, traceAnswer, traceValue}

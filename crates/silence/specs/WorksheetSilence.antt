@@ -12,10 +12,10 @@ use Rattle.worksheet.specs.Stage.{Stage, Beside, andBeside, andAlso, rearrange,
 use Rattle.worksheet.specs.Sharing.{none}
 use Rattle.worksheet.specs.SharedList.{SharedList, sharedAt, unzip}
 use Rattle.worksheet.specs.Choice.{Kept, KeptShared, SameShare}
-use Rattle.gadgets.specs.ComparisonSilence.{allZeroEntries}
-use Rattle.gadgets.specs.PolynomialSilence.{Anything}
-use Rattle.gadgets.specs.SelectionSilence.{Operands, selects-stage}
-use Rattle.mlkem.specs.Parameters.{Parameters, ctBytes}
+use Rattle.masked_comparison.specs.ComparisonSilence.{allZeroEntries}
+use Rattle.masked_sampler.specs.PolynomialSilence.{Anything}
+use Rattle.masked_comparison.specs.SelectionSilence.{Operands, selects-stage}
+use Rattle.kpke.specs.Parameters.{Parameters, ctBytes}
 use Rattle.mlkem.specs.Fits.{Fits}
 use Rattle.mlkem.specs.Worksheet.{SplitKey, Noise, Reencrypted, Planes, planeWords, worksheet}
 use Rattle.mlkem.specs.Worksheet.{stage2, stage3, stage4, stage5, stage6, stage7, stage8, stage9, stage10}

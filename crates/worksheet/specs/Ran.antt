@@ -7,7 +7,8 @@ use native.Mathlib.Numerals.{add-one}
 use native.Mathlib.Omega.{arith}
 use lib.ListN.{getD, take, drop, length, length-drop}
 use lib.Seq.{getD-drop, drop-drop, take-all}
-use Rattle.words.specs.Word.{low}
+use Rattle.words.specs.Word.{low, Bits}
+use Rattle.words.specs.WordLaws.{low-of-bits}
 use Rattle.worksheet.specs.declared.Recorder.{Recorder}
 use Rattle.worksheet.specs.Prog.{Mask, word, coeff, Prog, ret, _>>=_, mask, maskLow, entry}
 use Rattle.worksheet.specs.Run.{Run, run, run-bind}
@@ -87,6 +88,11 @@ next-word ws i {cs} m = rw (drop-drop 1 i ws) at (m (drop i ws) cs (getD-next ws
 pub next-low : {A : Type 0} (n : ℕ) {p : Prog A} {r r′ : Recorder} {a : A} (ws : List ℕ) (i : ℕ) {cs : List ℕ}
     → MakesWithLow n p (low n (getD ws i 0)) r a r′ → Ran p r (drop i ws) cs a r′ (drop (i + 1) ws) cs
 next-low n ws i {cs} m = rw (drop-drop 1 i ws) at (m (drop i ws) cs (ap (low n) (getD-next ws i)))
+
+-- of a mask that has n bits as it stands
+pub next-bits : {A : Type 0} (n : ℕ) {p : Prog A} {r r′ : Recorder} {a : A} (ws : List ℕ) (i : ℕ) {cs : List ℕ}
+    → Bits n (getD ws i 0) → MakesWithLow n p (getD ws i 0) r a r′ → Ran p r (drop i ws) cs a r′ (drop (i + 1) ws) cs
+next-bits n ws i b m = next-low n ws i (rw (low-of-bits b) m)
 
 pub next-coeff : {A : Type 0} {p : Prog A} {r r′ : Recorder} {a : A} (cs : List ℕ) (i : ℕ) {ws : List ℕ}
     → MakesWith coeff p (getD cs i 0) r a r′ → Ran p r ws (drop i cs) a r′ ws (drop (i + 1) cs)

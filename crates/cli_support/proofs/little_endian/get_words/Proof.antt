@@ -6,7 +6,7 @@ use lib.ListN.{length, take, drop}
 use Rattle.words.specs.Fill.{Filled, filled-start, filled-turn, filled-end}
 use Rattle.words.specs.Numeral.{value}
 use Rattle.cli_support.specs.LittleEndian.{numbers}
-use Rattle.mlkem.proofs.Joined.{part-span, length-span}
+use Rattle.kpke.proofs.Joined.{part-span, length-span}
 use Rattle.cli_support.proofs.little_endian.get_words.Statement.{statement}
 use Rattle.cli_support.proofs.little_endian.get_words.Tie as tie
 

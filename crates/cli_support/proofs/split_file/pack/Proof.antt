@@ -3,7 +3,7 @@ use mathlib.Core.List.{_++_}
 use borrow.Author.Needs.{needs}
 use native.Mathlib.Omega.{arith}
 use lib.ListN.{length-append}
-use Rattle.mlkem.proofs.Joined.{two-parts}
+use Rattle.kpke.proofs.Joined.{two-parts}
 use Rattle.cli_support.specs.LittleEndian.{bytesOf, length-bytesOf-two}
 use Rattle.cli_support.specs.Split.{splitBytes}
 use Rattle.cli_support.proofs.split_file.pack.Statement.{statement}

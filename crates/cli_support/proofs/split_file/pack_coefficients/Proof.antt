@@ -1,6 +1,6 @@
 use borrow.Author.Needs.{needs}
 use native.Mathlib.Omega.{arith}
-use Rattle.mlkem.proofs.Joined.{two-parts}
+use Rattle.kpke.proofs.Joined.{two-parts}
 use Rattle.cli_support.specs.LittleEndian.{length-bytesOf}
 use Rattle.cli_support.proofs.split_file.pack_coefficients.Statement.{statement}
 use Rattle.cli_support.proofs.split_file.pack_coefficients.Tie as tie

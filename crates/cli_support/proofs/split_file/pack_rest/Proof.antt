@@ -1,7 +1,7 @@
 use mathlib.Core.Path.{_∙_}
 use borrow.Author.Needs.{needs}
 use native.Mathlib.Omega.{arith}
-use Rattle.mlkem.proofs.Joined.{two-parts}
+use Rattle.kpke.proofs.Joined.{two-parts}
 use Rattle.cli_support.specs.LittleEndian.{length-bytesOf-two}
 use Rattle.cli_support.proofs.split_file.pack_rest.Statement.{statement}
 use Rattle.cli_support.proofs.split_file.pack_rest.Tie as tie

@@ -5,7 +5,7 @@ use native.Mathlib.Omega.{arith}
 use borrow.Author.Tests.{not-true, not-false, le-leb, lt-leb}
 use lib.Dec.{leb}
 use lib.ListN.{length, length-take, length-drop}
-use Rattle.mlkem.specs.Calls.{matrixFull}
+use Rattle.kpke.specs.KPke.{matrixFull}
 use Rattle.mlkem.specs.TestLaws.{reduced-below}
 use Rattle.decapsulation.specs.Calls.{input}
 use Rattle.decapsulation.specs.AnswerLaws.{told-rows, key-fits, rest-fits, row5, row6, row7, row8, no-row, sheet-steps}

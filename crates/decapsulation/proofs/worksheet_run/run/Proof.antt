@@ -1,5 +1,5 @@
 use mathlib.Core.Path.{_∙_}
-use Rattle.mlkem.specs.Parameters.{mlKem768}
+use Rattle.kpke.specs.Parameters.{mlKem768}
 use Rattle.decapsulation.proofs.Coins.{coins-part}
 use Prim.Native.Nat.{_-_}
 use native.Mathlib.Omega.{arith}

@@ -2,7 +2,7 @@ use Prim.Native.Nat.{_*_}
 use native.Mathlib.Omega.{arith}
 use lib.ListN.{length}
 use Rattle.mlkem.specs.WordBytes.{length-bytesOf}
-use Rattle.mlkem.proofs.Joined.{two-parts}
+use Rattle.kpke.proofs.Joined.{two-parts}
 use borrow.Author.Needs.{needs}
 use Rattle.hash_stages.proofs.hashing.with_public.Statement.{statement}
 use Rattle.hash_stages.proofs.hashing.with_public.Tie as tie

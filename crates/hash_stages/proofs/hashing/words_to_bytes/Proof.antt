@@ -3,7 +3,7 @@ use Prim.Native.Nat.{_-_, _*_}
 use native.Mathlib.Omega.{arith}
 use lib.ListN.{length, getD}
 use Rattle.words.specs.Numeral.{digits}
-use Rattle.mlkem.proofs.Joined.{Joined, length-span, joined-start, joined-turn, joined-end}
+use Rattle.kpke.proofs.Joined.{Joined, length-span, joined-start, joined-turn, joined-end}
 use Rattle.hash_stages.proofs.Hashed.{bytesOf-concat}
 use borrow.Author.Needs.{needs}
 use Rattle.hash_stages.proofs.hashing.words_to_bytes.Statement.{statement}

@@ -8,7 +8,7 @@ use Rattle.worksheet.specs.Ran.{Ran, bind, over, next-coeff}
 use Rattle.worksheet.specs.RanLoops.{times-start, times-turn}
 use Rattle.worksheet.specs.Sharing.{none}
 use Rattle.worksheet.specs.SharedList.{sharedList, zip, zip-zero, zip-set, unzip-zip}
-use Rattle.gadgets.specs.Coefficient.{bitToCoeff}
+use Rattle.masked_sampler.specs.Coefficient.{bitToCoeff}
 use Rattle.mlkem.specs.Worksheet.{bitOf, stage4}
 use borrow.Author.Needs.{needs}
 use Rattle.hash_stages.proofs.message.stage4.Statement.{statement}

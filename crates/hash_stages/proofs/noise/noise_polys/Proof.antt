@@ -7,9 +7,9 @@ use Rattle.worksheet.specs.Prog.{times}
 use Rattle.worksheet.specs.Ran.{Ran, part-words, part-coeffs}
 use Rattle.worksheet.specs.RanLoops.{times-start, times-turn}
 use Rattle.worksheet.specs.SharedList.{sharedList}
-use Rattle.mlkem.specs.Parameters.{mlKem768}
+use Rattle.kpke.specs.Parameters.{mlKem768}
 use Rattle.mlkem.specs.Worksheet.{noisePoly}
-use Rattle.mlkem.proofs.Joined.{length-span}
+use Rattle.kpke.proofs.Joined.{length-span}
 use Rattle.mlkem.specs.Layout.{polynomials}
 use Rattle.mlkem.specs.LayoutLaws.{partsBy-start, partsBy-turn}
 use borrow.Author.Needs.{needs}

@@ -8,7 +8,7 @@ use Rattle.worksheet.specs.Prog.{times}
 use Rattle.worksheet.specs.Ran.{Ran, part-coeffs}
 use Rattle.worksheet.specs.RanLoops.{times-start, times-turn}
 use Rattle.worksheet.specs.SharedList.{sharedList, zip, zip-zero, zip-set}
-use Rattle.gadgets.specs.Coefficient.{sampler}
+use Rattle.masked_sampler.specs.Coefficient.{sampler}
 use Rattle.mlkem.specs.Worksheet.{bitOf}
 use Rattle.hash_stages.proofs.Sampled.{sampled}
 use borrow.Author.Needs.{needs}

@@ -7,7 +7,7 @@ use Rattle.words.specs.Bounded.{below-take, below-drop}
 use Rattle.worksheet.specs.Prog.{times, times-cong}
 use Rattle.worksheet.specs.Ran.{bind, over, part-words, part-coeffs}
 use Rattle.worksheet.specs.SharedList.{SharedList, sharedList}
-use Rattle.mlkem.specs.Parameters.{mlKem768}
+use Rattle.kpke.specs.Parameters.{mlKem768}
 use Rattle.mlkem.specs.Worksheet.{noisePoly, stage5}
 use borrow.Author.Needs.{needs}
 use Rattle.hash_stages.proofs.noise.stage5.Statement.{statement}

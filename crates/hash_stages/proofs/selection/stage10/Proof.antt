@@ -4,12 +4,11 @@ use mathlib.Core.List.{List}
 use native.Mathlib.Omega.{arith}
 use lib.ListN.{length, length-set, drop}
 use Rattle.worksheet.specs.Prog.{times}
-use Rattle.worksheet.specs.Ran.{Ran, bind, over}
+use Rattle.worksheet.specs.Ran.{Ran, bind, over, next-bits}
 use Rattle.worksheet.specs.RanLoops.{times-start, times-turn}
 use Rattle.worksheet.specs.Sharing.{none}
 use Rattle.worksheet.specs.SharedList.{sharedList, sharedAt, zip, zip-zero, zip-set, unzip-zip}
-use Rattle.gadgets.specs.Comparison.{select}
-use Rattle.gadgets.proofs.Strip.{next-bits}
+use Rattle.masked_comparison.specs.Comparison.{select}
 use Rattle.mlkem.specs.Worksheet.{stage10}
 use borrow.Author.Needs.{needs}
 use Rattle.hash_stages.proofs.selection.stage10.Statement.{statement}

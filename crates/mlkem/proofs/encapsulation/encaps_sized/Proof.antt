@@ -7,10 +7,9 @@ use lib.ListN.{drop}
 use borrow.Author.Tests.{not-true, not-false}
 use Rattle.words.specs.Part.{part-rest}
 use Rattle.mlkem.specs.declared.Answer.the-variants.{Done, PublicKeyRange, ShortStream}
-use Rattle.mlkem.specs.KPke.{concat, matrix}
+use Rattle.kpke.specs.KPke.{concat, matrix, matrixFull}
 use Rattle.mlkem.specs.Refusals.{reduced}
-use Rattle.mlkem.specs.Calls.{matrixFull}
-use Rattle.mlkem.specs.Expanded.{expanded-concat}
+use Rattle.kpke.specs.Expanded.{expanded-concat}
 use Rattle.mlkem.proofs.Answers.{encapsAnswer-sized}
 use borrow.Author.Needs.{needs}
 use Rattle.mlkem.proofs.encapsulation.encaps_sized.Statement.{statement}

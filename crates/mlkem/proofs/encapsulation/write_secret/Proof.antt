@@ -5,8 +5,8 @@ use native.Mathlib.Omega.{arith}
 use lib.ListN.{take, drop, length-drop}
 use lib.Seq.{take-all}
 use Rattle.fips202.specs.Sponge.{sha3-512}
-use Rattle.mlkem.specs.Parameters.{mlKem768}
-use Rattle.mlkem.specs.KPke.{encrypt}
+use Rattle.kpke.specs.Parameters.{mlKem768}
+use Rattle.kpke.specs.KPke.{encrypt}
 use Rattle.mlkem.specs.MlKem.{encapsKey, encapsCt}
 use borrow.Author.Needs.{needs}
 use Rattle.mlkem.proofs.encapsulation.write_secret.Statement.{statement}

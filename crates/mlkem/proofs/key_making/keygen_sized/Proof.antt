@@ -6,8 +6,8 @@ use native.Mathlib.Omega.{arith}
 use borrow.Author.Tests.{not-true, not-false}
 use lib.ListN.{take}
 use Rattle.mlkem.specs.declared.Answer.the-variants.{Done, ShortStream}
-use Rattle.mlkem.specs.Calls.{matrixFull}
-use Rattle.mlkem.specs.Expanded.{expanded-concat}
+use Rattle.kpke.specs.KPke.{matrixFull}
+use Rattle.kpke.specs.Expanded.{expanded-concat}
 use Rattle.mlkem.proofs.Answers.{keyGenAnswer-sized}
 use borrow.Author.Needs.{needs}
 use Rattle.mlkem.proofs.key_making.keygen_sized.Statement.{statement}

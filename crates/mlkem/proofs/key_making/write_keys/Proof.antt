@@ -1,37 +1,28 @@
-use mathlib.Core.Path.{ap, _∙_}
-use mathlib.Core.List.{List}
-use Prim.Native.Nat.{ℕ, _+_, _-_}
+use mathlib.Core.Path.{_≡_, ap, _∙_}
+use mathlib.Core.List.{List, _++_}
+use Prim.Native.Nat.{ℕ}
 use native.Mathlib.Omega.{arith}
-use lib.ListN.{length, take, drop}
-use Rattle.words.specs.Part.{part-rest}
-use Rattle.ring.specs.Transform.{ntt}
-use Rattle.mlkem.specs.Parameters.{mlKem768}
-use Rattle.mlkem.specs.KPke.{parts, concat, noise, publicPolynomial}
-use Rattle.mlkem.specs.Expanded.{placesOf}
-use Rattle.mlkem.proofs.Parts.{below-transformed, below-public}
-use Rattle.mlkem.proofs.Keys.{ek-parts, dk-parts}
+use lib.ListN.{length}
+use Rattle.fips202.specs.Sponge.{sha3-256}
+use Rattle.kpke.specs.KPke.{dkPke}
+use Rattle.mlkem.specs.MlKem.{keyGenEk, keyGenDk}
+use Rattle.kpke.proofs.Encoded.{length-encoded}
+use Rattle.kpke.proofs.Joined.{two-parts}
 use borrow.Author.Needs.{needs}
 use Rattle.mlkem.proofs.key_making.write_keys.Statement.{statement}
 use Rattle.mlkem.proofs.key_making.write_keys.Tie as tie
 
-write-ek-requires : tie.Need-write-ek-requires
-write-ek-requires c κs = (omega arith, rw (c .before .before .before .before .public-vector .ensures) (below-public 3 _ _ _), omega arith, omega arith)
-
-write-dk-requires : tie.Need-write-dk-requires
-write-dk-requires c κs = (omega arith, rw (c .before .before .before .before .before .before .before .before .before .before .before .before .before .before .before .transformed-noise .ensures) (below-transformed 2 3 (let g = c .before .before .before .before .before .before .before .before .before .before .before .before .before .before .before .before .before .before .before .before .before .before .before .args .g .now in take (length g - 32) (drop 32 g))), omega arith, omega arith, omega arith)
-
 returns : tie.Need-returns
+unfolding keyGenEk keyGenDk dkPke
 returns c =
-    let s = c .before .before .before .before .before .before .before .before .before .before .before .before .before .before .before .before .before .before .before .before .before .before .before .before .before .before .args in
-    let x = c .before .before .before .before .before .before .before .before .before .before .before .before .before .before .before .before .before .before .before .before .before .before .before .before .before .before .pre .0 in
-    let r = part-rest 32 (s .g .now) in
-    let v = c .before .before .before .before .before .before .before .before .before .before .before .before .before .before .before .before .before .before .transformed-noise .last .1 .1 .1 .0 in
-    let es = c .before .before .before .before .before .before .before .before .before .before .before .before .before .before .before .before .before .before .transformed-noise .ensures ∙ ap (λ (l : List ℕ). concat 3 (λ i. ntt (noise 2 l i))) r in
-    let et =
-    c .before .before .before .before .before .before .before .before .before .before .before .before .before .public-vector .ensures
-    ∙ ap (λ (l : List ℕ). concat 3 (publicPolynomial 3 (placesOf 3 (s .a .now)) (parts 256 v) (λ j. ntt (noise 2 l (3 + j))))) r in
-    let ek = c .before .before .before .before .before .before .before .before .write-ek .ensures in
-    (λ d e. ek ∙ ek-parts mlKem768 d e x es et, λ d e. c .before .before .write-dk .ensures ∙ dk-parts mlKem768 d e x es (s .z .now) (ek ∙ ek-parts mlKem768 d e x es et))
+    let s = c .before .before .before .before .before .before .before .before .before .before .before .before .before .before .before .before .before .args in
+    let k = c .before .before .before .before .before .before .before .before .before .write-keys .ensures in (
+      k .0,
+      λ d e.
+          let r = c .before .before .write-rest .ensures ∙ ap (λ (l : List ℕ). l ++ (sha3-256 l ++ s .z .now)) (k .0 d e) in
+          let n = ap length r in
+          two-parts (s .dk .now) 1152 (length-encoded 12 3 _) (omega arith) (k .1 d e) r,
+    )
 
 pub write-keys-spec : {M : Type 1} → statement M
 write-keys-spec =
@@ -40,21 +31,11 @@ write-keys-spec =
     (λ c. search needs)
     (λ c. search needs)
     (λ c. search needs)
-    (λ c. search needs)
     (λ c κs. search needs)
     (λ c. search needs)
     (λ c. search needs)
     (λ c. search needs)
-    (λ c. search needs)
-    (λ c. search needs)
     (λ c κs. search needs)
-    (λ c. search needs)
-    (λ c. search needs)
-    (λ c. search needs)
-    (λ c. search needs)
-    write-ek-requires
-    (λ c. search needs)
-    write-dk-requires
     (λ c. search needs)
     (λ c. search needs)
     returns)

@@ -1,10 +1,10 @@
 use mathlib.Core.Path.{refl}
 use borrow.Author.Tests.{eq-eqb, ne-eqb}
 use lib.ListN.{length}
-use Rattle.ring.specs.Sample.{full}
+use Rattle.codec.specs.Sample.{full}
 use Rattle.mlkem.specs.Refusals.{answer, sized}
 use Rattle.mlkem.specs.Calls.{sampleAnswer}
-use Rattle.mlkem.proofs.Sampled.{full-true, full-false}
+use Rattle.kpke.proofs.Sampled.{full-true, full-false}
 use borrow.Author.Needs.{needs}
 use Rattle.mlkem.proofs.sampling.sample.Statement.{statement}
 use Rattle.mlkem.proofs.sampling.sample.Tie as tie

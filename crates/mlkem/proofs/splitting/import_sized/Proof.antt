@@ -10,7 +10,7 @@ use Rattle.ring.specs.Polynomial.{sub}
 use Rattle.mlkem.specs.MlKem.{same}
 use Rattle.mlkem.specs.Refusals.{reduced}
 use Rattle.mlkem.specs.TestLaws.{reduced-below}
-use Rattle.mlkem.specs.Calls.{coefficients}
+use Rattle.kpke.specs.KPke.{coefficients}
 use Rattle.mlkem.proofs.Answers.{importAnswer-sized, row2, row3, row4, row5, no-row}
 use Rattle.mlkem.proofs.Shares.{sub-secondCoeffs}
 use Rattle.mlkem.proofs.splitting.import_sized.Statement.{statement}

@@ -7,7 +7,7 @@ use Rattle.words.specs.Numeral.{value}
 use Rattle.words.specs.Tab.{tab-of}
 use Rattle.words.specs.Fill.{Filled, filled-start, filled-turn, filled-end}
 use Rattle.fips202.specs.Sponge.{laneOf}
-use Rattle.mlkem.proofs.Joined.{part-span, length-span}
+use Rattle.kpke.proofs.Joined.{part-span, length-span}
 use Rattle.mlkem.proofs.splitting.split_words.Statement.{statement}
 use Rattle.mlkem.proofs.splitting.split_words.Tie as tie
 

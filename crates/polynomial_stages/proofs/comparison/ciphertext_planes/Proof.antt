@@ -3,10 +3,10 @@ use mathlib.Core.List.{List}
 use Prim.Native.Nat.{ℕ, _+_, _/_, _%_}
 use Rattle.words.specs.Part.{part-rest}
 use Rattle.words.specs.Tab.{tab, length-tab}
-use Rattle.ring.specs.Bytes.{byteDecode}
-use Rattle.mlkem.specs.Parameters.{mlKem768}
+use Rattle.codec.specs.Bytes.{byteDecode}
+use Rattle.kpke.specs.Parameters.{mlKem768}
 use Rattle.mlkem.specs.PlanesValue.{planeOf}
-use Rattle.mlkem.proofs.Joined.{two-parts}
+use Rattle.kpke.proofs.Joined.{two-parts}
 use Rattle.polynomial_stages.proofs.Compared.{ciphertext-words}
 use borrow.Author.Needs.{needs}
 use Rattle.polynomial_stages.proofs.comparison.ciphertext_planes.Statement.{statement}

@@ -3,11 +3,11 @@ use mathlib.Core.List.{List}
 use Prim.Native.Nat.{ℕ, _-_, _*_, _/_, _%_}
 use native.Mathlib.Omega.{arith}
 use Rattle.words.specs.Tab.{tab}
-use Rattle.ring.specs.Bytes.{byteDecode}
-use Rattle.mlkem.specs.KPke.{parts}
-use Rattle.mlkem.specs.VectorLaws.{part-fits}
+use Rattle.codec.specs.Bytes.{byteDecode}
+use Rattle.kpke.specs.KPke.{parts}
+use Rattle.kpke.specs.VectorLaws.{part-fits}
 use Rattle.mlkem.specs.PlanesValue.{planeOf}
-use Rattle.mlkem.proofs.Joined.{part-span, length-span}
+use Rattle.kpke.proofs.Joined.{part-span, length-span}
 use Rattle.polynomial_stages.proofs.StoredRun.{turn-less, next-fits}
 use Rattle.polynomial_stages.proofs.Compared.{FilledParts, parts-start, parts-fits, parts-turn, parts-end, polynomial-planes}
 use borrow.Author.Needs.{needs}

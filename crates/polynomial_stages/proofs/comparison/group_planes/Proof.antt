@@ -4,7 +4,7 @@ use native.Mathlib.Nat.{mul-comm}
 use native.Mathlib.Omega.{arith}
 use Rattle.words.specs.Tab.{tab}
 use Rattle.mlkem.specs.PlanesValue.{planeOf}
-use Rattle.mlkem.proofs.Joined.{length-span}
+use Rattle.kpke.proofs.Joined.{length-span}
 use Rattle.polynomial_stages.proofs.StoredRun.{turn-less}
 use Rattle.polynomial_stages.proofs.Compared.{FilledParts, parts-start, parts-fits, parts-turn, parts-end, group-planes}
 use borrow.Author.Needs.{needs}

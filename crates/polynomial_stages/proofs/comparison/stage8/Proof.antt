@@ -1,6 +1,6 @@
 use native.Mathlib.Omega.{arith}
 use mathlib.Core.List.{[]}
-use Rattle.mlkem.specs.Parameters.{mlKem768}
+use Rattle.kpke.specs.Parameters.{mlKem768}
 use Rattle.polynomial_stages.proofs.Compared.{stage8-ran, bit-shares}
 use borrow.Author.Needs.{needs}
 use Rattle.polynomial_stages.proofs.comparison.stage8.Statement.{statement}

@@ -3,9 +3,9 @@ use mathlib.Core.Path.{_≡_}
 use native.Mathlib.Omega.{arith}
 use Rattle.words.specs.Bounded.{below-take, below-drop}
 use Rattle.worksheet.specs.SharedList.{sharedList, sharedAt, zip}
-use Rattle.gadgets.specs.Compression.{maskedCompress}
+use Rattle.masked_compression.specs.Compression.{maskedCompress}
 use Rattle.mlkem.specs.Worksheet.{compressPoly}
-use Rattle.mlkem.proofs.Joined.{length-span}
+use Rattle.kpke.proofs.Joined.{length-span}
 use Rattle.polynomial_stages.proofs.Compressed.{group-part}
 use Rattle.polynomial_stages.proofs.StoredRun.{Written, written-start, fits0, fits1, fits-strip, length-rest, turn-less, written-turn, written-end}
 use borrow.Author.Needs.{needs}

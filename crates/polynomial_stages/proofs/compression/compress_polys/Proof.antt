@@ -4,7 +4,7 @@ use native.Mathlib.Omega.{arith}
 use Rattle.words.specs.Bounded.{below-take, below-drop}
 use Rattle.worksheet.specs.SharedList.{sharedList}
 use Rattle.mlkem.specs.Worksheet.{compressPoly}
-use Rattle.mlkem.proofs.Joined.{part-span, length-span}
+use Rattle.kpke.proofs.Joined.{part-span, length-span}
 use Rattle.mlkem.specs.Layout.{partOf, groups}
 use Rattle.polynomial_stages.proofs.StoredRun.{Written, written-start, fits0, fits1, fits-strip, length-rest, turn-less, next-fits, written-turn, written-end}
 use borrow.Author.Needs.{needs}

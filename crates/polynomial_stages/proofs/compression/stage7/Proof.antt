@@ -8,7 +8,7 @@ use Rattle.worksheet.specs.Prog.{times-cong}
 use Rattle.worksheet.specs.Ran.{bind, over, part-words}
 use Rattle.worksheet.specs.SharedList.{sharedList}
 use Rattle.mlkem.specs.Worksheet.{compressPoly, stage7}
-use Rattle.mlkem.proofs.Joined.{two-parts}
+use Rattle.kpke.proofs.Joined.{two-parts}
 use Rattle.mlkem.specs.Layout.{planesOf}
 use Rattle.polynomial_stages.proofs.Compressed.{polynomials-at, planesOf-append}
 use Rattle.polynomial_stages.proofs.StoredRun.{length-rest, length-behind, ran-as}

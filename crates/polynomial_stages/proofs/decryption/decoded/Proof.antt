@@ -1,8 +1,8 @@
 use mathlib.Core.Path.{ap, _∙_}
 use mathlib.Core.List.{map}
 use native.Mathlib.Omega.{arith}
-use Rattle.ring.specs.BytesLaws.{below-byteDecode}
-use Rattle.ring.specs.Compress.{decompress}
+use Rattle.codec.specs.BytesLaws.{below-byteDecode}
+use Rattle.codec.specs.Compress.{decompress}
 use borrow.Author.Needs.{needs}
 use Rattle.polynomial_stages.proofs.decryption.decoded.Statement.{statement}
 use Rattle.polynomial_stages.proofs.decryption.decoded.Tie as tie

@@ -2,11 +2,11 @@ use mathlib.Core.Path.{_≡_, refl, ap, _∙_}
 use mathlib.Core.List.{List, map}
 use Prim.Native.Nat.{ℕ, _-_, _*_}
 use native.Mathlib.Omega.{arith}
-use Rattle.ring.specs.Bytes.{byteDecode}
-use Rattle.ring.specs.Compress.{decompress}
-use Rattle.mlkem.specs.KPke.{parts}
-use Rattle.mlkem.specs.VectorLaws.{part-fits}
-use Rattle.mlkem.proofs.Joined.{Joined, part-span, length-span, joined-start, joined-turn, joined-end}
+use Rattle.codec.specs.Bytes.{byteDecode}
+use Rattle.codec.specs.Compress.{decompress}
+use Rattle.kpke.specs.KPke.{parts}
+use Rattle.kpke.specs.VectorLaws.{part-fits}
+use Rattle.kpke.proofs.Joined.{Joined, part-span, length-span, joined-start, joined-turn, joined-end}
 use Rattle.polynomial_stages.proofs.decryption.decoded_all.Statement.{statement}
 use Rattle.polynomial_stages.proofs.decryption.decoded_all.Tie as tie
 

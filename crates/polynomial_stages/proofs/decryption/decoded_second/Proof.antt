@@ -2,9 +2,9 @@ use mathlib.Core.Path.{ap, _∙_}
 use mathlib.Core.List.{List, map}
 use Prim.Native.Nat.{ℕ}
 use Rattle.words.specs.Part.{part-rest}
-use Rattle.ring.specs.Bytes.{byteDecode}
-use Rattle.ring.specs.Compress.{decompress}
-use Rattle.mlkem.specs.KPke.{secondDecoded}
+use Rattle.codec.specs.Bytes.{byteDecode}
+use Rattle.codec.specs.Compress.{decompress}
+use Rattle.kpke.specs.KPke.{secondDecoded}
 use borrow.Author.Needs.{needs}
 use Rattle.polynomial_stages.proofs.decryption.decoded_second.Statement.{statement}
 use Rattle.polynomial_stages.proofs.decryption.decoded_second.Tie as tie

@@ -3,7 +3,7 @@ use lib.ListN.{replicate}
 use Rattle.ring.specs.Polynomial.{sub}
 use Rattle.ring.specs.Sum.{below-sub}
 use Rattle.worksheet.specs.SharedList.{sharedList}
-use Rattle.mlkem.specs.Parameters.{mlKem768}
+use Rattle.kpke.specs.Parameters.{mlKem768}
 use Rattle.polynomial_stages.proofs.Decrypted.{stage1-of}
 use borrow.Author.Needs.{needs}
 use Rattle.polynomial_stages.proofs.decryption.stage1.Statement.{statement}

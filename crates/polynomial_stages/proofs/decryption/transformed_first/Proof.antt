@@ -1,4 +1,4 @@
-use Rattle.mlkem.specs.Parameters.{mlKem768}
+use Rattle.kpke.specs.Parameters.{mlKem768}
 use Rattle.polynomial_stages.proofs.Decrypted.{transformed-first}
 use borrow.Author.Needs.{needs}
 use Rattle.polynomial_stages.proofs.decryption.transformed_first.Statement.{statement}

@@ -7,8 +7,8 @@ use Rattle.worksheet.specs.Prog.{times}
 use Rattle.worksheet.specs.Ran.{Ran}
 use Rattle.worksheet.specs.RanLoops.{times-start, times-turn}
 use Rattle.worksheet.specs.SharedList.{sharedList}
-use Rattle.mlkem.specs.KPke.{parts}
-use Rattle.mlkem.proofs.Joined.{part-span, length-span}
+use Rattle.kpke.specs.KPke.{parts}
+use Rattle.kpke.proofs.Joined.{part-span, length-span}
 use Rattle.mlkem.specs.Layout.{polynomials}
 use Rattle.mlkem.specs.LayoutLaws.{partsBy-start, partsBy-suc}
 use Rattle.polynomial_stages.proofs.passes.enter_polynomials.Statement.{statement}

@@ -1,6 +1,6 @@
 use mathlib.Core.Path.{refl, _∙_}
-use Rattle.mlkem.specs.Expanded.{placesOf}
-use Rattle.mlkem.specs.VectorLaws.{concat-cong}
+use Rattle.kpke.specs.Expanded.{placesOf}
+use Rattle.kpke.specs.VectorLaws.{concat-cong}
 use Rattle.polynomial_stages.proofs.Reencrypted.{uPass-cong, vPass-cong}
 use Rattle.polynomial_stages.proofs.Vectors.{transformed-at}
 use borrow.Author.Needs.{needs}

@@ -1,6 +1,6 @@
 use mathlib.Core.Path.{sym, _∙_}
 use Rattle.worksheet.specs.SharedList.{sharedList}
-use Rattle.mlkem.specs.Parameters.{mlKem768}
+use Rattle.kpke.specs.Parameters.{mlKem768}
 use Rattle.polynomial_stages.proofs.Reencrypted.{below-uPasses, below-vPass, stage6-of}
 use borrow.Author.Needs.{needs}
 use Rattle.polynomial_stages.proofs.reencryption.stage6.Statement.{statement}

@@ -2,7 +2,7 @@ use mathlib.Core.Path.{ap, _∙_}
 use mathlib.Core.List.{List}
 use Prim.Native.Nat.{ℕ}
 use Rattle.ring.specs.Transform.{ntt}
-use Rattle.mlkem.specs.KPke.{parts, concat}
+use Rattle.kpke.specs.KPke.{parts, concat}
 use borrow.Author.Needs.{needs}
 use Rattle.polynomial_stages.proofs.reencryption.transformed.Statement.{statement}
 use Rattle.polynomial_stages.proofs.reencryption.transformed.Tie as tie

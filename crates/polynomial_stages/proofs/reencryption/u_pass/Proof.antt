@@ -4,9 +4,9 @@ use native.Mathlib.Nat.{add-comm}
 use native.Mathlib.Omega.{arith}
 use Rattle.ring.specs.Polynomial.{add}
 use Rattle.ring.specs.Transform.{inverseNtt}
-use Rattle.mlkem.specs.KPke.{parts}
-use Rattle.mlkem.specs.VectorLaws.{dot-cong}
-use Rattle.mlkem.proofs.Encoded.{place-fits}
+use Rattle.kpke.specs.KPke.{parts}
+use Rattle.kpke.specs.VectorLaws.{dot-cong}
+use Rattle.kpke.proofs.Encoded.{place-fits}
 use Rattle.polynomial_stages.specs.Passes.{uPass}
 use borrow.Author.Needs.{needs}
 use Rattle.polynomial_stages.proofs.reencryption.u_pass.Statement.{statement}

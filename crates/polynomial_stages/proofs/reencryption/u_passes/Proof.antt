@@ -2,9 +2,9 @@ use mathlib.Core.Path.{ap, _∙_}
 use mathlib.Core.List.{List}
 use Prim.Native.Nat.{ℕ, _-_, _*_}
 use native.Mathlib.Omega.{arith}
-use Rattle.mlkem.specs.KPke.{parts}
-use Rattle.mlkem.specs.Expanded.{placesOf}
-use Rattle.mlkem.proofs.Joined.{Joined, part-span, length-span, joined-start, joined-turn, joined-end}
+use Rattle.kpke.specs.KPke.{parts}
+use Rattle.kpke.specs.Expanded.{placesOf}
+use Rattle.kpke.proofs.Joined.{Joined, part-span, length-span, joined-start, joined-turn, joined-end}
 use Rattle.polynomial_stages.specs.Passes.{uPass}
 use Rattle.polynomial_stages.proofs.reencryption.u_passes.Statement.{statement}
 use Rattle.polynomial_stages.proofs.reencryption.u_passes.Tie as tie

@@ -1,0 +1,17 @@
+use mathlib.Core.Path.{ap, _∙_}
+use mathlib.Core.List.{map}
+use Prim.Native.Nat.{_%_}
+use borrow.Author.Needs.{needs}
+use Rattle.words.specs.Residue.{q}
+use Rattle.codec.specs.Bytes.{byteDecode12}
+use Rattle.codec.proofs.encoding.byte_decode12.Statement.{statement}
+use Rattle.codec.proofs.encoding.byte_decode12.Tie as tie
+
+returns : tie.Need-returns
+unfolding byteDecode12
+returns c =
+    c .before .before .reduce-all .ensures ∙ ap (map (λ x. x % q)) (c .before .before .before .before .before .before .byte-decode .ensures)
+
+pub byte-decode12-spec : {M : Type 1} → statement M
+byte-decode12-spec =
+    tie.close (tie.spec (λ c κs. search needs) (λ c κs. search needs) (λ c. search needs) returns)

@@ -1,0 +1,16 @@
+use borrow.Author.Needs.{needs}
+use Rattle.codec.specs.Collect.{collected-store, collected-full, collected-drop}
+use Rattle.codec.proofs.sampling.keep.Statement.{statement}
+use Rattle.codec.proofs.sampling.keep.Tie as tie
+
+pub keep-spec : {M : Type 1} → statement M
+keep-spec =
+    tie.close
+    (tie.spec
+    (λ c. search needs)
+    (λ c. search needs)
+    (λ c. search needs)
+    (λ c. search needs)
+    (λ c l h. collected-store h (c .before .before .args .x) (c .before .if1 .taken) (c .if2 .taken))
+    (λ c l h. collected-full h (c .before .before .args .x) (c .if2 .left))
+    (λ c l h. collected-drop h (c .before .args .x) (c .if1 .left)))

@@ -1,0 +1,77 @@
+// ByteEncode and ByteDecode at each number of bits from 1 to 12.
+use crate::bits::high;
+use crate::bits::join;
+use crate::bits::low;
+use crate::bits::low_byte;
+use crate::bits::wide8;
+use crate::bits::wide16;
+use ring::reduce;
+ghost use mathlib.Core.Path.{_≡_};
+ghost use mathlib.Core.List.{map};
+ghost use Prim.Native.Nat.{_*_, _%_, _^_, _<_, _≤_};
+ghost use lib.ListN.{length};
+ghost use Rattle.words.specs.Residue.{q};
+ghost use Rattle.words.specs.Bounded.{Below};
+ghost use Rattle.codec.specs.Bytes.{byteEncode, byteDecode, byteDecode12};
+
+// Each turn loads a coefficient or stores a byte.
+pub fn byte_encode(f: &[u16], d: u32, out: &mut [u8])
+    requires { ⌜ (length (now f) ≡ 256) × (length (now out) ≡ 32 * d) × (0 < d) × (d ≤ 12) × Below (2 ^ d) (now f) ⌝ }
+    ensures { λ _. ⌜ now (out .exit) ≡ byteEncode d (now (f .entry)) ⌝ }
+{
+    let mut acc: u32 = 0;
+    let mut n: u32 = 0;
+    let mut i = 0;
+    let mut k = 0;
+    while k < out.len() {
+        if n < 8 {
+            acc = join(acc, wide16(f[i]), n);
+            n += d;
+            i += 1;
+        } else {
+            out[k] = low_byte(acc);
+            acc = high(acc, 8);
+            n -= 8;
+            k += 1;
+        }
+    }
+}
+
+// Each turn loads a byte or stores a coefficient.
+pub fn byte_decode(b: &[u8], d: u32, f: &mut [u16])
+    requires { ⌜ (length (now b) ≡ 32 * d) × (length (now f) ≡ 256) × (0 < d) × (d ≤ 12) ⌝ }
+    ensures { λ _. ⌜ now (f .exit) ≡ byteDecode d (now (b .entry)) ⌝ }
+{
+    let mut acc: u32 = 0;
+    let mut n: u32 = 0;
+    let mut i = 0;
+    let mut k = 0;
+    while k < f.len() {
+        if n < d {
+            acc = join(acc, wide8(b[i]), n);
+            n += 8;
+            i += 1;
+        } else {
+            f[k] = low(acc, d);
+            acc = high(acc, d);
+            n -= d;
+            k += 1;
+        }
+    }
+}
+
+fn reduce_all(f: &mut [u16])
+    ensures { λ _. ⌜ now (f .exit) ≡ map (λ x. x % q) (now (f .entry)) ⌝ }
+{
+    for i in 0..f.len() {
+        f[i] = reduce(wide16(f[i]));
+    }
+}
+
+pub fn byte_decode12(b: &[u8], f: &mut [u16])
+    requires { ⌜ (length (now b) ≡ 384) × (length (now f) ≡ 256) ⌝ }
+    ensures { λ _. ⌜ now (f .exit) ≡ byteDecode12 (now (b .entry)) ⌝ }
+{
+    byte_decode(b, 12, f);
+    reduce_all(f);
+}

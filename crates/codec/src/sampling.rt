@@ -1,0 +1,120 @@
+// SampleNTT on a lent stream, and SamplePolyCBD at widths up to 3.
+use crate::bits::high;
+use crate::bits::low;
+use crate::bits::wide16;
+use crate::encoding::byte_decode;
+use ring::difference;
+ghost use mathlib.Core.Bool.{cond};
+ghost use mathlib.Core.List.{List, _++_, map};
+ghost use mathlib.Core.Path.{_≡_};
+ghost use Prim.Native.Nat.{ℕ, _+_, _*_, _/_, _%_, _^_, _<_, _≤_};
+ghost use lib.ListN.{length};
+ghost use Rattle.words.specs.Bounded.{Below};
+ghost use Rattle.words.specs.Numeral.{digits};
+ghost use Rattle.codec.specs.Sample.{kept, accepted, full, answerOf, sampleNtt, sum, samplePolyCbd};
+ghost use Rattle.codec.specs.SampleLaws.{centred};
+ghost use Rattle.codec.specs.Collect.{Collected};
+
+pub enum Sampled {
+    Full,
+    Short,
+}
+
+fn first_of(b0: u8, b1: u8) -> u16
+    ensures { λ r. ⌜ r ≡ b0 + 256 * (b1 % 16) ⌝ }
+{
+    (b0 as u16) + 256 * ((b1 % 16) as u16)
+}
+
+fn second_of(b1: u8, b2: u8) -> u16
+    ensures { λ r. ⌜ r ≡ b1 / 16 + 16 * b2 ⌝ }
+{
+    ((b1 / 16) as u16) + 16 * (b2 as u16)
+}
+
+fn accepts(x: u16) -> usize
+    ensures { λ r. ⌜ (r ≡ length (kept x)) × (r ≤ 1) ⌝ }
+{
+    if x < 3329 { 1 } else { 0 }
+}
+
+fn count_accepted(stream: &[u8]) -> usize
+    requires { ⌜ length (now stream) ≡ 840 ⌝ }
+    ensures { λ r. ⌜ r ≡ length (accepted 280 (now (stream .entry))) ⌝ }
+{
+    let mut n = 0;
+    for i in 0..280 {
+        n += accepts(first_of(stream[3 * i], stream[3 * i + 1]));
+        n += accepts(second_of(stream[3 * i + 1], stream[3 * i + 2]));
+    }
+    n
+}
+
+// x goes to f[k] where it is below q and there is room; the next place
+fn keep(f: &mut [u16], k: usize, x: u16) -> usize
+    ensures { λ r. ⌜ ((l : List ℕ) → Collected l (now (f .entry)) k → Collected (l ++ kept x) (now (f .exit)) r) ⌝ }
+{
+    if x < 3329 {
+        if k < f.len() {
+            f[k] = x;
+            return k + 1;
+        }
+        return k;
+    }
+    k
+}
+
+fn fill(stream: &[u8], f: &mut [u16])
+    requires { ⌜ (length (now stream) ≡ 840) × (length (now f) ≡ 256) × (256 ≤ length (accepted 280 (now stream))) ⌝ }
+    ensures { λ _. ⌜ now (f .exit) ≡ sampleNtt (now (stream .entry)) ⌝ }
+{
+    let mut k = 0;
+    for i in 0..280 {
+        k = keep(f, k, first_of(stream[3 * i], stream[3 * i + 1]));
+        k = keep(f, k, second_of(stream[3 * i + 1], stream[3 * i + 2]));
+    }
+}
+
+// Where the stream is short, f stays as it is.
+pub fn sample_ntt(stream: &[u8], f: &mut [u16]) -> Sampled
+    requires { ⌜ (length (now stream) ≡ 840) × (length (now f) ≡ 256) ⌝ }
+    ensures { λ r. ⌜ r ≡ answerOf (full (now (stream .entry))) ⌝ }
+    ensures { λ _. ⌜ now (f .exit) ≡ cond (full (now (stream .entry))) (sampleNtt (now (stream .entry))) (now (f .entry)) ⌝ }
+{
+    if count_accepted(stream) < 256 {
+        return Sampled::Short;
+    }
+    fill(stream, f);
+    Sampled::Full
+}
+
+// the sum of three bits
+fn ones(v: u16) -> u16
+    ensures { λ r. ⌜ (r ≡ sum (digits 2 3 v)) × (r ≤ 3) ⌝ }
+{
+    v % 2 + v / 2 % 2 + v / 4 % 2
+}
+
+fn centred_at(v: u16, eta: u32) -> u16
+    requires { ⌜ (eta ≤ 3) × (v < 2 ^ (2 * eta)) ⌝ }
+    ensures { λ r. ⌜ r ≡ centred eta v ⌝ }
+{
+    difference(ones(low(wide16(v), eta)), ones(high(wide16(v), eta) as u16))
+}
+
+fn centre_all(f: &mut [u16], eta: u32)
+    requires { ⌜ (eta ≤ 3) × Below (2 ^ (2 * eta)) (now f) ⌝ }
+    ensures { λ _. ⌜ now (f .exit) ≡ map (centred eta) (now (f .entry)) ⌝ }
+{
+    for i in 0..f.len() {
+        f[i] = centred_at(f[i], eta);
+    }
+}
+
+pub fn sample_poly_cbd(bytes: &[u8], eta: u32, f: &mut [u16])
+    requires { ⌜ (length (now bytes) ≡ 64 * eta) × (length (now f) ≡ 256) × (0 < eta) × (eta ≤ 3) ⌝ }
+    ensures { λ _. ⌜ now (f .exit) ≡ samplePolyCbd eta (now (bytes .entry)) ⌝ }
+{
+    byte_decode(bytes, 2 * eta, f);
+    centre_all(f, eta);
+}

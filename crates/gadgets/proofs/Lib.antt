@@ -1,4 +1,0 @@
-pub mod Strip
-pub mod FixedPoint
-pub mod TranspositionLaws
-pub mod SumsZip

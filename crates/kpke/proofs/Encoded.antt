@@ -1,0 +1,49 @@
+-- Ranges and lengths that the encodings ask for, and what fits the matrix.
+use mathlib.Core.Path.{_≡_, refl, ap, _∙_}
+use mathlib.Core.List.{List, [], _∷_, map}
+use Prim.Native.Nat.{ℕ, zero, suc, _+_, _*_, _^_, _<_, _≤_}
+use native.Mathlib.Nat.{mul-assoc}
+use native.Mathlib.Omega.{arith}
+use lib.ListN.{length, take, drop}
+use lib.Pow.{pow-pos}
+use Rattle.words.specs.Bounded.{Below, below-nil, below-cons}
+use Rattle.words.specs.Residue.{q}
+use Rattle.words.specs.Tab.{length-tab}
+use Rattle.fips202.specs.Sponge.{sha3-256, sponge, squeezed}
+use Rattle.codec.specs.Bytes.{byteEncode}
+use Rattle.codec.specs.BytesLaws.{length-byteEncode}
+use Rattle.codec.specs.Compress.{compress}
+use Rattle.codec.specs.CompressLaws.{compress-lt}
+use Rattle.kpke.specs.KPke.{concat}
+use Rattle.kpke.specs.VectorLaws.{part-fits, length-concat}
+
+pub below-compress : (d : ℕ) (l : List ℕ) → Below (2 ^ d) (map (compress d) l)
+below-compress d [] = below-nil (pow-pos d)
+below-compress d (x ∷ l) = below-cons (compress-lt d x) (below-compress d l)
+
+pub below-byteEncode12 : {l : List ℕ} → Below q l → Below (2 ^ 12) l
+below-byteEncode12 b = record { at = λ k. omega (arith, b .at k) }
+
+map-take : (g : ℕ → ℕ) (n : ℕ) (l : List ℕ) → take n (map g l) ≡ map g (take n l)
+map-take g zero l = refl
+map-take g (suc n) [] = refl
+map-take g (suc n) (x ∷ l) = ap (λ (m : List ℕ). g x ∷ m) (map-take g n l)
+
+map-drop : (g : ℕ → ℕ) (n : ℕ) (l : List ℕ) → drop n (map g l) ≡ map g (drop n l)
+map-drop g zero l = refl
+map-drop g (suc n) [] = refl
+map-drop g (suc n) (x ∷ l) = map-drop g n l
+
+pub part-map : (g : ℕ → ℕ) (a n : ℕ) (l : List ℕ) → take n (drop a (map g l)) ≡ map g (take n (drop a l))
+part-map g a n l = ap (take n) (map-drop g a l) ∙ map-take g n (drop a l)
+
+pub length-encoded : (d k : ℕ) (f : ℕ → List ℕ) → length (concat k (λ i. byteEncode d (f i))) ≡ 32 * d * k
+length-encoded d k f = length-concat (record { long = λ i h. length-byteEncode d (f i) })
+
+pub length-sha3-256 : (m : List ℕ) → length (sha3-256 m) ≡ 32
+unfolding sha3-256 sponge squeezed
+length-sha3-256 m = length-tab 32 _
+
+-- place (i, j) of k rows of k polynomials
+pub place-fits : (k i j : ℕ) → i < k → j < k → 256 * (k * i + j) + 256 ≤ 256 * k * k
+place-fits k i j h g = omega (arith, part-fits k h, mul-assoc 256 k k)

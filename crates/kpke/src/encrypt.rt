@@ -1,0 +1,95 @@
+// K-PKE.Encrypt (FIPS 203, algorithm 14).
+ghost use mathlib.Core.List.{_++_, map};
+ghost use mathlib.Core.Path.{_≡_};
+ghost use Prim.Native.Nat.{_+_, _*_, _<_, _≤_};
+ghost use lib.ListN.{length, drop};
+ghost use Rattle.codec.specs.Bytes.{byteEncode, byteDecode};
+ghost use Rattle.codec.specs.Compress.{compress, decompress};
+ghost use Rattle.kpke.specs.Parameters.{mlKem768};
+ghost use Rattle.kpke.specs.KPke.{parts, concat, firstPart, secondPart, encrypt as encryptOf};
+ghost use Rattle.kpke.specs.Expanded.{placesOf, Expanded};
+use crate::noise::noise;
+use crate::noise::transformed_noise;
+use crate::vector::decode12_all;
+use crate::vector::dot;
+use crate::vector::encode_all;
+use codec::byte_decode;
+use codec::byte_encode;
+use codec::compress_all;
+use codec::decompress_all;
+use ring::add_to;
+use ring::inverse_ntt;
+
+// Line 19 at row i, for the matrix a.
+fn first_part(a: &[u16], y: &[u16], r: &[u8], eta: u32, k: usize, i: usize, f: &mut [u16])
+    requires { ⌜ (length (now a) ≡ 256 * k * k) × (length (now y) ≡ 256 * k) × (length (now r) ≡ 32) × (0 < eta) × (eta ≤ 3) × (k ≤ 128) × (i < k) × (length (now f) ≡ 256) ⌝ }
+    ensures { λ _. ⌜ now (f .exit) ≡ firstPart k eta (placesOf k (now (a .entry))) (parts 256 (now (y .entry))) (now (r .entry)) i ⌝ }
+{
+    let mut e = [0u16; 256];
+    dot(a, i, k, y, k, f);
+    inverse_ntt(f);
+    noise(r, eta, k + i, &mut e);
+    add_to(f, &e);
+}
+
+fn first_parts(a: &[u16], y: &[u16], r: &[u8], eta: u32, k: usize, u: &mut [u16])
+    requires { ⌜ (length (now a) ≡ 256 * k * k) × (length (now y) ≡ 256 * k) × (length (now r) ≡ 32) × (0 < eta) × (eta ≤ 3) × (k ≤ 128) × (length (now u) ≡ 256 * k) ⌝ }
+    ensures { λ _. ⌜ now (u .exit) ≡ concat k (firstPart k eta (placesOf k (now (a .entry))) (parts 256 (now (y .entry))) (now (r .entry))) ⌝ }
+{
+    for i in 0..k {
+        let s = 256 * i;
+        let e = s + 256;
+        first_part(a, y, r, eta, k, i, &mut u[s..e]);
+    }
+}
+
+// Line 20.
+fn message(m: &[u8], f: &mut [u16])
+    requires { ⌜ (length (now m) ≡ 32) × (length (now f) ≡ 256) ⌝ }
+    ensures { λ _. ⌜ now (f .exit) ≡ map (decompress 1) (byteDecode 1 (now (m .entry))) ⌝ }
+{
+    byte_decode(m, 1, f);
+    decompress_all(f, 1);
+}
+
+// Line 21, for the public vector t.
+fn second_part(t: &[u16], y: &[u16], m: &[u8], r: &[u8], eta: u32, k: usize, v: &mut [u16])
+    requires { ⌜ (length (now t) ≡ 256 * k) × (length (now y) ≡ 256 * k) × (length (now m) ≡ 32) × (length (now r) ≡ 32) × (0 < eta) × (eta ≤ 3) × (k < 128) × (length (now v) ≡ 256) ⌝ }
+    ensures { λ _. ⌜ now (v .exit) ≡ secondPart k eta (parts 256 (now (t .entry))) (parts 256 (now (y .entry))) (now (m .entry)) (now (r .entry)) ⌝ }
+{
+    let mut e = [0u16; 256];
+    dot(t, 0, 1, y, k, v);
+    inverse_ntt(v);
+    noise(r, eta, 2 * k, &mut e);
+    add_to(v, &e);
+    message(m, &mut e);
+    add_to(v, &e);
+}
+
+// Lines 22 to 24.
+fn encode_parts(u: &mut [u16], v: &mut [u16], du: u32, dv: u32, k: usize, ct: &mut [u8])
+    requires { ⌜ (length (now u) ≡ 256 * k) × (length (now v) ≡ 256) × (0 < du) × (du ≤ 11) × (0 < dv) × (dv ≤ 11) × (length (now ct) ≡ 32 * du * k + 32 * dv) ⌝ }
+    ensures { λ _. ⌜ now (ct .exit) ≡ concat k (λ i. byteEncode du (map (compress du) (parts 256 (now (u .entry)) i))) ++ byteEncode dv (map (compress dv) (now (v .entry))) ⌝ }
+{
+    let n = 32 * (du as usize) * k;
+    compress_all(u, du);
+    encode_all(u, du, k, &mut ct[0..n]);
+    compress_all(v, dv);
+    byte_encode(v, dv, &mut ct[n..]);
+}
+
+// At ML-KEM-768, for the matrix a.
+pub fn encrypt(a: &[u16], ek: &[u8], m: &[u8], r: &[u8], ct: &mut [u8])
+    requires { ⌜ Expanded 3 (drop 1152 (now ek)) (now a) × (length (now ek) ≡ 1184) × (length (now m) ≡ 32) × (length (now r) ≡ 32) × (length (now ct) ≡ 1088) ⌝ }
+    ensures { λ _. ⌜ now (ct .exit) ≡ encryptOf mlKem768 (now (ek .entry)) (now (m .entry)) (now (r .entry)) ⌝ }
+{
+    let mut t = [0u16; 768];
+    let mut y = [0u16; 768];
+    let mut u = [0u16; 768];
+    let mut v = [0u16; 256];
+    decode12_all(&ek[0..1152], 3, &mut t);
+    transformed_noise(r, 2, 3, &mut y);
+    first_parts(a, &y, r, 2, 3, &mut u);
+    second_part(&t, &y, m, r, 2, 3, &mut v);
+    encode_parts(&mut u, &mut v, 10, 4, 3, ct);
+}

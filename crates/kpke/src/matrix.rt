@@ -1,0 +1,58 @@
+// The matrix (FIPS 203, algorithms 13 and 14, lines 3 to 7): its rows one after the other in one slice.
+ghost use mathlib.Core.Bool.{true};
+ghost use mathlib.Core.Path.{_≡_};
+ghost use Prim.Native.Nat.{_*_, _<_, _≤_};
+ghost use lib.ListN.{length};
+ghost use Rattle.words.specs.Table.{every};
+ghost use Rattle.codec.specs.Sample.{full};
+ghost use Rattle.kpke.specs.Functions.{XOF};
+ghost use Rattle.kpke.specs.KPke.{concat, matrix, matrixFull};
+use crate::hashes::xof;
+use codec::Sampled;
+use codec::sample_ntt;
+
+// Whether the stream of place (i, j) yields 256 coefficients, which f then holds.
+fn sample_place(rho: &[u8], i: u8, j: u8, f: &mut [u16]) -> bool
+    requires { ⌜ (length (now rho) ≡ 32) × (length (now f) ≡ 256) ⌝ }
+    ensures { λ r. ⌜ r ≡ full (XOF (now (rho .entry)) i j) ⌝ }
+    ensures { λ r. ⌜ (r ≡ true → now (f .exit) ≡ matrix (now (rho .entry)) i j) ⌝ }
+{
+    let mut s = [0u8; 840];
+    xof(rho, i, j, &mut s);
+    match sample_ntt(&s, f) {
+        Sampled::Full => true,
+        Sampled::Short => false,
+    }
+}
+
+fn expand_row(rho: &[u8], k: usize, i: usize, a: &mut [u16]) -> bool
+    requires { ⌜ (length (now rho) ≡ 32) × (k ≤ 256) × (i < 256) × (length (now a) ≡ 256 * k) ⌝ }
+    ensures { λ r. ⌜ r ≡ every k (λ j. full (XOF (now (rho .entry)) i j)) ⌝ }
+    ensures { λ r. ⌜ (r ≡ true → now (a .exit) ≡ concat k (matrix (now (rho .entry)) i)) ⌝ }
+{
+    for j in 0..k {
+        let s = 256 * j;
+        let e = s + 256;
+        if !sample_place(rho, i as u8, j as u8, &mut a[s..e]) {
+            return false;
+        }
+    }
+    true
+}
+
+// Whether each stream yields 256 coefficients; a then holds the matrix.
+pub fn expand(rho: &[u8], k: usize, a: &mut [u16]) -> bool
+    requires { ⌜ (length (now rho) ≡ 32) × (k ≤ 256) × (length (now a) ≡ 256 * k * k) ⌝ }
+    ensures { λ r. ⌜ r ≡ matrixFull k (now (rho .entry)) ⌝ }
+    ensures { λ r. ⌜ (r ≡ true → now (a .exit) ≡ concat k (λ i. concat k (matrix (now (rho .entry)) i))) ⌝ }
+{
+    let n = 256 * k;
+    for i in 0..k {
+        let s = n * i;
+        let e = s + n;
+        if !expand_row(rho, k, i, &mut a[s..e]) {
+            return false;
+        }
+    }
+    true
+}

@@ -1,0 +1,48 @@
+// Noise: PRF and SamplePolyCBD (FIPS 203, algorithms 13 and 14).
+ghost use mathlib.Core.Path.{_≡_};
+ghost use Prim.Native.Nat.{_+_, _*_, _<_, _≤_};
+ghost use lib.ListN.{length};
+ghost use Rattle.ring.specs.Transform.{ntt};
+ghost use Rattle.kpke.specs.KPke.{concat, noise as noiseOf};
+use crate::hashes::prf;
+use crate::vector::ntt_all;
+use codec::sample_poly_cbd;
+
+// b is where the bytes go.
+fn noise_by(seed: &[u8], eta: u32, n: usize, b: &mut [u8], f: &mut [u16])
+    requires { ⌜ (length (now seed) ≡ 32) × (0 < eta) × (eta ≤ 3) × (n < 256) × (length (now b) ≡ 64 * eta) × (length (now f) ≡ 256) ⌝ }
+    ensures { λ _. ⌜ now (f .exit) ≡ noiseOf eta (now (seed .entry)) n ⌝ }
+{
+    prf(seed, n as u8, b);
+    sample_poly_cbd(b, eta, f);
+}
+
+pub fn noise(seed: &[u8], eta: u32, n: usize, f: &mut [u16])
+    requires { ⌜ (length (now seed) ≡ 32) × (0 < eta) × (eta ≤ 3) × (n < 256) × (length (now f) ≡ 256) ⌝ }
+    ensures { λ _. ⌜ now (f .exit) ≡ noiseOf eta (now (seed .entry)) n ⌝ }
+{
+    let mut b = [0u8; 192];
+    let e = 64 * (eta as usize);
+    noise_by(seed, eta, n, &mut b[0..e], f);
+}
+
+// Noise n, n + 1, .., n + k - 1.
+pub fn noise_all(seed: &[u8], eta: u32, n: usize, k: usize, v: &mut [u16])
+    requires { ⌜ (length (now seed) ≡ 32) × (0 < eta) × (eta ≤ 3) × (n + k ≤ 256) × (length (now v) ≡ 256 * k) ⌝ }
+    ensures { λ _. ⌜ now (v .exit) ≡ concat k (λ i. noiseOf eta (now (seed .entry)) (n + i)) ⌝ }
+{
+    for i in 0..k {
+        let a = 256 * i;
+        let e = a + 256;
+        noise(seed, eta, n + i, &mut v[a..e]);
+    }
+}
+
+// The transforms of noise 0, 1, .., k - 1.
+pub fn transformed_noise(seed: &[u8], eta: u32, k: usize, v: &mut [u16])
+    requires { ⌜ (length (now seed) ≡ 32) × (0 < eta) × (eta ≤ 3) × (k ≤ 256) × (length (now v) ≡ 256 * k) ⌝ }
+    ensures { λ _. ⌜ now (v .exit) ≡ concat k (λ i. ntt (noiseOf eta (now (seed .entry)) i)) ⌝ }
+{
+    noise_all(seed, eta, 0, k, v);
+    ntt_all(v, k);
+}

@@ -1,0 +1,103 @@
+// Vectors of k polynomials: the k parts of 256 coefficients of one slice.
+ghost use mathlib.Core.Path.{_≡_};
+ghost use Prim.Native.Nat.{ℕ, _+_, _*_, _^_, _<_, _≤_};
+ghost use lib.ListN.{length, replicate};
+ghost use Rattle.words.specs.Bounded.{Below};
+ghost use Rattle.codec.specs.Bytes.{byteEncode, byteDecode12};
+ghost use Rattle.ring.specs.Polynomial.{add};
+ghost use Rattle.ring.specs.Transform.{ntt as nttOf, multiplyNtts};
+ghost use Rattle.kpke.specs.KPke.{parts, concat, dot as dotOf, coefficients};
+use crate::copy::copy_coefficients;
+use codec::byte_decode;
+use codec::byte_decode12;
+use codec::byte_encode;
+use ring::add_to;
+use ring::multiply_ntts;
+use ring::ntt;
+
+pub fn ntt_all(v: &mut [u16], k: usize)
+    requires { ⌜ length (now v) ≡ 256 * k ⌝ }
+    ensures { λ _. ⌜ now (v .exit) ≡ concat k (λ i. nttOf (parts 256 (now (v .entry)) i)) ⌝ }
+{
+    for i in 0..k {
+        let a = 256 * i;
+        let e = a + 256;
+        ntt(&mut v[a..e]);
+    }
+}
+
+// s becomes s + f g.
+fn add_product(s: &mut [u16], f: &[u16], g: &[u16])
+    requires { ⌜ (length (now s) ≡ 256) × (length (now f) ≡ 256) × (length (now g) ≡ 256) ⌝ }
+    ensures { λ _. ⌜ now (s .exit) ≡ add (now (s .entry)) (multiplyNtts (now (f .entry)) (now (g .entry))) ⌝ }
+{
+    let mut t = [0u16; 256];
+    copy_coefficients(f, &mut t);
+    multiply_ntts(&mut t, g);
+    add_to(s, &t);
+}
+
+pub fn clear(f: &mut [u16])
+    ensures { λ _. ⌜ now (f .exit) ≡ replicate (length (now (f .entry))) 0 ⌝ }
+{
+    for i in 0..f.len() {
+        f[i] = 0;
+    }
+}
+
+// The sum of the products of a's parts start, start + step, .. with b's parts.
+pub fn dot(a: &[u16], start: usize, step: usize, b: &[u16], k: usize, out: &mut [u16])
+    requires { ⌜ ((j : ℕ) → j < k → 256 * (start + step * j) + 256 ≤ length (now a)) × (length (now b) ≡ 256 * k) × (length (now out) ≡ 256) ⌝ }
+    ensures { λ _. ⌜ now (out .exit) ≡ dotOf k (λ j. parts 256 (now (a .entry)) (start + step * j)) (parts 256 (now (b .entry))) ⌝ }
+{
+    clear(out);
+    for j in 0..k {
+        let x = 256 * (start + step * j);
+        let xe = x + 256;
+        let y = 256 * j;
+        let ye = y + 256;
+        add_product(out, &a[x..xe], &b[y..ye]);
+    }
+}
+
+pub fn encode_all(v: &[u16], d: u32, k: usize, out: &mut [u8])
+    requires { ⌜ (length (now v) ≡ 256 * k) × (length (now out) ≡ 32 * d * k) × (0 < d) × (d ≤ 12) × Below (2 ^ d) (now v) ⌝ }
+    ensures { λ _. ⌜ now (out .exit) ≡ concat k (λ i. byteEncode d (parts 256 (now (v .entry)) i)) ⌝ }
+{
+    let n = 32 * (d as usize);
+    for i in 0..k {
+        let a = 256 * i;
+        let e = a + 256;
+        let b = n * i;
+        let be = b + n;
+        byte_encode(&v[a..e], d, &mut out[b..be]);
+    }
+}
+
+// The coefficients as they stand.
+pub fn decode_all(b: &[u8], k: usize, v: &mut [u16])
+    requires { ⌜ (length (now b) ≡ 384 * k) × (length (now v) ≡ 256 * k) ⌝ }
+    ensures { λ _. ⌜ now (v .exit) ≡ coefficients k (now (b .entry)) ⌝ }
+{
+    for i in 0..k {
+        let a = 256 * i;
+        let e = a + 256;
+        let c = 384 * i;
+        let ce = c + 384;
+        byte_decode(&b[c..ce], 12, &mut v[a..e]);
+    }
+}
+
+// The coefficients modulo q.
+pub fn decode12_all(b: &[u8], k: usize, v: &mut [u16])
+    requires { ⌜ (length (now b) ≡ 384 * k) × (length (now v) ≡ 256 * k) ⌝ }
+    ensures { λ _. ⌜ now (v .exit) ≡ concat k (λ i. byteDecode12 (parts 384 (now (b .entry)) i)) ⌝ }
+{
+    for i in 0..k {
+        let a = 256 * i;
+        let e = a + 256;
+        let c = 384 * i;
+        let ce = c + 384;
+        byte_decode12(&b[c..ce], &mut v[a..e]);
+    }
+}

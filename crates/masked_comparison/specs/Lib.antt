@@ -1,0 +1,7 @@
+pub mod Comparison
+pub mod ComparisonLaws
+pub mod SelectionLaws
+pub mod FoldSilence
+pub mod HalvesSilence
+pub mod ComparisonSilence
+pub mod SelectionSilence

@@ -1,0 +1,2 @@
+pub mod FixedPoint
+pub mod TranspositionLaws

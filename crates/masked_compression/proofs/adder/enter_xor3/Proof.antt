@@ -1,0 +1,10 @@
+use Rattle.words.specs.Word.{xor}
+use Rattle.masked_compression.proofs.adder.enter_xor3.Statement.{statement}
+use Rattle.masked_compression.proofs.adder.enter_xor3.Tie as tie
+
+returns : tie.Need-returns
+unfolding xor
+returns c = c .enter .ensures
+
+pub enter-xor3-spec : {M : Type 1} → statement M
+enter-xor3-spec = tie.close (tie.spec (λ c κs. tt) returns)

@@ -1,0 +1,17 @@
+use Prim.Native.Nat.{_+_, _*_, _-_}
+use native.Mathlib.Omega.{arith}
+use lib.Pow.{shr-le}
+use borrow.Author.Needs.{needs}
+use Rattle.masked_compression.proofs.FixedPoint.{estimate}
+use Rattle.masked_compression.proofs.compression.scaled.Statement.{statement}
+use Rattle.masked_compression.proofs.compression.scaled.Tie as tie
+
+returns : tie.Need-returns
+returns c =
+    let a = c .args in (
+      estimate (a .d + 13) (35 - a .d) (a .x) (omega arith) (omega arith) (c .pre .1),
+      omega (arith, shr-le (a .x * 84552411148) (35 - a .d)),
+    )
+
+pub scaled-spec : {M : Type 1} → statement M
+scaled-spec = tie.close (tie.spec (λ c. search needs) (λ c. search needs) (λ c. search needs) returns)

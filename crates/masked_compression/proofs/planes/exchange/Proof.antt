@@ -1,0 +1,13 @@
+use mathlib.Core.Path.{refl}
+use borrow.Author.Needs.{needs}
+use Rattle.words.specs.Word.{xor, and}
+use Rattle.masked_compression.specs.Transposition.{differences}
+use Rattle.masked_compression.proofs.planes.exchange.Statement.{statement}
+use Rattle.masked_compression.proofs.planes.exchange.Tie as tie
+
+returns : tie.Need-returns
+unfolding xor and differences
+returns c = (refl, refl)
+
+pub exchange-spec : {M : Type 1} → statement M
+exchange-spec = tie.close (tie.spec (λ c. search needs) (λ c. search needs) returns)

@@ -1,0 +1,66 @@
+use Prim.Native.Nat.{ℕ, _≤_, _-_, _*_, _+_}
+use mathlib.Core.Path.{_≡_, sym, _∙_}
+use native.Mathlib.Omega.{arith}
+use lib.ListN.{getD, length-set}
+use borrow.Author.Needs.{needs}
+use Rattle.words.specs.Fill.{Filled, filled-start, filled-turn, filled-end}
+use Rattle.masked_compression.specs.Transposition.{stepped}
+use Rattle.masked_compression.proofs.TranspositionLaws.{stepped-even, stepped-odd}
+use Rattle.masked_compression.proofs.planes.step.Statement.{statement}
+use Rattle.masked_compression.proofs.planes.step.Tie as tie
+
+abbrev Inv-loop : tie.InvT-loop
+Inv-loop w s m o₀ i₀ o i = (i ≤ 16) × Filled 32 (stepped s m (λ k. getD w k 0)) (2 * i) o
+
+abbrev μ-loop : tie.MeasureT-loop
+μ-loop w s m o₀ i₀ o i = 16 - i
+
+loop-holds : tie.Need-loop-holds Inv-loop μ-loop
+loop-holds c = (omega arith, filled-start (omega arith))
+
+loop-again : tie.Need-loop-again Inv-loop μ-loop
+loop-again c =
+    let l = c .before .before .before .before .loop in
+    let a = c .before .before .before .before .before .before .before .args in
+    let i = l .i in
+    let w : ℕ → ℕ = λ k. getD (a .w .now) k 0 in
+    let e : 2 * i + 1 + 1 ≡ 2 * (i + 1) = omega arith in (
+      omega arith,
+      rw e at (filled-turn
+          (filled-turn (l .inv .1) (omega arith) (c .exchange .ensures .0 ∙ sym (stepped-even (a .s) (a .m) w i)))
+          (omega arith) (c .exchange .ensures .1 ∙ sym (stepped-odd (a .s) (a .m) w i))),
+    )
+
+slice-write-o-2 : tie.Need-slice-write-o-2 Inv-loop μ-loop
+slice-write-o-2 c =
+    let l = c .before .before .before .before .loop in
+    omega (arith, length-set (l .o) (2 * l .i) (c .exchange .result .low), l .inv .1 .long)
+
+returns : tie.Need-returns Inv-loop μ-loop
+returns c = filled-end (c .before .loop .inv .1) (omega arith)
+
+pub step-spec : {M : Type 1} → statement M
+step-spec =
+    tie.close
+    (tie.spec
+    Inv-loop
+    μ-loop
+    loop-holds
+    (λ c. search needs)
+    (λ c. search needs)
+    (λ c. search needs)
+    (λ c. search needs)
+    (λ c. search needs)
+    (λ c κs. search needs)
+    (λ c. search needs)
+    (λ c. search needs)
+    (λ c. search needs)
+    (λ c. search needs)
+    (λ c. search needs)
+    (λ c. search needs)
+    slice-write-o-2
+    (λ c. search needs)
+    (λ c. search needs)
+    loop-again
+    (λ c. search needs)
+    returns)

@@ -1,0 +1,9 @@
+pub mod Adder
+pub mod PlaneSum
+pub mod AdderLaws
+pub mod AdderStepsSilence
+pub mod AdderSilence
+pub mod Transposition
+pub mod Compression
+pub mod CompressionLaws
+pub mod CompressionSilence

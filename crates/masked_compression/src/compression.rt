@@ -1,0 +1,78 @@
+// Masked compression of 64 coefficients.
+ghost use mathlib.Core.Path.{_≡_};
+ghost use Prim.Native.Nat.{_+_, _*_, _-_, _/_, _^_, _<_, _≤_};
+ghost use lib.ListN.{drop, getD, length};
+ghost use Rattle.masked_compression.specs.Compression.{fixedPoint, fixedPoints, maskedCompress};
+ghost use Rattle.worksheet.specs.SharedList.{sharedList, sharedAt, zip};
+ghost use Rattle.words.specs.Bounded.{Below};
+ghost use Rattle.words.specs.Residue.{q};
+ghost use Rattle.worksheet.specs.Prog.{word, entry};
+ghost use Rattle.worksheet.specs.Ran.{Makes, Draws};
+use crate::adder;
+use crate::adder::EnteredPlanes;
+use crate::planes::bit_planes;
+use worksheet::Entered;
+use worksheet::Recorder;
+
+pub struct EnteredNumbers {
+    pub value: [u64; 64],
+    pub rec: Recorder,
+}
+
+// 2^(d+13) x / q without a division: 84552411148 q is 2^48 + 1036.
+fn scaled(d: usize, x: u16) -> u64
+    requires { ⌜ (d ≤ 11) × (x < q) ⌝ }
+    ensures { λ r. ⌜ (r ≡ 2 ^ (d + 13) * x / q) × (r < 2 ^ 48) ⌝ }
+{
+    ((x as u64) * 84552411148) >> (35 - d)
+}
+
+// 2^(d+13)
+fn scale(d: usize) -> u64
+    requires { ⌜ d ≤ 11 ⌝ }
+    ensures { λ r. ⌜ r ≡ 2 ^ (d + 13) ⌝ }
+{
+    1 << (d + 13)
+}
+
+fn enter_fixed_point(rec: Recorder, d: usize, h: u64, x: u16) -> Entered
+    requires { ⌜ (d ≤ 11) × (h ≤ 4096) × (x < q) ⌝ }
+    ensures { λ r. ⌜ Makes (entry (fixedPoint d h x)) rec (r .value) (r .rec) ⌝ }
+{
+    let v = (scaled(d, x) + h) & (scale(d) - 1);
+    Entered {
+        value: v,
+        rec: worksheet::enter(rec, v),
+    }
+}
+
+// The fixed point of one share of 64 coefficients.
+fn fixed_points(rec: Recorder, d: usize, h: u64, x: &[u16]) -> EnteredNumbers
+    requires { ⌜ (d ≤ 11) × (h ≤ 4096) × (length (now x) ≡ 64) × Below q (now x) ⌝ }
+    ensures { λ r. ⌜ Makes (fixedPoints d h (λ i. getD (now (x .entry)) i 0)) rec (r .value) (r .rec) ⌝ }
+{
+    let mut rec = rec;
+    let mut v = [0u64; 64];
+    for i in 0..64 {
+        let e = enter_fixed_point(rec, d, h, x[i]);
+        v[i] = e.value;
+        rec = e.rec;
+    }
+    EnteredNumbers { value: v, rec }
+}
+
+// The result's d planes stand from place 13 on.
+pub fn masked_compress(rec: Recorder, d: usize, x0: &[u16], x1: &[u16], ws: &[u64]) -> EnteredPlanes
+    requires { ⌜ (d ≤ 11) × (3 * (d + 13) ≤ length (now ws) + 1) ⌝ }
+    requires { ⌜ (length (now x0) ≡ 64) × (length (now x1) ≡ 64) × Below q (now x0) × Below q (now x1) ⌝ }
+    ensures { λ r. ⌜ Draws word (3 * (d + 13) - 1) (maskedCompress d (sharedAt (sharedList (now (x0 .entry)) (now (x1 .entry))))) rec (now (ws .entry)) (drop 13 (zip (d + 13) (sharedList (r .value .s0) (r .value .s1)))) (r .rec) ⌝ }
+{
+    let n = d + 13;
+    let a = fixed_points(rec, d, 0, x0);
+    let b = fixed_points(a.rec, d, 4096, x1);
+    let v = a.value;
+    let w = b.value;
+    let x = bit_planes(&v, n);
+    let y = bit_planes(&w, n);
+    adder::adder(b.rec, n, x, y, ws)
+}

@@ -1,0 +1,120 @@
+// SHA3-512 and SHAKE256 on two shares.
+ghost use mathlib.Core.Path.{_≡_};
+ghost use Prim.Native.Nat.{_+_, _*_, _%_, _<_, _≤_};
+ghost use mathlib.Core.List.{[]};
+ghost use lib.Dec.{eqb};
+ghost use lib.ListN.{length};
+ghost use Rattle.worksheet.specs.Run.{run};
+ghost use Rattle.masked_fips202.specs.MaskedSponge.{permutations as permutationsOf};
+ghost use Rattle.masked_fips202.specs.MaskedBytes.{maskedHash};
+ghost use Rattle.masked_fips202.specs.MaskedCalls.{hashCall, sha3-512Call, shake256Call};
+use crate::masked_absorb::masked_absorb;
+use crate::masked_squeeze::further;
+use crate::masked_squeeze::masked_squeeze;
+use fips202::Answer;
+use worksheet::Recorder;
+
+// The permutations for n bytes of input and d of output.
+fn permutations(rate: usize, n: usize, d: usize) -> usize
+    requires { ⌜ 8 ≤ rate ⌝ }
+    ensures { λ r. ⌜ r ≡ permutationsOf rate n d ⌝ }
+{
+    n / rate + 1 + further(d, rate)
+}
+
+// Whether n masks are 25 and 600 for each permutation.
+fn enough(n: usize, permutations: usize) -> bool
+    ensures { λ r. ⌜ r ≡ eqb n (25 + 600 * permutations) ⌝ }
+{
+    if n < 25 {
+        return false;
+    }
+    if (n - 25) % 600 != 0 {
+        return false;
+    }
+    if (n - 25) / 600 != permutations {
+        return false;
+    }
+    true
+}
+
+// The outputs are filled with the shares of the hash.
+fn masked_sponge(
+    rate: usize,
+    suffix: u8,
+    in0: &[u8],
+    in1: &[u8],
+    masks: &[u64],
+    out0: &mut [u8],
+    out1: &mut [u8],
+)
+    requires { ⌜ (0 < rate) × (rate ≤ 200) × (rate % 8 ≡ 0) × (suffix < 128) × (length (now in0) ≡ length (now in1)) × (length (now out0) ≡ length (now out1)) × (length (now masks) ≡ 25 + 600 * permutationsOf rate (length (now in0)) (length (now out0))) ⌝ }
+    ensures { λ _. ⌜ now (out0 .exit) ≡ run (maskedHash rate suffix (now (in0 .entry)) (now (in1 .entry)) (length (now (out0 .entry)))) (now (masks .entry)) [] .value .s0 ⌝ }
+    ensures { λ _. ⌜ now (out1 .exit) ≡ run (maskedHash rate suffix (now (in0 .entry)) (now (in1 .entry)) (length (now (out0 .entry)))) (now (masks .entry)) [] .value .s1 ⌝ }
+{
+    let rec = Recorder { left: 0, value: 0 };
+    let k = 25 + 600 * (in0.len() / rate + 1);
+    let o = masked_absorb(rec, in0, in1, rate, suffix, masks);
+    masked_squeeze(o.rec, o.s0, o.s1, rate, &masks[k..], out0, out1);
+}
+
+// The same, refused where a length isn't exact.
+fn masked_hash(
+    rate: usize,
+    suffix: u8,
+    in0: &[u8],
+    in1: &[u8],
+    masks: &[u64],
+    out0: &mut [u8],
+    out1: &mut [u8],
+) -> Answer
+    requires { ⌜ (0 < rate) × (rate ≤ 200) × (rate % 8 ≡ 0) × (suffix < 128) ⌝ }
+    ensures { λ r. ⌜ r ≡ hashCall rate suffix (now (in0 .entry)) (now (in1 .entry)) (now (masks .entry)) (now (out0 .entry)) (now (out1 .entry)) .answer ⌝ }
+    ensures { λ _. ⌜ now (out0 .exit) ≡ hashCall rate suffix (now (in0 .entry)) (now (in1 .entry)) (now (masks .entry)) (now (out0 .entry)) (now (out1 .entry)) .out0 ⌝ }
+    ensures { λ _. ⌜ now (out1 .exit) ≡ hashCall rate suffix (now (in0 .entry)) (now (in1 .entry)) (now (masks .entry)) (now (out0 .entry)) (now (out1 .entry)) .out1 ⌝ }
+{
+    let n = in0.len();
+    let d = out0.len();
+    if n != in1.len() {
+        return Answer::WrongLength;
+    }
+    if d != out1.len() {
+        return Answer::WrongLength;
+    }
+    if !enough(masks.len(), permutations(rate, n, d)) {
+        return Answer::WrongLength;
+    }
+    masked_sponge(rate, suffix, in0, in1, masks, out0, out1);
+    Answer::Done
+}
+
+pub fn masked_sha3_512(
+    in0: &[u8],
+    in1: &[u8],
+    masks: &[u64],
+    out0: &mut [u8],
+    out1: &mut [u8],
+) -> Answer
+    ensures { λ r. ⌜ r ≡ sha3-512Call (now (in0 .entry)) (now (in1 .entry)) (now (masks .entry)) (now (out0 .entry)) (now (out1 .entry)) .answer ⌝ }
+    ensures { λ _. ⌜ now (out0 .exit) ≡ sha3-512Call (now (in0 .entry)) (now (in1 .entry)) (now (masks .entry)) (now (out0 .entry)) (now (out1 .entry)) .out0 ⌝ }
+    ensures { λ _. ⌜ now (out1 .exit) ≡ sha3-512Call (now (in0 .entry)) (now (in1 .entry)) (now (masks .entry)) (now (out0 .entry)) (now (out1 .entry)) .out1 ⌝ }
+{
+    if out0.len() != 64 {
+        return Answer::WrongLength;
+    }
+    masked_hash(72, 0x06, in0, in1, masks, out0, out1)
+}
+
+pub fn masked_shake256(
+    in0: &[u8],
+    in1: &[u8],
+    masks: &[u64],
+    out0: &mut [u8],
+    out1: &mut [u8],
+) -> Answer
+    ensures { λ r. ⌜ r ≡ shake256Call (now (in0 .entry)) (now (in1 .entry)) (now (masks .entry)) (now (out0 .entry)) (now (out1 .entry)) .answer ⌝ }
+    ensures { λ _. ⌜ now (out0 .exit) ≡ shake256Call (now (in0 .entry)) (now (in1 .entry)) (now (masks .entry)) (now (out0 .entry)) (now (out1 .entry)) .out0 ⌝ }
+    ensures { λ _. ⌜ now (out1 .exit) ≡ shake256Call (now (in0 .entry)) (now (in1 .entry)) (now (masks .entry)) (now (out0 .entry)) (now (out1 .entry)) .out1 ⌝ }
+{
+    masked_hash(136, 0x1f, in0, in1, masks, out0, out1)
+}
