@@ -1,13 +1,13 @@
 -- The coins are the last four of stage 3's eight words.
-use mathlib.Core.Path.{_≡_, refl, sym, ap₂, _∙_}
+use mathlib.Core.Path.{_≡_, ap₂, _∙_}
 use mathlib.Core.List.{List}
-use Prim.Native.Nat.{ℕ, _+_, _<_}
+use Prim.Native.Nat.{ℕ, _+_}
 use native.Mathlib.Omega.{arith}
 use lib.ListN.{length, getD, take, drop}
 use lib.Seq.{getD-take, getD-drop}
 use Rattle.words.specs.Part.{length-part}
 use Rattle.words.specs.Tab.{tab, tab-of}
-use Rattle.worksheet.specs.SharedList.{sharedList, sharedAt, unzip}
+use Rattle.worksheet.specs.SharedList.{sharedList, unzip}
 use Rattle.decapsulation.specs.Groups.{coinsOf}
 use Rattle.kpke.specs.Parameters.{mlKem768}
 

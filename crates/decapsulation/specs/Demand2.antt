@@ -1,10 +1,10 @@
 -- Demand 2 for the call: where decapsulation isn't refused, its two result shares, which are those of the worksheet's last stage, join
 -- to FIPS 203's internal decapsulation of the joined key, whatever the strip and for every ciphertext.
-use mathlib.Core.Path.{_≡_, sym, ap, ap₂, _∙_}
+use mathlib.Core.Path.{_≡_, ap, _∙_}
 use mathlib.Core.List.{List, _++_}
 use Prim.Native.Nat.{ℕ, _^_}
 use native.Mathlib.Omega.{arith}
-use lib.ListN.{length, take, drop, length-take, length-drop}
+use lib.ListN.{length, length-take, length-drop}
 use lib.Seq.{take-at, drop-at}
 use Rattle.words.specs.Bounded.{Below, below-drop}
 use Rattle.worksheet.specs.SharedList.{joinedList}
@@ -34,16 +34,16 @@ pub record Typed (g : Input) : Type 0 where
 module _ (g : Input) (k0 k1 : List ℕ) (types : Typed g) (done : decapsAnswer mlKem768 g k0 k1 ≡ Done) where
   key-inOrder : InOrder mlKem768 (keyOf mlKem768 g)
   key-inOrder =
-      let t = decaps-tested g k0 k1 done in
+      let l = decaps-tested g k0 k1 done .long in
       record {
-        s0 = t .key .s0;
-        s1 = t .key .s1;
-        z0 = t .key .z0;
-        z1 = t .key .z1;
+        s0 = l .s0;
+        s1 = l .s1;
+        z0 = l .z0;
+        z1 = l .z1;
         words0 = types .z0;
         words1 = types .z1;
-        ek = length-take 1184 (g .public) ∙ omega (arith, t .key .public);
-        h = length-drop 1184 (g .public) ∙ omega (arith, t .key .public);
+        ek = length-take 1184 (g .public) ∙ omega (arith, l .public);
+        h = length-drop 1184 (g .public) ∙ omega (arith, l .public);
         bytes = below-drop 1184 (types .public);
       }
 
@@ -51,7 +51,7 @@ module _ (g : Input) (k0 k1 : List ℕ) (types : Typed g) (done : decapsAnswer m
   unfolding decapsShares
   decaps-joins =
       let t = decaps-tested g k0 k1 done in
-      run-worksheet mlKem768 fits768 (keyOf mlKem768 g) key-inOrder (g .ct) (t .rest .ct) (types .ct) (types .words) (reduced-below (g .coeffs) (t .masks))
+      run-worksheet mlKem768 fits768 (keyOf mlKem768 g) key-inOrder (g .ct) (t .long .ct) (types .ct) (types .words) (reduced-below (g .coeffs) (t .masks))
 
 -- ---- the split that import makes
 

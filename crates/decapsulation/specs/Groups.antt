@@ -6,7 +6,7 @@ use Rattle.worksheet.specs.declared.Shares.{Shares}
 use Rattle.worksheet.specs.Prog.{Prog, _>>=_, bind-assoc}
 use Rattle.worksheet.specs.SharedList.{SharedList, sharedAt, unzip}
 use Rattle.kpke.specs.Parameters.{Parameters}
-use Rattle.mlkem.specs.Worksheet.{SplitKey, Noise, Reencrypted, Planes, stage1, stage2, stage3, stage4, stage5, stage6, stage7, stage8, stage9, stage10, worksheet}
+use Rattle.mlkem.specs.Worksheet.{SplitKey, Noise, Reencrypted, stage1, stage2, stage3, stage4, stage5, stage6, stage7, stage8, stage9, stage10, worksheet}
 
 module _ (p : Parameters) where
   -- stages 1 and 2: m'

@@ -7,11 +7,10 @@ ghost use Rattle.kpke.specs.Parameters.{mlKem768};
 ghost use Rattle.mlkem.specs.Refusals.{after, reduced as reducedOf};
 ghost use Rattle.decapsulation.specs.Calls.{input, decapsAnswer, decapsShares, traceAnswer, traceValue};
 ghost use Rattle.decapsulation.specs.Told.{toldAnswer, toldValue};
-use crate::lengths::exact_key;
-use crate::lengths::exact_rest;
 use crate::worksheet_run::run;
 use kpke::matrix::expand;
 use mlkem::Answer;
+use mlkem::tests::exact;
 use mlkem::tests::reduced;
 use worksheet::Recorder;
 
@@ -98,10 +97,19 @@ fn decapsulate(
     ensures { λ r. ⌜ now (k1 .exit) ≡ after r (decapsShares mlKem768 (input (now (s0 .entry)) (now (s1 .entry)) (now (z0 .entry)) (now (z1 .entry)) (now (public .entry)) (now (ct .entry)) (now (words .entry)) (now (coeffs .entry))) .s1) (now (k1 .entry)) ⌝ }
     ensures { λ r. ⌜ now (value .exit) ≡ after r (toldValue mlKem768 left (input (now (s0 .entry)) (now (s1 .entry)) (now (z0 .entry)) (now (z1 .entry)) (now (public .entry)) (now (ct .entry)) (now (words .entry)) (now (coeffs .entry)))) (now (value .entry)) ⌝ }
 {
-    if !exact_key(s0.len(), s1.len(), z0.len(), z1.len(), public.len()) {
-        return Answer::WrongLength;
-    }
-    if !exact_rest(ct.len(), words.len(), coeffs.len(), k0.len(), k1.len()) {
+    let has = [
+        s0.len(),
+        s1.len(),
+        z0.len(),
+        z1.len(),
+        public.len(),
+        ct.len(),
+        words.len(),
+        coeffs.len(),
+        k0.len(),
+        k1.len(),
+    ];
+    if !exact(&has, &[768, 768, 4, 4, 1216, 1088, 11750, 7424, 4, 4]) {
         return Answer::WrongLength;
     }
     decapsulate_sized(

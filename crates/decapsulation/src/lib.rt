@@ -1,6 +1,5 @@
 // Masked decapsulation and its trace.
 mod decapsulation; // the calls
-mod lengths; // row 1 of the refusals
 mod worksheet_run; // the ten stages in order
 
 pub use decapsulation::decaps;

@@ -1,55 +1,23 @@
 -- The hash of shared words: its input as bytes, and output of one block at most.
-use mathlib.Core.Path.{_≡_, refl, sym, ap, ap₂, _∙_}
-use mathlib.Core.List.{List, [], _∷_, _++_, append-nil}
-use Prim.Native.Nat.{ℕ, zero, suc, _+_, _-_, _*_, _/_, _%_, _<_, _≤_}
-use native.Mathlib.Nat.{mod-eq-of-lt, div-eq-of-lt}
+use mathlib.Core.Path.{_≡_, refl, sym, ap, _∙_}
+use mathlib.Core.List.{List, _++_}
+use Prim.Native.Nat.{ℕ, _+_, _-_, _*_, _/_, _<_, _≤_}
 use native.Mathlib.Omega.{arith}
-use lib.ListN.{length, getD, take, drop, replicate, length-append, length-drop, length-replicate}
-use Rattle.words.specs.Numeral.{digits}
+use lib.ListN.{length, take, drop, replicate, length-append, length-drop, length-replicate}
 use Rattle.words.specs.Overwrite.{overwritten-start, overwritten-length, overwritten-part}
 use Rattle.words.specs.Part.{part-rest}
-use Rattle.words.specs.Tab.{tab, tab-of, tab-cong}
+use Rattle.words.specs.Tab.{tab-of}
 use Rattle.worksheet.specs.declared.Recorder.{Recorder}
-use Rattle.worksheet.specs.Ran.{Ran, bind, over}
-use Rattle.worksheet.specs.RanLoops.{chain-start}
-use Rattle.worksheet.specs.SharedList.{SharedList, sharedList, sharedAt, unzip}
-use Rattle.masked_fips202.specs.MaskedSponge.{maskedAbsorb, maskedSqueeze, maskedSponge}
-use Rattle.kpke.specs.KPke.{concat}
+use Rattle.worksheet.specs.Ran.{Ran, bind}
+use Rattle.worksheet.specs.SharedList.{SharedList, sharedList}
+use Rattle.masked_fips202.specs.MaskedSponge.{maskedAbsorb, maskedSponge}
+use Rattle.masked_fips202.proofs.OneBlock.{lanesOf, squeeze-one}
 use Rattle.mlkem.specs.Worksheet.{bytesOf, four, hashShared}
-use Rattle.mlkem.specs.WordBytes.{length-bytesOf, bytesOf-append}
+use Rattle.mlkem.specs.WordBytes.{length-bytesOf}
 use Rattle.kpke.proofs.Joined.{two-parts}
-
-bytesOf-one : (x : ℕ) → bytesOf (x ∷ []) ≡ digits 256 8 x
-unfolding bytesOf
-bytesOf-one x = append-nil (digits 256 8 x)
-
-bytesOf-tab : (n : ℕ) (f : ℕ → ℕ) → bytesOf (tab n f) ≡ concat n (λ i. digits 256 8 (f i))
-unfolding bytesOf tab concat
-bytesOf-tab zero f = refl
-bytesOf-tab (suc n) f =
-    bytesOf-append (tab n f) (f n ∷ []) ∙ ap₂ (λ (l m : List ℕ). l ++ m) (bytesOf-tab n f) (bytesOf-one (f n))
-
--- word after word
-pub bytesOf-concat : (l : List ℕ) → concat (length l) (λ i. digits 256 8 (getD l i 0)) ≡ bytesOf l
-bytesOf-concat l = sym (ap bytesOf (tab-of 0 l (length l) refl (λ i h. refl)) ∙ bytesOf-tab (length l) (λ i. getD l i 0))
 
 pub four-all : (l : List ℕ) → length l ≡ 4 → four l ≡ l
 four-all l e = sym (tab-of 0 l 4 e (λ i h. refl))
-
--- the first n lanes of a state
-abbrev pub lanesOf : ℕ → List ℕ → List ℕ
-lanesOf n s = tab n (λ i. getD s i 0)
-
-pub squeeze-one : (lanes n : ℕ) (s : SharedList) {r : Recorder} {ws cs : List ℕ} → 0 < lanes → n ≤ lanes
-    → Ran (maskedSqueeze lanes n s) r ws cs (sharedList (lanesOf n (s .s0)) (lanesOf n (s .s1))) r ws cs
-unfolding maskedSqueeze unzip
-squeeze-one lanes n s h g =
-    let none-more : (n - 1) / lanes ≡ 0 = div-eq-of-lt (omega arith) in
-    let same : (i : ℕ) → i < n → sharedAt (getD (s ∷ []) (i / lanes) s) (i % lanes) ≡ sharedAt s i =
-    λ i k. let l : i < lanes = omega arith in rw (div-eq-of-lt l, mod-eq-of-lt l) in
-    rw none-more
-    (bind _ (chain-start _ s)
-    (rw (tab-cong n (λ i k. ap (λ z. z .s0) (same i k)), tab-cong n (λ i k. ap (λ z. z .s1) (same i k))) over))
 
 -- a slice whose first k elements are written, and the n others cleared
 pub zeros-behind : {r₁ t₁ r₂ : List ℕ} (l : List ℕ) (k n : ℕ) → length t₁ ≡ k → k + n ≡ length l → r₁ ≡ t₁

@@ -1,4 +1,5 @@
 pub mod Comparison
+pub mod ComparisonReads
 pub mod ComparisonLaws
 pub mod SelectionLaws
 pub mod FoldSilence

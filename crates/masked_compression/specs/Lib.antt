@@ -5,5 +5,6 @@ pub mod AdderStepsSilence
 pub mod AdderSilence
 pub mod Transposition
 pub mod Compression
+pub mod CompressionReads
 pub mod CompressionLaws
 pub mod CompressionSilence

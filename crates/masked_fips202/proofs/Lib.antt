@@ -1,5 +1,5 @@
 pub mod MaskedLanes
 pub mod MaskedBlocks
-pub mod Chain
 pub mod MaskedOutput
 pub mod MaskedHash
+pub mod OneBlock

@@ -18,7 +18,7 @@ use Rattle.fips202.specs.Sponge.{byteOf}
 use Rattle.fips202.specs.Lanes.{byte-place, block-lt}
 use Rattle.masked_fips202.specs.MaskedSponge.{maskedSqueeze}
 use Rattle.masked_fips202.specs.MaskedBytes.{squeezeBytes}
-use Rattle.masked_fips202.proofs.Chain.{after, chain-ran}
+use Rattle.worksheet.specs.RanChain.{after, chain-ran}
 use Rattle.masked_fips202.proofs.MaskedBlocks.{block-within}
 use Rattle.fips202.proofs.Output.{outputOf, Output, output-start, output-part, output-end}
 

@@ -1,5 +1,5 @@
 -- What the laws of the worksheet ask of a parameter set.
-use Prim.Native.Nat.{ℕ, _*_, _<_}
+use Prim.Native.Nat.{_*_, _<_}
 use native.Mathlib.Omega.{arith}
 use Rattle.kpke.specs.Parameters.{Parameters, mlKem768}
 

@@ -1,5 +1,6 @@
 pub mod MlKem
 pub mod Refusals
+pub mod RefusalLaws
 pub mod TestLaws
 pub mod Calls
 pub mod Worksheet

@@ -12,7 +12,7 @@ use Rattle.words.specs.Bounded.{Below, below-nil, below-cons, below-head, below
 use Rattle.mlkem.specs.MlKem.{same}
 use Rattle.mlkem.specs.Refusals.{reduced}
 
-pub and-left : (a b : Bool) → (a && b) ≡ true → a ≡ true
+and-left : (a b : Bool) → (a && b) ≡ true → a ≡ true
 and-left true b h = refl
 and-left false b h = h
 

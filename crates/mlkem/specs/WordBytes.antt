@@ -1,6 +1,6 @@
 -- Words as bytes and as bits, the lowest first.
 use mathlib.Core.Path.{_≡_, refl, sym, ap, ap₂, _∙_}
-use mathlib.Core.List.{List, [], _∷_, _++_, append-assoc}
+use mathlib.Core.List.{List, [], _∷_, _++_, append-nil, append-assoc}
 use Prim.Native.Nat.{ℕ, zero, suc, _+_, _-_, _*_, _/_, _%_, _^_, _<_, _≤_}
 use native.Mathlib.Decide.{decLt}
 use native.Mathlib.Nat.{mod-eq-of-lt, div-eq-of-lt, div-eq-sub-div, mod-eq-sub-mod, zero-div}
@@ -10,9 +10,11 @@ use lib.ListN.{length, getD, take, drop, length-append, List·getD-append}
 use lib.Seq.{getD-append-add, take-append-add, drop-append-add, take-nil, drop-nil}
 use Rattle.words.specs.Bounded.{Below, below-nil, below-append}
 use Rattle.words.specs.Numeral.{digits, length-digits, below-digits, getD-digits, digits-split}
+use Rattle.words.specs.Tab.{tab, tab-of}
 use Rattle.words.specs.Digit.{digit, digit-zero}
 use Rattle.codec.specs.Bytes.{bitsOf, numbersOf}
 use Rattle.codec.specs.BytesLaws.{bitsOf-append, numbersOf-bitsOf}
+use Rattle.kpke.specs.KPke.{concat}
 use Rattle.mlkem.specs.Worksheet.{bytesOf}
 
 pub length-bytesOf : (l : List ℕ) → length (bytesOf l) ≡ 8 * length l
@@ -30,6 +32,20 @@ unfolding bytesOf
 bytesOf-append [] m = refl
 bytesOf-append (w ∷ l) m =
     ap (λ (k : List ℕ). digits 256 8 w ++ k) (bytesOf-append l m) ∙ sym (append-assoc (digits 256 8 w) (bytesOf l) (bytesOf m))
+
+bytesOf-one : (x : ℕ) → bytesOf (x ∷ []) ≡ digits 256 8 x
+unfolding bytesOf
+bytesOf-one x = append-nil (digits 256 8 x)
+
+bytesOf-tab : (n : ℕ) (f : ℕ → ℕ) → bytesOf (tab n f) ≡ concat n (λ i. digits 256 8 (f i))
+unfolding bytesOf tab concat
+bytesOf-tab zero f = refl
+bytesOf-tab (suc n) f =
+    bytesOf-append (tab n f) (f n ∷ []) ∙ ap₂ (λ (l m : List ℕ). l ++ m) (bytesOf-tab n f) (bytesOf-one (f n))
+
+-- word after word
+pub bytesOf-concat : (l : List ℕ) → concat (length l) (λ i. digits 256 8 (getD l i 0)) ≡ bytesOf l
+bytesOf-concat l = sym (ap bytesOf (tab-of 0 l (length l) refl (λ i h. refl)) ∙ bytesOf-tab (length l) (λ i. getD l i 0))
 
 -- ---- digits
 

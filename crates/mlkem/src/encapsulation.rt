@@ -7,13 +7,13 @@ ghost use Rattle.mlkem.specs.Refusals.{after};
 ghost use Rattle.mlkem.specs.Calls.{encapsAnswer};
 ghost use Rattle.kpke.specs.Expanded.{Expanded};
 use crate::Answer;
-use crate::tests::reduced;
+use crate::tests::exact;
+use crate::tests::vector_reduced;
 use kpke::copy::copy_bytes;
 use kpke::encrypt::encrypt;
 use kpke::hashes::hash_g;
 use kpke::hashes::hash_h;
 use kpke::matrix::expand;
-use kpke::vector::decode_all;
 
 // For the matrix a.
 fn write_secret(a: &[u16], ek: &[u8], m: &[u8], ct: &mut [u8], k: &mut [u8])
@@ -35,10 +35,8 @@ fn encaps_sized(ek: &[u8], m: &[u8], ct: &mut [u8], k: &mut [u8]) -> Answer
     ensures { λ r. ⌜ now (ct .exit) ≡ after r (encapsCt mlKem768 (now (ek .entry)) (now (m .entry))) (now (ct .entry)) ⌝ }
     ensures { λ r. ⌜ now (k .exit) ≡ after r (encapsKey mlKem768 (now (ek .entry)) (now (m .entry))) (now (k .entry)) ⌝ }
 {
-    let mut t = [0u16; 768];
     let mut a = [0u16; 2304];
-    decode_all(&ek[0..1152], 3, &mut t);
-    if !reduced(&t) {
+    if !vector_reduced(&ek[0..1152]) {
         return Answer::PublicKeyRange;
     }
     if !expand(&ek[1152..], 3, &mut a) {
@@ -53,16 +51,8 @@ pub fn encaps(ek: &[u8], m: &[u8], ct: &mut [u8], k: &mut [u8]) -> Answer
     ensures { λ r. ⌜ now (ct .exit) ≡ after r (encapsCt mlKem768 (now (ek .entry)) (now (m .entry))) (now (ct .entry)) ⌝ }
     ensures { λ r. ⌜ now (k .exit) ≡ after r (encapsKey mlKem768 (now (ek .entry)) (now (m .entry))) (now (k .entry)) ⌝ }
 {
-    if ek.len() != 1184 {
-        return Answer::WrongLength;
-    }
-    if m.len() != 32 {
-        return Answer::WrongLength;
-    }
-    if ct.len() != 1088 {
-        return Answer::WrongLength;
-    }
-    if k.len() != 32 {
+    let has = [ek.len(), m.len(), ct.len(), k.len()];
+    if !exact(&has, &[1184, 32, 1088, 32]) {
         return Answer::WrongLength;
     }
     encaps_sized(ek, m, ct, k)

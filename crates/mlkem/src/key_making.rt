@@ -10,6 +10,7 @@ ghost use Rattle.mlkem.specs.MlKem.{keyGenEk, keyGenDk};
 ghost use Rattle.mlkem.specs.Refusals.{after};
 ghost use Rattle.mlkem.specs.Calls.{keyGenAnswer};
 use crate::Answer;
+use crate::tests::exact;
 use kpke::copy::copy_bytes;
 use kpke::hashes::hash_g_seed;
 use kpke::hashes::hash_h;
@@ -58,16 +59,8 @@ pub fn keygen(d: &[u8], z: &[u8], ek: &mut [u8], dk: &mut [u8]) -> Answer
     ensures { λ r. ⌜ now (ek .exit) ≡ after r (keyGenEk mlKem768 (now (d .entry))) (now (ek .entry)) ⌝ }
     ensures { λ r. ⌜ now (dk .exit) ≡ after r (keyGenDk mlKem768 (now (d .entry)) (now (z .entry))) (now (dk .entry)) ⌝ }
 {
-    if d.len() != 32 {
-        return Answer::WrongLength;
-    }
-    if z.len() != 32 {
-        return Answer::WrongLength;
-    }
-    if ek.len() != 1184 {
-        return Answer::WrongLength;
-    }
-    if dk.len() != 2400 {
+    let has = [d.len(), z.len(), ek.len(), dk.len()];
+    if !exact(&has, &[32, 32, 1184, 2400]) {
         return Answer::WrongLength;
     }
     keygen_sized(d, z, ek, dk)

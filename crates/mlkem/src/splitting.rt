@@ -11,12 +11,13 @@ ghost use Rattle.mlkem.specs.MlKem.{publicPart, hashPart};
 ghost use Rattle.mlkem.specs.Refusals.{after};
 ghost use Rattle.mlkem.specs.Calls.{importAnswer, secondCoeffs, secondWords};
 use crate::Answer;
+use crate::tests::exact;
+use crate::tests::hash_matches;
 use crate::tests::reduced;
-use crate::tests::same;
+use crate::tests::vector_reduced;
 use fips202::bytes::load;
 use kpke::copy::copy_bytes;
 use kpke::copy::copy_coefficients;
-use kpke::hashes::hash_h;
 use kpke::vector::decode_all;
 use ring::sub_from;
 
@@ -87,15 +88,12 @@ fn import_sized(
     ensures { λ r. ⌜ now (z1 .exit) ≡ after r (secondWords mlKem768 (now (dk .entry)) (now (words .entry))) (now (z1 .entry)) ⌝ }
     ensures { λ r. ⌜ now (public .exit) ≡ after r (publicPart mlKem768 (now (dk .entry)) ++ hashPart mlKem768 (now (dk .entry))) (now (public .entry)) ⌝ }
 {
-    let mut t = [0u16; 768];
-    let mut h = [0u8; 32];
     let mut s = [0u16; 768];
-    decode_all(&dk[1152..2304], 3, &mut t);
-    if !reduced(&t) {
+    let ek = &dk[1152..2336];
+    if !vector_reduced(&ek[0..1152]) {
         return Answer::PublicKeyRange;
     }
-    hash_h(&dk[1152..2336], &mut h);
-    if !same(&dk[2336..2368], &h) {
+    if !hash_matches(&dk[2336..2368], ek) {
         return Answer::WrongHash;
     }
     decode_all(&dk[0..1152], 3, &mut s);
@@ -126,28 +124,17 @@ pub fn import(
     ensures { λ r. ⌜ now (z1 .exit) ≡ after r (secondWords mlKem768 (now (dk .entry)) (now (words .entry))) (now (z1 .entry)) ⌝ }
     ensures { λ r. ⌜ now (public .exit) ≡ after r (publicPart mlKem768 (now (dk .entry)) ++ hashPart mlKem768 (now (dk .entry))) (now (public .entry)) ⌝ }
 {
-    if dk.len() != 2400 {
-        return Answer::WrongLength;
-    }
-    if coeffs.len() != 768 {
-        return Answer::WrongLength;
-    }
-    if words.len() != 4 {
-        return Answer::WrongLength;
-    }
-    if s0.len() != 768 {
-        return Answer::WrongLength;
-    }
-    if s1.len() != 768 {
-        return Answer::WrongLength;
-    }
-    if z0.len() != 4 {
-        return Answer::WrongLength;
-    }
-    if z1.len() != 4 {
-        return Answer::WrongLength;
-    }
-    if public.len() != 1216 {
+    let has = [
+        dk.len(),
+        coeffs.len(),
+        words.len(),
+        s0.len(),
+        s1.len(),
+        z0.len(),
+        z1.len(),
+        public.len(),
+    ];
+    if !exact(&has, &[2400, 768, 4, 768, 768, 4, 4, 1216]) {
         return Answer::WrongLength;
     }
     import_sized(dk, coeffs, words, s0, s1, z0, z1, public)

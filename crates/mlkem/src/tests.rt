@@ -1,8 +1,25 @@
 // Tests of lent values.
 ghost use mathlib.Core.Path.{_≡_};
 ghost use lib.ListN.{length};
+ghost use Rattle.fips202.specs.Sponge.{sha3-256};
+ghost use Rattle.kpke.specs.KPke.{coefficients};
 ghost use Rattle.mlkem.specs.MlKem.{same as sameOf};
 ghost use Rattle.mlkem.specs.Refusals.{reduced as reducedOf};
+use kpke::hashes::hash_h;
+use kpke::vector::decode_all;
+
+// Row 1: the lengths that the lent buffers have are those that they must have.
+pub fn exact(has: &[usize], wants: &[usize]) -> bool
+    requires { ⌜ length (now has) ≡ length (now wants) ⌝ }
+    ensures { λ r. ⌜ r ≡ sameOf (now (has .entry)) (now (wants .entry)) ⌝ }
+{
+    for i in 0..has.len() {
+        if has[i] != wants[i] {
+            return false;
+        }
+    }
+    true
+}
 
 // Each coefficient is below q.
 pub fn reduced(f: &[u16]) -> bool
@@ -27,4 +44,24 @@ pub fn same(a: &[u8], b: &[u8]) -> bool
         }
     }
     true
+}
+
+// Each coefficient of an encoded vector is below q.
+pub fn vector_reduced(b: &[u8]) -> bool
+    requires { ⌜ length (now b) ≡ 1152 ⌝ }
+    ensures { λ r. ⌜ r ≡ reducedOf (coefficients 3 (now (b .entry))) ⌝ }
+{
+    let mut t = [0u16; 768];
+    decode_all(b, 3, &mut t);
+    reduced(&t)
+}
+
+// h is the public key's hash.
+pub fn hash_matches(h: &[u8], ek: &[u8]) -> bool
+    requires { ⌜ length (now h) ≡ 32 ⌝ }
+    ensures { λ r. ⌜ r ≡ sameOf (now (h .entry)) (sha3-256 (now (ek .entry))) ⌝ }
+{
+    let mut t = [0u8; 32];
+    hash_h(ek, &mut t);
+    same(h, &t)
 }

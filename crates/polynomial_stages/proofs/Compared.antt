@@ -10,7 +10,6 @@ use borrow.Author.Tests.{lt-ltb, le-ltb}
 use lib.Arith.{digits-div, digits-mod}
 use lib.ListN.{length, getD, take, drop}
 use lib.Seq.{getD-take, getD-drop}
-use Rattle.words.specs.Word.{xor}
 use Rattle.words.specs.Bounded.{Below, below-nil}
 use Rattle.words.specs.Digit.{digit}
 use Rattle.words.specs.Fill.{Filled, filled-start, filled-part, filled-end}
@@ -20,13 +19,13 @@ use Rattle.words.specs.Tab.{tab, tab-add, tab-cong, length-tab, getD-tab}
 use Rattle.codec.specs.Bytes.{byteDecode}
 use Rattle.worksheet.specs.declared.Recorder.{Recorder}
 use Rattle.worksheet.specs.declared.Shares.{Shares}
-use Rattle.worksheet.specs.Prog.{word, ret, _>>=_, entry, loop-cong, times-cong}
+use Rattle.worksheet.specs.Prog.{word, _>>=_}
 use Rattle.worksheet.specs.Ran.{Ran, Makes, Draws, bind}
 use Rattle.worksheet.specs.Gives.{gives-run}
 use Rattle.worksheet.specs.Sharing.{shares, none, joined, Sharing, sharing-joined}
 use Rattle.worksheet.specs.SharedList.{SharedList, sharedList, sharedAt, zip, getD-zip}
-use Rattle.worksheet.specs.Gates.{maskedOr}
-use Rattle.masked_comparison.specs.Comparison.{addPublic, foldOr, allZero}
+use Rattle.masked_comparison.specs.Comparison.{addPublic, allZero}
+use Rattle.masked_comparison.specs.ComparisonReads.{addPublic-cong, allZero-cong}
 use Rattle.masked_comparison.specs.ComparisonLaws.{gives-allZero}
 use Rattle.kpke.specs.Parameters.{Parameters}
 use Rattle.kpke.specs.KPke.{parts}
@@ -169,22 +168,6 @@ module _ (p : Parameters) where
           ∙ ap (sharedAt (behind n z)) (group-place d i b)
           ∙ ap₂ shares (getD-drop n (z .s0) i 0) (getD-drop n (z .s1) i 0)
           ∙ ap (sharedAt z) (omega arith))
-
--- ---- the fold, on equal words
-
-pub addPublic-cong : (n : ℕ) {c e : ℕ → ℕ} {v w : ℕ → Shares} → ((j : ℕ) → j < n → c j ≡ e j) → ((j : ℕ) → j < n → v j ≡ w j)
-    → addPublic n c v ≡ addPublic n e w
-unfolding addPublic
-addPublic-cong n f g =
-    times-cong n (λ j h. ap₂ (λ (x : ℕ) (z : Shares). entry (xor (z .s0) x) >>= λ y. ret (shares y (z .s1))) (f j h) (g j h))
-
-foldOr-cong : (n : ℕ) {v w : ℕ → Shares} → ((j : ℕ) → j < n + 1 → v j ≡ w j) → foldOr n v ≡ foldOr n w
-unfolding foldOr
-foldOr-cong n {v} {w} e = rw (e 0 (omega arith)) (loop-cong n (w 0) (λ j h t. ap (maskedOr 64 t) (e (j + 1) (omega arith))))
-
-pub allZero-cong : (n : ℕ) {v w : ℕ → Shares} → ((j : ℕ) → j < n + 1 → v j ≡ w j) → allZero n v ≡ allZero n w
-unfolding allZero
-allZero-cong n e = rw (foldOr-cong n e)
 
 -- stage 8, by the ciphertext's words l: v is share 0 once l is added
 pub stage8-ran : (p : Parameters) (c w0 w1 v : List ℕ) (m : ℕ) {l ws : List ℕ} {b : Shares} {r r′ r″ : Recorder} → 0 < p .dv

@@ -10,10 +10,10 @@ use lib.Seq.{drop-at, getD-drop, getD-take}
 use Rattle.words.specs.Part.{part-append}
 use Rattle.words.specs.Tab.{tab, length-tab, getD-tab, tab-of, tab-cong}
 use Rattle.worksheet.specs.declared.Shares.{Shares}
-use Rattle.worksheet.specs.Prog.{entry, times-cong}
 use Rattle.worksheet.specs.Sharing.{shares, none}
 use Rattle.worksheet.specs.SharedList.{SharedList, sharedList, sharedAt, zip, unzip, getD-zip, zip-zero, zip-set}
-use Rattle.masked_compression.specs.Compression.{fixedPoint, fixedPoints, maskedCompress}
+use Rattle.masked_compression.specs.Compression.{maskedCompress}
+use Rattle.masked_compression.specs.CompressionReads.{maskedCompress-cong}
 use Rattle.kpke.specs.KPke.{parts}
 use Rattle.kpke.specs.VectorLaws.{part-fits}
 use Rattle.mlkem.specs.Worksheet.{nothing}
@@ -50,17 +50,6 @@ module _ {a : ℕ} {s : SharedList} {l m : List ℕ} {j : ℕ} (c : Copied a s l
       getD-drop a (tab (j + a) (sharedAt s)) i none
       ∙ getD-tab (j + a) (sharedAt s) (a + i) none (omega arith)
       ∙ ap (sharedAt s) (add-comm a i))))
-
--- 64 coefficients are read
-pub maskedCompress-cong : (d : ℕ) {x y : ℕ → Shares} → ((i : ℕ) → i < 64 → x i ≡ y i) → maskedCompress d x ≡ maskedCompress d y
-unfolding maskedCompress
-maskedCompress-cong d {x} {y} e =
-    let f : (h : ℕ) (a b : ℕ → ℕ) → ((i : ℕ) → i < 64 → a i ≡ b i) → fixedPoints d h a ≡ fixedPoints d h b =
-    λ h a b g. times-cong 64 (λ i l. ap (λ (v : ℕ). entry (fixedPoint d h v)) (g i l)) in
-    rw (
-      f 0 (λ i. x i .s0) (λ i. y i .s0) (λ i l. ap (λ (z : Shares). z .s0) (e i l)),
-      f 4096 (λ i. x i .s1) (λ i. y i .s1) (λ i l. ap (λ (z : Shares). z .s1) (e i l)),
-    )
 
 -- element i of a part of n elements from a on
 pub sharedAt-part : (a n : ℕ) (l m : List ℕ) (i : ℕ) → i < n

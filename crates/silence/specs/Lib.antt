@@ -8,5 +8,4 @@ pub mod PlanesSilence
 pub mod WorksheetSilence
 pub mod SplitSilence
 pub mod Demand3
-pub mod InRange
 pub mod TraceClaim

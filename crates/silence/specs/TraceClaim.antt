@@ -1,37 +1,36 @@
 -- Demand 3 in terms of the trace call: counted over the same choices, what the trace hands back.
 use mathlib.Core.Path.{_≡_, refl, sym, ap, ap₂, _∙_}
-use mathlib.Core.Bool.{Bool, true, false, cond}
-use mathlib.Core.List.{List, _++_}
-use Prim.Native.Nat.{ℕ, _^_, _<_, _≤_}
+use mathlib.Core.Bool.{Bool, true, false, cond, _&&_}
+use mathlib.Core.List.{List}
+use Prim.Native.Nat.{ℕ, _^_, _<_}
 use native.Mathlib.Decide.{decLt}
 use native.Mathlib.Omega.{arith}
 use borrow.Author.Tests.{lt-ltb, le-ltb}
 use lib.Dec.{eqb, ltb}
-use lib.ListN.{length, getD, take, drop, replicate, length-append, length-take, length-drop}
-use lib.Seq.{take-at, drop-at}
+use lib.ListN.{length, getD, drop, replicate, length-append}
+use lib.Seq.{take-at}
 use Rattle.words.specs.Bounded.{Below, below-tab}
 use Rattle.words.specs.Residue.{q}
 use Rattle.words.specs.Tab.{length-tab}
 use Rattle.words.specs.Part.{length-part}
 use Rattle.worksheet.specs.Run.{run}
 use Rattle.worksheet.specs.Sum.{when}
-use Rattle.worksheet.specs.Count.{tally, strips, hit, hit-getD}
-use Rattle.worksheet.specs.Uses.{length-entries}
+use Rattle.worksheet.specs.Count.{tally, strips, hit-getD}
 use Rattle.mlkem.specs.declared.Answer.{Answer}
 use Rattle.mlkem.specs.declared.Answer.the-variants.{Done, ShortStream, NoSuchStep}
 use Rattle.kpke.specs.Parameters.{mlKem768}
 use Rattle.mlkem.specs.MlKem.{publicPart, hashPart}
-use Rattle.mlkem.specs.Refusals.{number, reduced}
+use Rattle.mlkem.specs.Refusals.{number}
 use Rattle.mlkem.specs.TestLaws.{below-reduced}
 use Rattle.kpke.specs.KPke.{matrixFull}
 use Rattle.mlkem.specs.Calls.{secondCoeffs, secondWords, rhoOf}
 use Rattle.mlkem.specs.Worksheet.{SplitKey, worksheet}
 use Rattle.mlkem.specs.Split.{split}
 use Rattle.decapsulation.specs.Calls.{Input, sheet, traceAnswer, traceValue}
-use Rattle.decapsulation.specs.AnswerLaws.{KeyLengths, trace-rows, sheet-steps}
+use Rattle.decapsulation.specs.AnswerLaws.{Lengths, trace-rows, sheet-steps}
 use Rattle.decapsulation.specs.Demand2.{imported, keyOf-imported}
 use Rattle.silence.specs.Claim.{Key, Ciphertext, gives, choices}
-use Rattle.silence.specs.InRange.{tally-below, tally-when}
+use Rattle.worksheet.specs.InRange.{tally-below, tally-when}
 use Rattle.silence.specs.Demand3.{hit-past, demand3}
 
 -- 1 where the trace of step t is carried out and hands back v, else 0
@@ -61,9 +60,10 @@ module _ {dk c : List ℕ} (key : Key dk) (ct : Ciphertext c) where
     length-public : length (g .public) ≡ 1216
     length-public = length-append (publicPart mlKem768 dk) (hashPart mlKem768 dk) ∙ omega (arith, length-publicPart, length-hashPart)
 
-    key-long : KeyLengths g
+    all-long : Lengths g
     unfolding secondCoeffs secondWords
-    key-long = record { s0 = la; s1 = length-tab 768 _; z0 = lw; z1 = length-tab 4 _; public = length-public }
+    all-long =
+        record { s0 = la; s1 = length-tab 768 _; z0 = lw; z1 = length-tab 4 _; public = length-public; ct = ct .long; words = lws; coeffs = lcs }
 
     second-below : Below q (secondCoeffs mlKem768 dk a)
     unfolding secondCoeffs
@@ -71,7 +71,8 @@ module _ {dk c : List ℕ} (key : Key dk) (ct : Ciphertext c) where
 
     answered : traceAnswer mlKem768 g t ≡ cond full (cond (ltb t 187794) Done NoSuchStep) ShortStream
     answered =
-        trace-rows g t key-long (ct .long) lws lcs (below-reduced cs rcs) (below-reduced a ra) (below-reduced (secondCoeffs mlKem768 dk a) second-below)
+        trace-rows g t all-long (below-reduced cs rcs)
+        (ap₂ (λ (x y : Bool). x && y) (below-reduced a ra) (below-reduced (secondCoeffs mlKem768 dk a) second-below))
         ∙ ap (λ (l : List ℕ). cond (matrixFull 3 (drop 1152 l)) (cond (ltb t 187794) Done NoSuchStep) ShortStream)
         (take-at (publicPart mlKem768 dk) (hashPart mlKem768 dk) 1184 length-publicPart)
 

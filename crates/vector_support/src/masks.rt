@@ -1,5 +1,4 @@
 // Masks of a kind: all zero, all as large as they may be, or drawn from SHAKE256.
-ghost use mathlib.Core.Path.{_≡_};
 ghost use Prim.Native.Nat.{_+_, _*_, _<_, _≤_};
 ghost use lib.ListN.{length};
 

@@ -3,11 +3,13 @@ pub mod Run
 pub mod Recording
 pub mod Ran
 pub mod RanLoops
+pub mod RanChain
 pub mod Uses
 pub mod Turns
 pub mod Gives
 pub mod Sum
 pub mod Count
+pub mod InRange
 pub mod Couple
 pub mod Places
 pub mod CoupleLoops

@@ -1,4 +1,4 @@
-use mathlib.Core.Path.{refl, _∙_}
+use mathlib.Core.Path.{_∙_}
 use native.Mathlib.Omega.{arith}
 use Rattle.decapsulation.specs.Calls.{input}
 use Rattle.decapsulation.proofs.Outcome.{trace-answer, trace-after}

@@ -1,10 +1,8 @@
-use mathlib.Core.Path.{_∙_}
 use Rattle.kpke.specs.Parameters.{mlKem768}
 use Rattle.decapsulation.proofs.Coins.{coins-part}
 use Prim.Native.Nat.{_-_}
 use native.Mathlib.Omega.{arith}
-use lib.ListN.{length, length-take, length-drop}
-use Rattle.words.specs.Bounded.{below-take, below-drop}
+use lib.ListN.{length-take, length-drop}
 use Rattle.worksheet.specs.Ran.{bind, part-words}
 use Rattle.decapsulation.specs.Groups.{worksheet-groups}
 use borrow.Author.Needs.{needs}

@@ -4,7 +4,7 @@ use native.Mathlib.Omega.{arith}
 use lib.ListN.{length, getD}
 use Rattle.words.specs.Numeral.{digits}
 use Rattle.kpke.proofs.Joined.{Joined, length-span, joined-start, joined-turn, joined-end}
-use Rattle.hash_stages.proofs.Hashed.{bytesOf-concat}
+use Rattle.mlkem.specs.WordBytes.{bytesOf-concat}
 use borrow.Author.Needs.{needs}
 use Rattle.hash_stages.proofs.hashing.words_to_bytes.Statement.{statement}
 use Rattle.hash_stages.proofs.hashing.words_to_bytes.Tie as tie

@@ -1,56 +1,37 @@
-use mathlib.Core.Path.{refl}
-use borrow.Author.Tests.{eq-eqb, ne-eqb}
-use lib.ListN.{length}
-use Rattle.mlkem.specs.Refusals.{answer, sized}
+use mathlib.Core.Path.{refl, sym, ap, _∙_}
+use mathlib.Core.List.{List}
+use Prim.Native.Nat.{ℕ}
+use borrow.Author.Tests.{not-true, not-false}
+use lib.ListN.{getD}
+use Rattle.mlkem.specs.declared.Answer.the-variants.{WrongLength}
+use Rattle.mlkem.specs.MlKem.{same}
+use Rattle.mlkem.specs.Refusals.{sized}
+use Rattle.mlkem.specs.RefusalLaws.{refused}
+use Rattle.mlkem.specs.TestLaws.{same-true}
 use Rattle.mlkem.specs.Calls.{keyGenAnswer}
 use borrow.Author.Needs.{needs}
 use Rattle.mlkem.proofs.key_making.keygen.Statement.{statement}
 use Rattle.mlkem.proofs.key_making.keygen.Tie as tie
 
 returns : tie.Need-returns
-unfolding keyGenAnswer answer sized
-returns c = let a = c .before .before .before .before .before .args in (rw (ne-eqb (length (a .d .now)) 32 (c .if1 .taken)), (refl, refl))
+unfolding keyGenAnswer sized same
+returns c = (sym (refused WrongLength _ (sym (c .before .exact .ensures) ∙ not-true _ (c .if1 .taken))), (refl, refl))
 
-returns-2 : tie.Need-returns-2
-unfolding keyGenAnswer answer sized
-returns-2 c =
-    let a = c .before .before .before .before .before .before .args in
-    (rw (eq-eqb (length (a .d .now)) 32 (c .before .if1 .left), ne-eqb (length (a .z .now)) 32 (c .if2 .taken)), (refl, refl))
-
-returns-3 : tie.Need-returns-3
-unfolding keyGenAnswer answer sized
-returns-3 c =
-    let a = c .before .before .before .before .before .before .before .args in (
-      rw (
-        eq-eqb (length (a .d .now)) 32 (c .before .before .if1 .left),
-        eq-eqb (length (a .z .now)) 32 (c .before .if2 .left),
-        ne-eqb (length (a .ek .now)) 1184 (c .if3 .taken),
-      ),
-      (refl, refl),
-    )
-
-returns-4 : tie.Need-returns-4
-unfolding keyGenAnswer answer sized
-returns-4 c =
-    let a = c .before .before .before .before .before .before .before .before .args in (
-      rw (
-        eq-eqb (length (a .d .now)) 32 (c .before .before .before .if1 .left),
-        eq-eqb (length (a .z .now)) 32 (c .before .before .if2 .left),
-        eq-eqb (length (a .ek .now)) 1184 (c .before .if3 .left),
-        ne-eqb (length (a .dk .now)) 2400 (c .if4 .taken),
-      ),
-      (refl, refl),
-    )
+keygen-sized-requires : tie.Need-keygen-sized-requires
+keygen-sized-requires c κs =
+    let e = same-true _ _ (sym (c .before .before .before .exact .ensures) ∙ not-false _ (c .before .before .if1 .left)) in
+    let at : (i : ℕ) → _ = λ i. ap (λ (l : List ℕ). getD l i 0) e in
+    (at 0, at 1, at 2, at 3)
 
 pub keygen-spec : {M : Type 1} → statement M
 keygen-spec =
     tie.close
     (tie.spec
-    returns
-    returns-2
-    returns-3
-    returns-4
+    (λ c. search needs)
+    (λ c. search needs)
     (λ c κs. search needs)
+    returns
+    keygen-sized-requires
     (λ c. search needs)
     (λ c. search needs)
     (λ c. search needs))
