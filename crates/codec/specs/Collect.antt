@@ -4,7 +4,9 @@ use mathlib.Core.List.{List, [], _∷_, _++_, append-nil}
 use Prim.Native.Nat.{ℕ, _+_, _<_, _≤_}
 use native.Mathlib.Numerals.{add-one}
 use native.Mathlib.Omega.{arith}
-use borrow.Author.Tests.{lt-ltb, le-ltb}
+use native.Mathlib.Decide.{decLe}
+use borrow.Author.Tests.{lt-ltb, le-ltb, le-leb, lt-leb, eq-eqb, ne-eqb}
+use lib.Dec.{eqb, leb}
 use lib.ListN.{length, take, set, length-set, length-take, length-append}
 use lib.Seq.{take-all, take-suc-set, take-append-le}
 use Rattle.words.specs.Residue.{q}
@@ -47,3 +49,11 @@ module _ {l f : List ℕ} {k : ℕ} (c : Collected l f k) where
   collected-end h =
       let e : k ≡ 256 = c .count ∙ length-take 256 l ∙ omega arith in
       sym (take-all k f (omega (arith, c .long))) ∙ c .front
+
+  -- all places are taken exactly where there are 256 numbers
+  pub collected-taken : eqb k 256 ≡ leb 256 (length l)
+  collected-taken = go (decLe 256 (length l))
+    where
+      go : Dec (256 ≤ length l) → eqb k 256 ≡ leb 256 (length l)
+      go (yes h) = rw (eq-eqb k 256 (c .count ∙ length-take 256 l ∙ omega arith), le-leb 256 (length l) h)
+      go (no h) = rw (ne-eqb k 256 (λ e. h (omega (arith, c .count, length-take 256 l))), lt-leb 256 (length l) (omega arith))

@@ -12,5 +12,6 @@ pub use encoding::byte_decode;
 pub use encoding::byte_decode12;
 pub use encoding::byte_encode;
 pub use sampling::Sampled;
+pub use sampling::fill_ntt;
 pub use sampling::sample_ntt;
 pub use sampling::sample_poly_cbd;

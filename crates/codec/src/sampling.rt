@@ -4,7 +4,7 @@ use crate::bits::low;
 use crate::bits::wide16;
 use crate::encoding::byte_decode;
 use ring::difference;
-ghost use mathlib.Core.Bool.{cond};
+ghost use mathlib.Core.Bool.{true, cond};
 ghost use mathlib.Core.List.{List, _++_, map};
 ghost use mathlib.Core.Path.{_≡_};
 ghost use Prim.Native.Nat.{ℕ, _+_, _*_, _/_, _%_, _^_, _<_, _≤_};
@@ -64,15 +64,18 @@ fn keep(f: &mut [u16], k: usize, x: u16) -> usize
     k
 }
 
-fn fill(stream: &[u8], f: &mut [u16])
-    requires { ⌜ (length (now stream) ≡ 840) × (length (now f) ≡ 256) × (256 ≤ length (accepted 280 (now stream))) ⌝ }
-    ensures { λ _. ⌜ now (f .exit) ≡ sampleNtt (now (stream .entry)) ⌝ }
+// Whether the stream fills f, which then holds what SampleNTT gives.
+pub fn fill_ntt(stream: &[u8], f: &mut [u16]) -> bool
+    requires { ⌜ (length (now stream) ≡ 840) × (length (now f) ≡ 256) ⌝ }
+    ensures { λ r. ⌜ r ≡ full (now (stream .entry)) ⌝ }
+    ensures { λ r. ⌜ (r ≡ true → now (f .exit) ≡ sampleNtt (now (stream .entry))) ⌝ }
 {
     let mut k = 0;
     for i in 0..280 {
         k = keep(f, k, first_of(stream[3 * i], stream[3 * i + 1]));
         k = keep(f, k, second_of(stream[3 * i + 1], stream[3 * i + 2]));
     }
+    k == 256
 }
 
 // Where the stream is short, f stays as it is.
@@ -84,7 +87,7 @@ pub fn sample_ntt(stream: &[u8], f: &mut [u16]) -> Sampled
     if count_accepted(stream) < 256 {
         return Sampled::Short;
     }
-    fill(stream, f);
+    fill_ntt(stream, f);
     Sampled::Full
 }
 

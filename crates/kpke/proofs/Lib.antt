@@ -1,6 +1,5 @@
 pub mod Joined
 pub mod Tested
-pub mod Sampled
 pub mod Encoded
 pub mod Parts
 pub mod Encrypted

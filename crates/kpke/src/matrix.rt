@@ -8,8 +8,7 @@ ghost use Rattle.codec.specs.Sample.{full};
 ghost use Rattle.kpke.specs.Functions.{XOF};
 ghost use Rattle.kpke.specs.KPke.{concat, matrix, matrixFull};
 use crate::hashes::xof;
-use codec::Sampled;
-use codec::sample_ntt;
+use codec::fill_ntt;
 
 // Whether the stream of place (i, j) yields 256 coefficients, which f then holds.
 fn sample_place(rho: &[u8], i: u8, j: u8, f: &mut [u16]) -> bool
@@ -19,10 +18,7 @@ fn sample_place(rho: &[u8], i: u8, j: u8, f: &mut [u16]) -> bool
 {
     let mut s = [0u8; 840];
     xof(rho, i, j, &mut s);
-    match sample_ntt(&s, f) {
-        Sampled::Full => true,
-        Sampled::Short => false,
-    }
+    fill_ntt(&s, f)
 }
 
 fn expand_row(rho: &[u8], k: usize, i: usize, a: &mut [u16]) -> bool

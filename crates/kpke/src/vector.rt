@@ -4,15 +4,14 @@ ghost use Prim.Native.Nat.{ℕ, _+_, _*_, _^_, _<_, _≤_};
 ghost use lib.ListN.{length, replicate};
 ghost use Rattle.words.specs.Bounded.{Below};
 ghost use Rattle.codec.specs.Bytes.{byteEncode, byteDecode12};
-ghost use Rattle.ring.specs.Polynomial.{add};
-ghost use Rattle.ring.specs.Transform.{ntt as nttOf, multiplyNtts};
+ghost use Rattle.ring.specs.Transform.{ntt as nttOf};
 ghost use Rattle.kpke.specs.KPke.{parts, concat, dot as dotOf, coefficients};
 use crate::copy::copy_coefficients;
 use codec::byte_decode;
 use codec::byte_decode12;
 use codec::byte_encode;
 use ring::add_to;
-use ring::multiply_ntts;
+use ring::multiply_add;
 use ring::ntt;
 
 pub fn ntt_all(v: &mut [u16], k: usize)
@@ -24,17 +23,6 @@ pub fn ntt_all(v: &mut [u16], k: usize)
         let e = a + 256;
         ntt(&mut v[a..e]);
     }
-}
-
-// s becomes s + f g.
-fn add_product(s: &mut [u16], f: &[u16], g: &[u16])
-    requires { ⌜ (length (now s) ≡ 256) × (length (now f) ≡ 256) × (length (now g) ≡ 256) ⌝ }
-    ensures { λ _. ⌜ now (s .exit) ≡ add (now (s .entry)) (multiplyNtts (now (f .entry)) (now (g .entry))) ⌝ }
-{
-    let mut t = [0u16; 256];
-    copy_coefficients(f, &mut t);
-    multiply_ntts(&mut t, g);
-    add_to(s, &t);
 }
 
 pub fn clear(f: &mut [u16])
@@ -56,7 +44,7 @@ pub fn dot(a: &[u16], start: usize, step: usize, b: &[u16], k: usize, out: &mut 
         let xe = x + 256;
         let y = 256 * j;
         let ye = y + 256;
-        add_product(out, &a[x..xe], &b[y..ye]);
+        multiply_add(out, &a[x..xe], &b[y..ye]);
     }
 }
 

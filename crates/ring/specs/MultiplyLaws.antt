@@ -15,10 +15,10 @@ use Rattle.ring.specs.Transform.{gamma, baseCaseMultiply, multiplyNtts}
 use Rattle.ring.specs.Linear.{Combination, combination-at}
 
 -- coefficients 2 m and 2 m + 1 of f times g
-abbrev evenAt : List ℕ → List ℕ → ℕ → ℕ
+abbrev pub evenAt : List ℕ → List ℕ → ℕ → ℕ
 evenAt f g m = (getD f (2 * m) 0 * getD g (2 * m) 0 + getD f (2 * m + 1) 0 * (getD g (2 * m + 1) 0 * gamma m % q)) % q
 
-abbrev oddAt : List ℕ → List ℕ → ℕ → ℕ
+abbrev pub oddAt : List ℕ → List ℕ → ℕ → ℕ
 oddAt f g m = (getD f (2 * m) 0 * getD g (2 * m + 1) 0 + getD f (2 * m + 1) 0 * getD g (2 * m) 0) % q
 
 module _ (f g s : List ℕ) where
@@ -48,6 +48,31 @@ module _ (f g s : List ℕ) where
   turn-before m i h =
       getD-set-other (set (turns m) (2 * m) (evenAt f g m)) (2 * m + 1) i (oddAt f g m) 0 (omega arith)
       ∙ getD-set-other (turns m) (2 * m) i (evenAt f g m) 0 (omega arith)
+
+  turns-even : (n m : ℕ) → m < n → 2 * m < length s → getD (turns n) (2 * m) 0 ≡ evenAt f g m
+  turns-even zero m h k = absurd (omega arith)
+  turns-even (suc n) m h k = go (decLt m n) (λ p. turns-even n m p k)
+    where
+      go : Dec (m < n) → (m < n → getD (turns n) (2 * m) 0 ≡ evenAt f g m) → getD (turns (suc n)) (2 * m) 0 ≡ evenAt f g m
+      go (yes p) r = turn-before n (2 * m) (omega arith) ∙ r p
+      go (no p) r = let e : m ≡ n = omega arith in rw (← e) (turn-even m k)
+
+  turns-odd : (n m : ℕ) → m < n → 2 * m + 1 < length s → getD (turns n) (2 * m + 1) 0 ≡ oddAt f g m
+  turns-odd zero m h k = absurd (omega arith)
+  turns-odd (suc n) m h k = go (decLt m n) (λ p. turns-odd n m p k)
+    where
+      go : Dec (m < n) → (m < n → getD (turns n) (2 * m + 1) 0 ≡ oddAt f g m) → getD (turns (suc n)) (2 * m + 1) 0 ≡ oddAt f g m
+      go (yes p) r = turn-before n (2 * m + 1) (omega arith) ∙ r p
+      go (no p) r = let e : m ≡ n = omega arith in rw (← e) (turn-odd m k)
+
+module _ (f g : List ℕ) (m : ℕ) (h : m < 128) (l : length f ≡ 256) where
+  pub getD-multiplyNtts-even : getD (multiplyNtts f g) (2 * m) 0 ≡ evenAt f g m
+  unfolding multiplyNtts
+  getD-multiplyNtts-even = turns-even f g f 128 m h (omega arith)
+
+  pub getD-multiplyNtts-odd : getD (multiplyNtts f g) (2 * m + 1) 0 ≡ oddAt f g m
+  unfolding multiplyNtts
+  getD-multiplyNtts-odd = turns-odd f g f 128 m h (omega arith)
 
 pub length-multiplyNtts : (f g : List ℕ) → length (multiplyNtts f g) ≡ length f
 unfolding multiplyNtts

@@ -5,7 +5,7 @@ mod residue;
 mod tables;
 mod transform;
 
-pub use multiply::multiply_ntts;
+pub use multiply::multiply_add;
 pub use polynomial::add_to;
 pub use polynomial::sub_from;
 pub use residue::difference;

@@ -18,7 +18,7 @@ returns-2 : tie.Need-returns-2
 returns-2 c =
     let s = c .before .before .before .before .before .before .before .before .args in
     let e : full (s .stream .now) ≡ true = le-leb 256 (length (accepted 280 (s .stream .now))) (omega (arith, c .before .before .before .before .before .count-accepted .ensures)) in
-    (sym (ap answerOf e), c .before .before .fill .ensures ∙ sym (ap (λ (b : Bool). cond b (sampleNtt (s .stream .now)) (s .f .now)) e))
+    (sym (ap answerOf e), c .before .before .fill-ntt .ensures .1 (c .before .before .fill-ntt .ensures .0 ∙ e) ∙ sym (ap (λ (b : Bool). cond b (sampleNtt (s .stream .now)) (s .f .now)) e))
 
 pub sample-ntt-spec : {M : Type 1} → statement M
 sample-ntt-spec =

@@ -32,14 +32,14 @@ mul-x-2 c = omega (arith, c .before .before .before .before .before .before .bef
 add-xe : tie.Need-add-xe Inv-loop μ-loop
 add-xe c = omega (arith, c .before .before .before .before .before .before .before .before .before .pre .0 (c .before .loop .j) (omega arith))
 
-mul-add-product : tie.Need-mul-add-product Inv-loop μ-loop
-mul-add-product c = omega (arith, c .before .before .before .before .before .before .before .before .before .before .pre .0 (c .before .before .loop .j) (omega arith))
+mul-multiply-add : tie.Need-mul-multiply-add Inv-loop μ-loop
+mul-multiply-add c = omega (arith, c .before .before .before .before .before .before .before .before .before .before .pre .0 (c .before .before .loop .j) (omega arith))
 
-part-add-product-end : tie.Need-part-add-product-end Inv-loop μ-loop
-part-add-product-end c = omega (arith, c .before .before .before .before .before .before .before .before .before .before .pre .0 (c .before .before .loop .j) (omega arith))
+part-multiply-add-end : tie.Need-part-multiply-add-end Inv-loop μ-loop
+part-multiply-add-end c = omega (arith, c .before .before .before .before .before .before .before .before .before .before .pre .0 (c .before .before .loop .j) (omega arith))
 
-add-product-requires : tie.Need-add-product-requires Inv-loop μ-loop
-add-product-requires c κs =
+multiply-add-requires : tie.Need-multiply-add-requires Inv-loop μ-loop
+multiply-add-requires c κs =
     let s = c .before .before .before .before .before .before .before .before .before .before .before .before in
     let j = c .before .before .before .before .loop .j in (
       omega arith,
@@ -53,7 +53,7 @@ loop-again c =
     let s = l .before .before .before .before .before .before .before .before .args in
     let w =
     ap₂ multiplyNtts (part-span (256 * (s .start + s .step * l .loop .j)) 256 (s .a .now)) (part-span (256 * l .loop .j) 256 (s .b .now)) in
-    (omega arith, reached-turn (l .loop .inv .1) (omega arith) (c .before .before .add-product .ensures ∙ ap₂ add refl w))
+    (omega arith, reached-turn (l .loop .inv .1) (omega arith) (c .before .before .multiply-add .ensures ∙ ap₂ add refl w))
 
 returns : tie.Need-returns Inv-loop μ-loop
 unfolding dot
@@ -73,15 +73,15 @@ dot-spec =
     add-xe
     (λ c. omega arith)
     (λ c. omega arith)
-    mul-add-product
+    mul-multiply-add
     (λ c. omega arith)
     (λ c. omega arith)
-    part-add-product-end
+    part-multiply-add-end
     (λ c. omega arith)
     (λ c. omega arith)
     (λ c. omega arith)
     (λ c. omega arith)
-    add-product-requires
+    multiply-add-requires
     (λ c. omega arith)
     (λ c. omega arith)
     loop-again

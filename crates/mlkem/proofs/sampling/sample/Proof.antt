@@ -10,7 +10,7 @@ use Rattle.mlkem.specs.RefusalLaws.{refused, passed, no-row}
 use Rattle.mlkem.specs.TestLaws.{same-true}
 use Rattle.mlkem.specs.Calls.{sampleAnswer}
 use Rattle.codec.specs.Sample.{full}
-use Rattle.kpke.proofs.Sampled.{full-true, full-false}
+use Rattle.mlkem.proofs.Sampled.{full-true, full-false}
 use borrow.Author.Needs.{needs}
 use Rattle.mlkem.proofs.sampling.sample.Statement.{statement}
 use Rattle.mlkem.proofs.sampling.sample.Tie as tie

@@ -11,19 +11,14 @@ second c =
     let k : c .before .args .y ≤ 65535 = omega arith in
     mul-le-mul h k
 
-mul-reduce : tie.Need-mul-reduce
-mul-reduce c = omega (arith, second c)
-
-add-reduce : tie.Need-add-reduce
-add-reduce c = omega (arith, second c)
-
 pub combination-spec : {M : Type 1} → statement M
 combination-spec =
     tie.close
     (tie.spec
     (λ c κs. search needs)
     (λ c. search needs)
-    mul-reduce
-    add-reduce
+    (λ c. search needs)
+    (λ c. omega (arith, second c))
+    (λ c. omega (arith, second c))
     (λ c κs. search needs)
-    (λ c. search needs))
+    (λ c. omega (arith, c .reduce .ensures, c .before .product .ensures)))

@@ -2,12 +2,13 @@ use mathlib.Core.Path.{_≡_, sym, ap₂, _∙_, subst}
 use mathlib.Core.List.{List, _++_}
 use Prim.Native.Nat.{ℕ, _≤_, _-_}
 use native.Mathlib.Omega.{arith}
+use borrow.Author.Tests.{leb-true}
 use lib.ListN.{length}
 use Rattle.codec.specs.Sample.{kept, accepted, sampleNtt}
 use Rattle.codec.specs.SampleLaws.{accepted-turn}
-use Rattle.codec.specs.Collect.{Collected, collected-start, collected-end}
-use Rattle.codec.proofs.sampling.fill.Statement.{statement}
-use Rattle.codec.proofs.sampling.fill.Tie as tie
+use Rattle.codec.specs.Collect.{Collected, collected-start, collected-end, collected-taken}
+use Rattle.codec.proofs.sampling.fill_ntt.Statement.{statement}
+use Rattle.codec.proofs.sampling.fill_ntt.Tie as tie
 
 abbrev Inv-loop : tie.InvT-loop
 Inv-loop stream f₀ k₀ i₀ f k i = (i ≤ 280) × (length f ≡ 256) × Collected (accepted i stream) f k
@@ -41,10 +42,11 @@ returns c =
     let a = c .before .loop in
     let s = c .before .before .before .before in
     let e : a .i ≡ 280 = omega arith in
-    collected-end (subst (λ (i : ℕ). Collected (accepted i (s .args .stream .now)) (a .f) (a .k)) e (a .inv .2)) (s .pre .2)
+    let d = subst (λ (i : ℕ). Collected (accepted i (s .args .stream .now)) (a .f) (a .k)) e (a .inv .2) in
+    (collected-taken d, λ t. collected-end d (leb-true 256 (length (accepted 280 (s .args .stream .now))) (sym (collected-taken d) ∙ t)))
 
-pub fill-spec : {M : Type 1} → statement M
-fill-spec =
+pub fill-ntt-spec : {M : Type 1} → statement M
+fill-ntt-spec =
     tie.close
     (tie.spec
     Inv-loop
