@@ -1,28 +1,11 @@
 // The four hashes on published messages and at the edges of their rates. What it prints is held to the file stdout, whose values
 // come from another implementation (tools/hash_vectors).
 use fips202::Answer;
-use libc::STDOUT_FILENO;
+use text::print;
+use text::print_decimal;
+use text::print_hex;
 
 mod masked; // the hashes on two shares
-
-pub(crate) fn print(text: &[u8]) {
-    io::write_all(STDOUT_FILENO, text);
-}
-
-fn hex_digit(n: u8) -> u8 {
-    let d = n % 16;
-    if d < 10 { 48 + d } else { 87 + d }
-}
-
-pub(crate) fn print_hex(bytes: &[u8]) {
-    let mut i: usize = 0;
-    while i < bytes.len() {
-        let two = [hex_digit(bytes[i] / 16), hex_digit(bytes[i])];
-        io::write_all(STDOUT_FILENO, &two);
-        i += 1;
-    }
-    io::write_all(STDOUT_FILENO, b"\n");
-}
 
 fn sha3_256(message: &[u8]) {
     let mut out = [0u8; 32];
@@ -71,7 +54,7 @@ fn count(bytes: &mut [u8]) {
 fn hash_counted(bytes: &mut [u8]) {
     count(bytes);
     print(b"length ");
-    io::print_decimal(STDOUT_FILENO, bytes.len() as u64);
+    print_decimal(bytes.len() as u64);
     print(b"\n");
     hash(bytes);
 }

@@ -2,9 +2,9 @@
 ghost use Prim.Native.Nat.{_*_, _≤_};
 ghost use lib.ListN.{length};
 use crate::clear;
-use crate::print;
 use crate::print_answer;
-use crate::print_hex;
+use text::print;
+use text::print_hex;
 
 // Past its end a string is zero.
 fn byte_at(bytes: &[u8], i: usize) -> u8 {
