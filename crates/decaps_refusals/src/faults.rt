@@ -1,15 +1,14 @@
 // Coefficients and steps out of range, alone and several at a time: document 01's rows are tried from top to bottom.
 ghost use mathlib.Core.Path.{_≡_};
 ghost use lib.ListN.{length};
+use decaps_support::calls::decaps;
+use decaps_support::calls::trace;
+use decaps_support::prepare::prepare;
+use text::print;
+use text::print_decimal;
+use vector_support::answers::print_refusal;
 use vector_support::bytes::unchanged_words;
-use vector_support::calls::decaps;
-use vector_support::calls::trace;
-use vector_support::decaps::split;
-use vector_support::decaps::strip;
 use vector_support::masks::Masks;
-use vector_support::print::print;
-use vector_support::print::print_decimal;
-use vector_support::print::print_refusal;
 use vector_support::turn::make;
 
 // Whose coefficient is out of range. Both: the second share's and the strip's.
@@ -83,16 +82,22 @@ fn lines(dk: &[u8], ct: &[u8], part: Part, at: usize, v: u16, step: u64) {
     let mut public = [0u8; 1216];
     let mut words = [0u64; 11750];
     let mut coeffs = [0u16; 7424];
-    split(
+    let n = prepare(
         dk,
+        Masks::Drawn(9),
         Masks::Drawn(9),
         &mut s0,
         &mut s1,
         &mut z0,
         &mut z1,
         &mut public,
+        &mut words,
+        &mut coeffs,
     );
-    strip(Masks::Drawn(9), &mut words, &mut coeffs);
+    if n != 0 {
+        print(b"import refused\n");
+        return;
+    }
     spoil(part, at, v, &mut s0, &mut s1, &mut coeffs);
     decaps_line(&s0, &s1, &z0, &z1, &public, ct, &words, &coeffs);
     trace_line(&s0, &s1, &z0, &z1, &public, ct, &words, &coeffs, step);

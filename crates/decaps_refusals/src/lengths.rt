@@ -1,12 +1,12 @@
 // Each lent buffer empty, one element short and one element long, the others having their lengths. Shares, masks and the step are out of range: a
 // wrong length is refused before them.
+use decaps_support::calls::decaps;
+use decaps_support::calls::trace;
+use vector_support::answers::print_refusal;
 use vector_support::bytes::unchanged_words;
-use vector_support::calls::decaps;
-use vector_support::calls::trace;
 use vector_support::edges::Edge;
 use vector_support::edges::length_at;
 use vector_support::edges::print_edge;
-use vector_support::print::print_refusal;
 
 enum Call {
     Decaps,

@@ -2,13 +2,13 @@
 ghost use mathlib.Core.Path.{_≡_};
 ghost use Prim.Native.Nat.{_<_, _≤_};
 ghost use lib.ListN.{length};
+use decaps_support::decaps::decaps;
+use text::print;
+use text::print_decimal;
+use text::print_hex;
 use vector_support::bytes::copy;
 use vector_support::bytes::same;
-use vector_support::decaps::decaps;
 use vector_support::masks::Masks;
-use vector_support::print::print;
-use vector_support::print::print_decimal;
-use vector_support::print::print_hex;
 use vector_support::turn::make;
 
 fn kind(i: usize) -> Masks {

@@ -2,16 +2,15 @@
 ghost use mathlib.Core.Path.{_≡_};
 ghost use Prim.Native.Nat.{_+_, _*_, _<_, _≤_};
 ghost use lib.ListN.{length};
-use vector_support::calls::decaps;
-use vector_support::calls::trace;
-use vector_support::decaps::split;
-use vector_support::decaps::strip;
+use decaps_support::calls::decaps;
+use decaps_support::calls::trace;
+use decaps_support::prepare::prepare;
+use text::print;
+use text::print_decimal;
+use vector_support::answers::number;
+use vector_support::answers::print_number;
+use vector_support::hashes::print_hash;
 use vector_support::masks::Masks;
-use vector_support::print::number;
-use vector_support::print::print;
-use vector_support::print::print_decimal;
-use vector_support::print::print_hash;
-use vector_support::print::print_number;
 use vector_support::turn::make;
 
 fn step_line(
@@ -278,16 +277,22 @@ fn trace_key(dk: &[u8], ct: &[u8]) {
     let mut public = [0u8; 1216];
     let mut words = [0u64; 11750];
     let mut coeffs = [0u16; 7424];
-    split(
+    let n = prepare(
         dk,
+        Masks::Drawn(9),
         Masks::Drawn(9),
         &mut s0,
         &mut s1,
         &mut z0,
         &mut z1,
         &mut public,
+        &mut words,
+        &mut coeffs,
     );
-    strip(Masks::Drawn(9), &mut words, &mut coeffs);
+    if n != 0 {
+        print(b"import refused\n");
+        return;
+    }
     print_traces(&s0, &s1, &z0, &z1, &public, ct, &words, &coeffs);
 }
 

@@ -1,12 +1,12 @@
 // Each lent buffer empty, one element short and one element long, the others having their lengths. Keys and masks hold values that are out of
 // range: a wrong length is refused before them.
+use vector_support::answers::print_refusal;
 use vector_support::bytes::unchanged;
 use vector_support::bytes::unchanged_coefficients;
 use vector_support::bytes::unchanged_words;
 use vector_support::edges::Edge;
 use vector_support::edges::length_at;
 use vector_support::edges::print_edge;
-use vector_support::print::print_refusal;
 
 fn sample(stream: &[u8], out: &mut [u16]) {
     let answer = mlkem::sample(stream, out);

@@ -2,17 +2,17 @@
 ghost use mathlib.Core.Path.{_≡_};
 ghost use Prim.Native.Nat.{_+_, _<_, _≤_};
 ghost use lib.ListN.{length};
+use text::print;
+use text::print_decimal;
+use vector_support::answers::number;
+use vector_support::answers::print_number;
 use vector_support::bytes::copy;
 use vector_support::bytes::unchanged;
+use vector_support::hashes::print_hash;
 use vector_support::import::import;
 use vector_support::import::import_masked;
 use vector_support::import::mask_coefficients;
 use vector_support::import::mask_words;
-use vector_support::print::number;
-use vector_support::print::print;
-use vector_support::print::print_decimal;
-use vector_support::print::print_hash;
-use vector_support::print::print_number;
 
 // What is changed, and the call that gets it.
 enum Part {

@@ -2,13 +2,13 @@
 ghost use mathlib.Core.Path.{_≡_};
 ghost use lib.ListN.{length};
 use crate::places::put_at;
+use text::print;
+use text::print_decimal;
+use vector_support::answers::print_number;
 use vector_support::bytes::copy;
 use vector_support::import::import;
 use vector_support::import::mask_coefficients;
 use vector_support::import::mask_words;
-use vector_support::print::print;
-use vector_support::print::print_decimal;
-use vector_support::print::print_number;
 
 fn print_import(faults: u64, dk: &[u8], coeffs: &[u16]) {
     let words = mask_words();

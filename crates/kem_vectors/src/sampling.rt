@@ -2,12 +2,12 @@
 ghost use mathlib.Core.Path.{_≡_};
 ghost use Prim.Native.Nat.{_≤_};
 ghost use lib.ListN.{length};
+use text::print;
+use text::print_hex;
+use vector_support::answers::number;
+use vector_support::answers::print_number;
 use vector_support::bytes::coefficient_bytes;
 use vector_support::bytes::fill;
-use vector_support::print::number;
-use vector_support::print::print;
-use vector_support::print::print_hex;
-use vector_support::print::print_number;
 
 // The answer, and all of the output, which holds 238 in each byte before.
 fn sample(stream: &[u8]) {

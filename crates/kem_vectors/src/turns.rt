@@ -2,11 +2,11 @@
 ghost use mathlib.Core.Path.{_≡_};
 ghost use Prim.Native.Nat.{_≤_};
 ghost use lib.ListN.{length};
+use text::print;
+use text::print_hex;
+use vector_support::answers::print_number;
+use vector_support::hashes::print_hash;
 use vector_support::import::import_masked;
-use vector_support::print::print;
-use vector_support::print::print_hash;
-use vector_support::print::print_hex;
-use vector_support::print::print_number;
 use vector_support::turn::make;
 
 fn print_turn(ek: &[u8], dk: &[u8], ct: &[u8], k: &[u8]) {

@@ -1,7 +1,7 @@
 // A lent buffer that hasn't its length.
 ghost use Prim.Native.Nat.{_+_, _<_, _≤_};
-use crate::print::print;
-use crate::print::print_decimal;
+use text::print;
+use text::print_decimal;
 
 pub enum Edge {
     Empty,

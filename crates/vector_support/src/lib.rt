@@ -1,10 +1,8 @@
-// What the programs of test vectors share: lines of text, buffers and their lengths, masks, keys, import under fixed masks, decapsulation with its
-// shares joined.
-pub mod bytes;
-pub mod calls;
-pub mod decaps;
-pub mod edges;
-pub mod import;
-pub mod masks;
-pub mod print;
-pub mod turn;
+// What the programs of test vectors share.
+pub mod answers; // answers of calls, printed
+pub mod bytes; // strings of bytes
+pub mod edges; // lengths of lent buffers
+pub mod hashes; // hashes, printed
+pub mod import; // import under fixed masks
+pub mod masks; // masks of a kind
+pub mod turn; // keys, a ciphertext and a secret

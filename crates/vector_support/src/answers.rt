@@ -1,33 +1,7 @@
-// Lines of text, numbers, answers and hashes.
-use libc::STDOUT_FILENO;
+// Answers of calls, printed.
 use mlkem::Answer;
-
-pub fn print(text: &[u8]) {
-    io::write_all(STDOUT_FILENO, text);
-}
-
-pub fn print_decimal(n: u64) {
-    io::print_decimal(STDOUT_FILENO, n);
-}
-
-fn hex_digit(n: u8) -> u8 {
-    let d = n % 16;
-    if d < 10 { 48 + d } else { 87 + d }
-}
-
-pub fn print_hex(bytes: &[u8]) {
-    for i in 0..bytes.len() {
-        let two = [hex_digit(bytes[i] / 16), hex_digit(bytes[i])];
-        io::write_all(STDOUT_FILENO, &two);
-    }
-    io::write_all(STDOUT_FILENO, b"\n");
-}
-
-pub fn print_hash(bytes: &[u8]) {
-    let mut out = [0u8; 32];
-    fips202::sha3_256(bytes, &mut out);
-    print_hex(&out);
-}
+use text::print;
+use text::print_decimal;
 
 // Document 01's number of a refusal; 0 where the call is carried out.
 pub fn number(answer: Answer) -> u64 {
