@@ -1,10 +1,9 @@
 // A run of the calls on fixed values: a key is made, split and used, with a right ciphertext and a wrong one.
 ghost use mathlib.Core.Path.{_≡_};
 ghost use lib.ListN.{length};
-use crate::text::say;
-use crate::text::say_bytes;
-use crate::text::say_start;
-use crate::text::say_step;
+use crate::lines::print_bytes;
+use crate::lines::print_start;
+use crate::lines::print_step;
 use crate::values::join;
 use crate::values::reduce;
 use cli_support::arguments::same;
@@ -16,37 +15,40 @@ use cli_support::refusals::is_refused;
 use cli_support::strip_file;
 use kpke::copy::copy_bytes;
 use libc::STDOUT_FILENO;
+use text::print;
 
-mod text; // lines on standard output
+mod lines; // lines on standard output
 mod values; // masks and shares
 
+// The functions that make calls answer whether every one was carried out; a refused one has its line on standard error.
+
 // The shares of K, what they join to, and whether that is the secret of encapsulation.
-fn say_secret(k0: &[u64], k1: &[u64], secret: &[u8])
+fn print_secret(k0: &[u64], k1: &[u64], secret: &[u8])
     requires { ⌜ (length (now k0) ≡ 4) × (length (now k1) ≡ 4) ⌝ }
 {
     let mut k = [0u64; 4];
     let mut bytes = [0u8; 32];
     put_words(k0, &mut bytes);
-    say_bytes(b"  share 0 of K: ", &bytes);
+    print_bytes(b"  share 0 of K: ", &bytes);
     put_words(k1, &mut bytes);
-    say_bytes(b"  share 1 of K: ", &bytes);
+    print_bytes(b"  share 1 of K: ", &bytes);
     join(k0, k1, &mut k);
     put_words(&k, &mut bytes);
-    say_bytes(b"  their xor:    ", &bytes);
+    print_bytes(b"  their xor:    ", &bytes);
     if same(&bytes, secret) {
-        say(b"  equal to encapsulation's K\n");
+        print(b"  equal to encapsulation's K\n");
     } else {
-        say(b"  not equal to encapsulation's K\n");
+        print(b"  not equal to encapsulation's K\n");
     }
 }
 
-fn say_encapsulated(ek: &[u8], dk: &[u8], ct: &[u8], secret: &[u8])
+fn print_encapsulated(ek: &[u8], dk: &[u8], ct: &[u8], secret: &[u8])
     requires { ⌜ (length (now ek) ≡ 1184) × (length (now dk) ≡ 2400) × (length (now ct) ≡ 1088) ⌝ }
 {
-    say_start(b"public key", ek);
-    say_start(b"decapsulation key", dk);
-    say_start(b"ciphertext", ct);
-    say_bytes(b"encapsulation's K: ", secret);
+    print_start(b"public key", ek);
+    print_start(b"decapsulation key", dk);
+    print_start(b"ciphertext", ct);
+    print_bytes(b"encapsulation's K: ", secret);
 }
 
 fn damage(ct: &[u8], out: &mut [u8])
@@ -66,14 +68,15 @@ fn decapsulate(
     words: &[u64],
     coeffs: &[u16],
     secret: &[u8],
-) {
+) -> bool {
     let mut k0 = [0u64; 4];
     let mut k1 = [0u64; 4];
     let answer = decapsulation::decaps(s0, s1, z0, z1, public, ct, words, coeffs, &mut k0, &mut k1);
     if is_refused(answer) {
-        return;
+        return false;
     }
-    say_secret(&k0, &k1, secret);
+    print_secret(&k0, &k1, secret);
+    true
 }
 
 fn trace(
@@ -86,13 +89,14 @@ fn trace(
     words: &[u64],
     coeffs: &[u16],
     step: u64,
-) {
+) -> bool {
     let mut value: u64 = 0;
     let answer = decapsulation::trace(s0, s1, z0, z1, public, ct, words, coeffs, step, &mut value);
     if is_refused(answer) {
-        return;
+        return false;
     }
-    say_step(step, value);
+    print_step(step, value);
+    true
 }
 
 // Decapsulation of the ciphertext and of a damaged one, and three steps of the first.
@@ -107,15 +111,16 @@ fn run_ciphertexts(
     words: &[u64],
     coeffs: &[u16],
     secret: &[u8],
-) {
-    say(b"decapsulation\n");
-    decapsulate(s0, s1, z0, z1, public, ct, words, coeffs, secret);
-    say(b"decapsulation, the ciphertext's first bit changed\n");
-    decapsulate(s0, s1, z0, z1, public, damaged, words, coeffs, secret);
-    say(b"trace of the first decapsulation\n");
-    trace(s0, s1, z0, z1, public, ct, words, coeffs, 0);
-    trace(s0, s1, z0, z1, public, ct, words, coeffs, 256);
-    trace(s0, s1, z0, z1, public, ct, words, coeffs, 187793);
+) -> bool {
+    print(b"decapsulation\n");
+    let own = decapsulate(s0, s1, z0, z1, public, ct, words, coeffs, secret);
+    print(b"decapsulation, the ciphertext's first bit changed\n");
+    let other = decapsulate(s0, s1, z0, z1, public, damaged, words, coeffs, secret);
+    print(b"trace of the first decapsulation\n");
+    let first = trace(s0, s1, z0, z1, public, ct, words, coeffs, 0);
+    let middle = trace(s0, s1, z0, z1, public, ct, words, coeffs, 256);
+    let last = trace(s0, s1, z0, z1, public, ct, words, coeffs, 187793);
+    own & other & first & middle & last
 }
 
 fn run_split(
@@ -127,7 +132,7 @@ fn run_split(
     mask_words: &[u64],
     words: &[u64],
     coeffs: &[u16],
-) {
+) -> bool {
     let mut s0 = [0u16; 768];
     let mut s1 = [0u16; 768];
     let mut z0 = [0u64; 4];
@@ -144,7 +149,7 @@ fn run_split(
         &mut public,
     );
     if is_refused(answer) {
-        return;
+        return false;
     }
     run_ciphertexts(
         &s0,
@@ -157,24 +162,30 @@ fn run_split(
         words,
         coeffs,
         secret,
-    );
+    )
 }
 
 // The seeds are d, z and m.
-fn run_key(seeds: &[u8], mask_coeffs: &[u16], mask_words: &[u64], words: &[u64], coeffs: &[u16])
+fn run_key(
+    seeds: &[u8],
+    mask_coeffs: &[u16],
+    mask_words: &[u64],
+    words: &[u64],
+    coeffs: &[u16],
+) -> bool
     requires { ⌜ length (now seeds) ≡ 96 ⌝ }
 {
     let mut ek = [0u8; 1184];
     let mut dk = [0u8; 2400];
     if is_refused(mlkem::keygen(&seeds[0..32], &seeds[32..64], &mut ek, &mut dk)) {
-        return;
+        return false;
     }
     let mut ct = [0u8; 1088];
     let mut secret = [0u8; 32];
     if is_refused(mlkem::encaps(&ek, &seeds[64..96], &mut ct, &mut secret)) {
-        return;
+        return false;
     }
-    say_encapsulated(&ek, &dk, &ct, &secret);
+    print_encapsulated(&ek, &dk, &ct, &secret);
     let mut damaged = [0u8; 1088];
     damage(&ct, &mut damaged);
     run_split(
@@ -186,11 +197,11 @@ fn run_key(seeds: &[u8], mask_coeffs: &[u16], mask_words: &[u64], words: &[u64],
         mask_words,
         words,
         coeffs,
-    );
+    )
 }
 
 // The draws are seeds and import's masks.
-fn run_masks(draws: &[u8], words: &[u64], coeffs: &[u16])
+fn run_masks(draws: &[u8], words: &[u64], coeffs: &[u16]) -> bool
     requires { ⌜ length (now draws) ≡ 1664 ⌝ }
 {
     let mut mask_coeffs = [0u16; 768];
@@ -198,18 +209,18 @@ fn run_masks(draws: &[u8], words: &[u64], coeffs: &[u16])
     get_coefficients(&draws[96..1632], &mut mask_coeffs);
     get_words(&draws[1632..1664], &mut mask_words);
     reduce(&mut mask_coeffs);
-    run_key(&draws[0..96], &mask_coeffs, &mask_words, words, coeffs);
+    run_key(&draws[0..96], &mask_coeffs, &mask_words, words, coeffs)
 }
 
 // The draws are seeds, import's masks and a strip.
-fn run(draws: &[u8])
+fn run(draws: &[u8]) -> bool
     requires { ⌜ length (now draws) ≡ 110512 ⌝ }
 {
     let mut words = strip_file::words();
     let mut coeffs = strip_file::coefficients();
     strip_file::unpack(&draws[1664..110512], &mut words, &mut coeffs);
     reduce(&mut coeffs);
-    run_masks(&draws[0..1664], &words, &coeffs);
+    run_masks(&draws[0..1664], &words, &coeffs)
 }
 
 fn room() -> [u8; 110512]
@@ -222,9 +233,12 @@ fn room() -> [u8; 110512]
 pub fn demo() {
     let mut draws = room();
     fips202::shake256(b"mlkem demo", &mut draws);
-    say(b"Seeds and masks are SHAKE256 of 'mlkem demo', known to all: ");
-    say(b"for demonstration, not for use.\n");
-    run(&draws);
+    print(b"Seeds and masks are SHAKE256 of 'mlkem demo', known to all: ");
+    print(b"for demonstration, not for use.\n");
+    if !run(&draws) {
+        print(b"not done: a call was refused\n");
+        return;
+    }
     if !io::write_all(STDOUT_FILENO, b"done\n") {
         messages::failed(b"standard output");
     }

@@ -1,4 +1,3 @@
-pub mod Hex
 pub mod LittleEndian
 pub mod Numbers
 pub mod Split

@@ -1,6 +1,5 @@
 // What the commands of the program mlkem share.
 pub mod arguments; // the words of the command line
-pub mod hex; // bytes as hexadecimal digits
 pub mod inputs; // files, read whole
 pub mod little_endian; // coefficients and words as bytes
 pub mod messages; // lines on standard error

@@ -1,7 +1,7 @@
 // Lines on standard error. Each begins with the program's name, and most then name a file.
 use libc::STDERR_FILENO;
 
-fn say(text: &[u8]) {
+pub(crate) fn say(text: &[u8]) {
     io::write_all(STDERR_FILENO, text);
 }
 

@@ -1,6 +1,7 @@
 // Refused calls.
 ghost use mathlib.Core.Path.{_≡_};
 ghost use Rattle.mlkem.specs.Refusals.{number as numberOf};
+use crate::messages::say;
 use libc::STDERR_FILENO;
 use mlkem::Answer;
 
@@ -18,10 +19,6 @@ fn number(answer: Answer) -> u64
         Answer::ShortStream => 7,
         Answer::NoSuchStep => 8,
     }
-}
-
-fn say(text: &[u8]) {
-    io::write_all(STDERR_FILENO, text);
 }
 
 // The condition in document 01's words.

@@ -4,9 +4,9 @@ ghost use lib.ListN.{length};
 ghost use Rattle.mlkem_cli.specs.Hashes.{hashed};
 use cli_support::arguments;
 use cli_support::arguments::Natural;
-use cli_support::hex;
 use cli_support::inputs;
 use cli_support::messages;
+use text::print_hex;
 
 pub enum Hash {
     Digest256,
@@ -47,7 +47,7 @@ fn print_hash(hash: Hash, space: &mut [u8], out: &mut [u8]) {
     }
     let n = got.count;
     fill(hash, &space[..n], out);
-    if !hex::print_line(out) {
+    if !print_hex(out) {
         messages::failed(b"standard output");
     }
 }
