@@ -1,29 +1,33 @@
 // The program mlkem: the library's calls on files. The first argument names the call, the others are files and numbers.
+use cli_commands::commands;
+use cli_commands::commands::Call;
+use cli_commands::commands::Command;
+use cli_commands::hashes;
+use cli_commands::keys;
+use cli_commands::sampling;
+use cli_commands::splitting;
 use cli_support::messages;
-use commands::Command;
 use libc::STDERR_FILENO;
 use libc::STDOUT_FILENO;
 
-mod commands; // the commands, their forms and the number of their arguments
 mod decapsulating; // decaps, trace
-mod hashes; // sha3-256, sha3-512, shake128, shake256
-mod keys; // keygen, encaps
-mod sampling; // sample
-mod splitting; // import
+
+fn run_call(call: Call) {
+    match call {
+        Call::KeyGen => keys::keygen(),
+        Call::Encaps => keys::encaps(),
+        Call::Import => splitting::import(),
+        Call::Decaps => decapsulating::decaps(),
+        Call::Trace => decapsulating::trace(),
+        Call::Sample => sampling::sample(),
+    }
+}
 
 fn run(command: Command) {
     match command {
         Command::Help => commands::print_usage(STDOUT_FILENO),
-        Command::Digest256 => hashes::sha3_256(),
-        Command::Digest512 => hashes::sha3_512(),
-        Command::Shake128 => hashes::shake128(),
-        Command::Shake256 => hashes::shake256(),
-        Command::KeyGen => keys::keygen(),
-        Command::Encaps => keys::encaps(),
-        Command::Import => splitting::import(),
-        Command::Decaps => decapsulating::decaps(),
-        Command::Trace => decapsulating::trace(),
-        Command::Sample => sampling::sample(),
+        Command::Hashing(hash) => hashes::run(hash),
+        Command::Calling(call) => run_call(call),
         Command::Demo => cli_demo::demo(),
         Command::Unknown => commands::print_usage(STDERR_FILENO),
     }

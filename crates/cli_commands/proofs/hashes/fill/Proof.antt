@@ -1,6 +1,6 @@
 use borrow.Author.Needs.{needs}
-use Rattle.mlkem_cli.proofs.hashes.fill.Statement.{statement}
-use Rattle.mlkem_cli.proofs.hashes.fill.Tie as tie
+use Rattle.cli_commands.proofs.hashes.fill.Statement.{statement}
+use Rattle.cli_commands.proofs.hashes.fill.Tie as tie
 
 returns : tie.Need-returns
 returns c = rw (c .before .before .before .before .enum-told .given .1) (c .before .before .sha3-256 .ensures .1)

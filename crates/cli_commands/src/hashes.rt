@@ -1,7 +1,7 @@
 // The hashes of a file, printed in hexadecimal digits.
 ghost use mathlib.Core.Path.{_≡_};
 ghost use lib.ListN.{length};
-ghost use Rattle.mlkem_cli.specs.Hashes.{hashed};
+ghost use Rattle.cli_commands.specs.Hashes.{hashed};
 use cli_support::arguments;
 use cli_support::arguments::Natural;
 use cli_support::inputs;
@@ -69,22 +69,24 @@ fn print_shake(hash: Hash) {
     print_some(hash, &mut space, &mut out);
 }
 
-pub fn sha3_256() {
+fn print_sha3_256() {
     let mut space = zeros();
     let mut out = [0u8; 32];
     print_hash(Hash::Digest256, &mut space, &mut out);
 }
 
-pub fn sha3_512() {
+fn print_sha3_512() {
     let mut space = zeros();
     let mut out = [0u8; 64];
     print_hash(Hash::Digest512, &mut space, &mut out);
 }
 
-pub fn shake128() {
-    print_shake(Hash::Shake128);
-}
-
-pub fn shake256() {
-    print_shake(Hash::Shake256);
+// mlkem sha3-256 FILE, mlkem sha3-512 FILE, mlkem shake128 FILE LENGTH, mlkem shake256 FILE LENGTH
+pub fn run(hash: Hash) {
+    match hash {
+        Hash::Digest256 => print_sha3_256(),
+        Hash::Digest512 => print_sha3_512(),
+        Hash::Shake128 => print_shake(Hash::Shake128),
+        Hash::Shake256 => print_shake(Hash::Shake256),
+    }
 }

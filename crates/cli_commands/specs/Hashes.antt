@@ -4,8 +4,8 @@ use Prim.Native.Nat.{ℕ}
 use lib.ListN.{length}
 use Rattle.fips202.specs.Calls.{sizedOutput}
 use Rattle.fips202.specs.Sponge.{sha3-256, sha3-512, shake128, shake256}
-use Rattle.mlkem_cli.specs.declared.hashes.Hash.{Hash}
-use Rattle.mlkem_cli.specs.declared.hashes.Hash.the-variants.{Digest256, Digest512, Shake128, Shake256}
+use Rattle.cli_commands.specs.declared.hashes.Hash.{Hash}
+use Rattle.cli_commands.specs.declared.hashes.Hash.the-variants.{Digest256, Digest512, Shake128, Shake256}
 
 -- what a buffer that held out holds after the hash of m
 abbrev pub hashed : Hash → List ℕ → List ℕ → List ℕ

@@ -20,6 +20,28 @@ fn read_masks(i: usize, coeffs: &mut [u16], words: &mut [u64]) -> bool
     true
 }
 
+// The split key is written to the file of argument 4.
+fn write_imported(dk: &[u8], coeffs: &[u16], words: &[u64]) {
+    let mut s0 = [0u16; 768];
+    let mut s1 = [0u16; 768];
+    let mut z0 = [0u64; 4];
+    let mut z1 = [0u64; 4];
+    let mut public = [0u8; 1216];
+    let answer = mlkem::import(
+        dk,
+        coeffs,
+        words,
+        &mut s0,
+        &mut s1,
+        &mut z0,
+        &mut z1,
+        &mut public,
+    );
+    if !is_refused(answer) {
+        write_split(4, &s0, &s1, &z0, &z1, &public);
+    }
+}
+
 // mlkem import DK MASKS SPLIT
 pub fn import() {
     let mut dk = [0u8; 2400];
@@ -28,26 +50,7 @@ pub fn import() {
     if !read_exact(2, &mut dk) {
         return;
     }
-    if !read_masks(3, &mut coeffs, &mut words) {
-        return;
+    if read_masks(3, &mut coeffs, &mut words) {
+        write_imported(&dk, &coeffs, &words);
     }
-    let mut s0 = [0u16; 768];
-    let mut s1 = [0u16; 768];
-    let mut z0 = [0u64; 4];
-    let mut z1 = [0u64; 4];
-    let mut public = [0u8; 1216];
-    let answer = mlkem::import(
-        &dk,
-        &coeffs,
-        &words,
-        &mut s0,
-        &mut s1,
-        &mut z0,
-        &mut z1,
-        &mut public,
-    );
-    if is_refused(answer) {
-        return;
-    }
-    write_split(4, &s0, &s1, &z0, &z1, &public);
 }

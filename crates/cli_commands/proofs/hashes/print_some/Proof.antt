@@ -4,8 +4,8 @@ use native.Mathlib.Omega.{arith}
 use borrow.Author.Needs.{needs}
 use lib.Seq.{length-take-le}
 use Rattle.cli_support.specs.Numbers.{AtMost}
-use Rattle.mlkem_cli.proofs.hashes.print_some.Statement.{statement}
-use Rattle.mlkem_cli.proofs.hashes.print_some.Tie as tie
+use Rattle.cli_commands.proofs.hashes.print_some.Statement.{statement}
+use Rattle.cli_commands.proofs.hashes.print_some.Tie as tie
 
 fits : (c : tie.After-length) → c .length .given .0 .0 ≤ 1048576
 fits c = subst (AtMost _) (c .length .given .1) (c .before .before .number .ensures)
