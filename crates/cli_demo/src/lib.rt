@@ -13,7 +13,6 @@ use cli_support::little_endian::put_words;
 use cli_support::messages;
 use cli_support::refusals::is_refused;
 use cli_support::strip_file;
-use kpke::copy::copy_bytes;
 use libc::STDOUT_FILENO;
 use text::print;
 
@@ -51,20 +50,13 @@ fn print_encapsulated(ek: &[u8], dk: &[u8], ct: &[u8], secret: &[u8])
     print_bytes(b"encapsulation's K: ", secret);
 }
 
-fn damage(ct: &[u8], out: &mut [u8])
-    requires { ⌜ (length (now ct) ≡ 1088) × (length (now out) ≡ 1088) ⌝ }
-{
-    copy_bytes(ct, out);
-    out[0] = out[0] ^ 1;
-}
-
 fn decapsulate(
     s0: &[u16],
     s1: &[u16],
     z0: &[u64],
     z1: &[u64],
     public: &[u8],
-    ct: &[u8],
+    ct: &[u8; 1088],
     words: &[u64],
     coeffs: &[u16],
     secret: &[u8],
@@ -77,6 +69,23 @@ fn decapsulate(
     }
     print_secret(&k0, &k1, secret);
     true
+}
+
+// The ciphertext's first bit is changed.
+fn decapsulate_damaged(
+    s0: &[u16],
+    s1: &[u16],
+    z0: &[u64],
+    z1: &[u64],
+    public: &[u8],
+    ct: &[u8; 1088],
+    words: &[u64],
+    coeffs: &[u16],
+    secret: &[u8],
+) -> bool {
+    let mut damaged = *ct;
+    damaged[0] = damaged[0] ^ 1;
+    decapsulate(s0, s1, z0, z1, public, &damaged, words, coeffs, secret)
 }
 
 fn trace(
@@ -106,8 +115,7 @@ fn run_ciphertexts(
     z0: &[u64],
     z1: &[u64],
     public: &[u8],
-    ct: &[u8],
-    damaged: &[u8],
+    ct: &[u8; 1088],
     words: &[u64],
     coeffs: &[u16],
     secret: &[u8],
@@ -115,7 +123,7 @@ fn run_ciphertexts(
     print(b"decapsulation\n");
     let own = decapsulate(s0, s1, z0, z1, public, ct, words, coeffs, secret);
     print(b"decapsulation, the ciphertext's first bit changed\n");
-    let other = decapsulate(s0, s1, z0, z1, public, damaged, words, coeffs, secret);
+    let other = decapsulate_damaged(s0, s1, z0, z1, public, ct, words, coeffs, secret);
     print(b"trace of the first decapsulation\n");
     let first = trace(s0, s1, z0, z1, public, ct, words, coeffs, 0);
     let middle = trace(s0, s1, z0, z1, public, ct, words, coeffs, 256);
@@ -125,8 +133,7 @@ fn run_ciphertexts(
 
 fn run_split(
     dk: &[u8],
-    ct: &[u8],
-    damaged: &[u8],
+    ct: &[u8; 1088],
     secret: &[u8],
     mask_coeffs: &[u16],
     mask_words: &[u64],
@@ -151,18 +158,7 @@ fn run_split(
     if is_refused(answer) {
         return false;
     }
-    run_ciphertexts(
-        &s0,
-        &s1,
-        &z0,
-        &z1,
-        &public,
-        ct,
-        damaged,
-        words,
-        coeffs,
-        secret,
-    )
+    run_ciphertexts(&s0, &s1, &z0, &z1, &public, ct, words, coeffs, secret)
 }
 
 // The seeds are d, z and m.
@@ -186,18 +182,7 @@ fn run_key(
         return false;
     }
     print_encapsulated(&ek, &dk, &ct, &secret);
-    let mut damaged = [0u8; 1088];
-    damage(&ct, &mut damaged);
-    run_split(
-        &dk,
-        &ct,
-        &damaged,
-        &secret,
-        mask_coeffs,
-        mask_words,
-        words,
-        coeffs,
-    )
+    run_split(&dk, &ct, &secret, mask_coeffs, mask_words, words, coeffs)
 }
 
 // The draws are seeds and import's masks.
@@ -218,7 +203,7 @@ fn run(draws: &[u8]) -> bool
 {
     let mut words = strip_file::words();
     let mut coeffs = strip_file::coefficients();
-    strip_file::unpack(&draws[1664..110512], &mut words, &mut coeffs);
+    strip_file::unpack(&draws[1664..], &mut words, &mut coeffs);
     reduce(&mut coeffs);
     run_masks(&draws[0..1664], &words, &coeffs)
 }

@@ -1,7 +1,7 @@
 use mathlib.Core.Path.{sym}
 use native.Mathlib.Omega.{arith}
 use borrow.Author.Needs.{needs}
-use Rattle.words.specs.Part.{length-part}
+use lib.ListN.{length-take, length-drop}
 use Rattle.cli_demo.proofs.run.Statement.{statement}
 use Rattle.cli_demo.proofs.run.Tie as tie
 
@@ -9,7 +9,7 @@ unpack-requires : tie.Need-unpack-requires
 unpack-requires c κs =
     let w = c .before .before .before .before in
     let s = w .before .before in (
-      length-part 1664 108848 (s .args .draws .now) (omega (arith, s .pre)),
+      simp (length-take, length-drop) (omega (arith, s .pre)),
       sym (w .words .ensures),
       sym (c .before .before .before .coefficients .ensures),
     )
