@@ -8,8 +8,10 @@ use native.Mathlib.Omega.{arith}
 use lib.Pow.{pow-pos, pow-add, shr-lt}
 use lib.ListN.{length, take, getD, set}
 use lib.Seq.{take-suc, take-suc-set, take-all}
-use Rattle.words.specs.Bounded.{Below, below-nil, below-cons, below-append}
-use Rattle.words.specs.Numeral.{digits, digits-append, digits-split}
+use Rattle.words.specs.Bounded.{Below}
+use Rattle.words.specs.BoundedLaws.{below-nil, below-cons, below-append}
+use Rattle.words.specs.Numeral.{digits}
+use Rattle.words.specs.NumeralLaws.{digits-append, digits-split}
 use Rattle.codec.specs.Bytes.{bitsOf, numbersOf}
 use Rattle.codec.specs.BytesLaws.{bitsOf-append, numbersOf-bitsOf}
 

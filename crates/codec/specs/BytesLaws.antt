@@ -8,8 +8,10 @@ use lib.Pow.{pow-pos}
 use lib.ListN.{length, getD, take, drop, length-append, length-take, length-drop, take-append-drop, length-map}
 use lib.Seq.{take-at, drop-at, drop-drop}
 use Rattle.words.specs.Residue.{q}
-use Rattle.words.specs.Bounded.{Below, below-nil, below-cons, below-head, below-tail, below-append, below-take, below-drop, below-map}
-use Rattle.words.specs.Numeral.{value, digits, length-digits, below-digits, value-digits, digits-value, value-lt}
+use Rattle.words.specs.Bounded.{Below}
+use Rattle.words.specs.BoundedLaws.{below-nil, below-cons, below-head, below-tail, below-append, below-take, below-drop, below-map}
+use Rattle.words.specs.Numeral.{value, digits}
+use Rattle.words.specs.NumeralLaws.{length-digits, below-digits, value-digits, digits-value, value-lt}
 use Rattle.codec.specs.Bytes.{bitsOf, numbersOf, byteEncode, byteDecode, byteDecode12}
 
 pub length-bitsOf : (d : ℕ) (l : List ℕ) → length (bitsOf d l) ≡ d * length l

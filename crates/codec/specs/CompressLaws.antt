@@ -7,7 +7,8 @@ use native.Mathlib.Omega.{arith}
 use lib.ListN.{getD, List·getD-map}
 use lib.Pow.{pow-pos, pow-add, pow-mono, field}
 use Rattle.words.specs.Residue.{q}
-use Rattle.words.specs.Bounded.{Below, below-map}
+use Rattle.words.specs.Bounded.{Below}
+use Rattle.words.specs.BoundedLaws.{below-map}
 use Rattle.codec.specs.Compress.{compress, decompress}
 
 pub compress-lt : (d x : ℕ) → compress d x < 2 ^ d

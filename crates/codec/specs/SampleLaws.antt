@@ -11,8 +11,10 @@ use lib.ListN.{length, take, drop, length-take, length-drop, length-append, leng
 use lib.Seq.{take-at, drop-at, take-add, drop-drop}
 use Rattle.words.specs.Residue.{q}
 use Rattle.words.specs.Tab.{length-tab, tab-of}
-use Rattle.words.specs.Bounded.{Below, below-nil, below-cons, below-append, below-take, below-drop, below-tab}
-use Rattle.words.specs.Numeral.{value, digits, length-digits, digits-split, digits-value}
+use Rattle.words.specs.Bounded.{Below}
+use Rattle.words.specs.BoundedLaws.{below-nil, below-cons, below-append, below-take, below-drop, below-tab}
+use Rattle.words.specs.Numeral.{value, digits}
+use Rattle.words.specs.NumeralLaws.{length-digits, digits-split, digits-value}
 use Rattle.ring.specs.Polynomial.{minus}
 use Rattle.codec.specs.Bytes.{bitsOf, byteDecode}
 use Rattle.codec.specs.BytesLaws.{length-bitsOf, below-bitsOf, getD-numbersOf, length-byteDecode}

@@ -1,9 +1,10 @@
 -- What decapsulation and trace answer and leave in the lent buffers, for a parameter set.
 use mathlib.Core.Bool.{not, _&&_}
 use mathlib.Core.List.{List, [], _∷_, _++_}
-use Prim.Native.Nat.{ℕ, _+_, _*_}
+use Prim.Native.Nat.{ℕ, _+_, _*_, _^_}
 use lib.Dec.{ltb}
 use lib.ListN.{length, getD, take, drop}
+use Rattle.words.specs.Bounded.{Below}
 use Rattle.worksheet.specs.Run.{Run, run}
 use Rattle.worksheet.specs.SharedList.{SharedList, sharedList}
 use Rattle.mlkem.specs.declared.Answer.{Answer}
@@ -11,9 +12,10 @@ use Rattle.mlkem.specs.declared.Answer.the-variants.{WrongLength, MaskRange, Sh
 use Rattle.kpke.specs.Parameters.{Parameters, ekBytes, ctBytes}
 use Rattle.mlkem.specs.Refusals.{Row, row, answer, Lent, lent, sized, reduced}
 use Rattle.kpke.specs.KPke.{matrixFull}
-use Rattle.mlkem.specs.Calls.{rhoOf}
+use Rattle.mlkem.specs.MlKem.{publicPart, hashPart}
+use Rattle.mlkem.specs.Calls.{rhoOf, secondCoeffs, secondWords}
 use Rattle.mlkem.specs.Worksheet.{SplitKey, worksheet}
-use Rattle.mlkem.specs.WorksheetUses.{stripWords, stripCoeffs}
+use Rattle.mlkem.specs.StripLengths.{stripWords, stripCoeffs}
 
 -- what is lent to be read: a split key (its public part is the public key, then h), a ciphertext and a strip
 pub record Input : Type 0 where
@@ -29,6 +31,14 @@ pub record Input : Type 0 where
 abbrev pub input : List ℕ → List ℕ → List ℕ → List ℕ → List ℕ → List ℕ → List ℕ → List ℕ → Input
 input s0 s1 z0 z1 public ct words coeffs =
     record { s0 = s0; s1 = s1; z0 = z0; z1 = z1; public = public; ct = ct; words = words; coeffs = coeffs }
+
+-- what the types of the lent buffers say: bytes are below 256, words below 2^64
+pub record Typed (g : Input) : Type 0 where
+  pub z0 : Below (2 ^ 64) (g .z0)
+  pub z1 : Below (2 ^ 64) (g .z1)
+  pub public : Below 256 (g .public)
+  pub ct : Below 256 (g .ct)
+  pub words : Below (2 ^ 64) (g .words)
 
 module _ (p : Parameters) where
   -- the split key
@@ -75,3 +85,8 @@ module _ (p : Parameters) where
 
   unfoldable pub traceValue : Input → ℕ → ℕ
   traceValue g t = getD (sheet g .entries) t 0
+
+  -- what import hands over for the key dk and the first shares a and w, with a ciphertext and a strip
+  abbrev pub imported : List ℕ → List ℕ → List ℕ → List ℕ → List ℕ → List ℕ → Input
+  imported dk a w c words coeffs =
+      input a (secondCoeffs p dk a) w (secondWords p dk w) (publicPart p dk ++ hashPart p dk) c words coeffs

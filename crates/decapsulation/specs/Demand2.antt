@@ -1,12 +1,12 @@
 -- Demand 2 for the call: where decapsulation isn't refused, its two result shares, which are those of the worksheet's last stage, join
 -- to FIPS 203's internal decapsulation of the joined key, whatever the strip and for every ciphertext.
 use mathlib.Core.Path.{_≡_, ap, _∙_}
-use mathlib.Core.List.{List, _++_}
-use Prim.Native.Nat.{ℕ, _^_}
+use mathlib.Core.List.{List}
+use Prim.Native.Nat.{ℕ}
 use native.Mathlib.Omega.{arith}
 use lib.ListN.{length, length-take, length-drop}
 use lib.Seq.{take-at, drop-at}
-use Rattle.words.specs.Bounded.{Below, below-drop}
+use Rattle.words.specs.BoundedLaws.{below-drop}
 use Rattle.worksheet.specs.SharedList.{joinedList}
 use Rattle.mlkem.specs.declared.Answer.the-variants.{Done}
 use Rattle.kpke.specs.Parameters.{mlKem768}
@@ -14,22 +14,13 @@ use Rattle.mlkem.specs.Fits.{fits768}
 use Rattle.mlkem.specs.MlKem.{publicPart, hashPart}
 use Rattle.mlkem.specs.MlKem as fips203
 use Rattle.mlkem.specs.TestLaws.{reduced-below}
-use Rattle.mlkem.specs.Calls.{secondCoeffs, secondWords}
 use Rattle.mlkem.specs.Worksheet.{SplitKey, bytesOf}
 use Rattle.mlkem.specs.Joined.{joinedDk, InOrder}
-use Rattle.mlkem.specs.Split.{split}
+use Rattle.mlkem.specs.Split.{split, Importable}
 use Rattle.mlkem.specs.WorksheetValue.{run-worksheet}
-use Rattle.mlkem.specs.SplitValue.{Importable, split-inOrder, joinedDk-split}
-use Rattle.decapsulation.specs.Calls.{Input, input, keyOf, decapsAnswer, decapsShares}
+use Rattle.mlkem.specs.SplitValue.{split-inOrder, joinedDk-split}
+use Rattle.decapsulation.specs.Calls.{Input, Typed, imported, keyOf, decapsAnswer, decapsShares}
 use Rattle.decapsulation.specs.AnswerLaws.{decaps-tested}
-
--- what the types of the lent buffers say: bytes are below 256, words below 2^64
-pub record Typed (g : Input) : Type 0 where
-  pub z0 : Below (2 ^ 64) (g .z0)
-  pub z1 : Below (2 ^ 64) (g .z1)
-  pub public : Below 256 (g .public)
-  pub ct : Below 256 (g .ct)
-  pub words : Below (2 ^ 64) (g .words)
 
 module _ (g : Input) (k0 k1 : List ℕ) (types : Typed g) (done : decapsAnswer mlKem768 g k0 k1 ≡ Done) where
   key-inOrder : InOrder mlKem768 (keyOf mlKem768 g)
@@ -55,22 +46,17 @@ module _ (g : Input) (k0 k1 : List ℕ) (types : Typed g) (done : decapsAnswer m
 
 -- ---- the split that import makes
 
--- what import hands over for the key dk and the first shares a and w, with a ciphertext and a strip
-abbrev pub imported : List ℕ → List ℕ → List ℕ → List ℕ → List ℕ → List ℕ → Input
-imported dk a w c words coeffs =
-    input a (secondCoeffs mlKem768 dk a) w (secondWords mlKem768 dk w) (publicPart mlKem768 dk ++ hashPart mlKem768 dk) c words coeffs
-
 module _ (dk a w c words coeffs : List ℕ) where
-  pub keyOf-imported : length (publicPart mlKem768 dk) ≡ 1184 → keyOf mlKem768 (imported dk a w c words coeffs) ≡ split mlKem768 dk a w
+  pub keyOf-imported : length (publicPart mlKem768 dk) ≡ 1184 → keyOf mlKem768 (imported mlKem768 dk a w c words coeffs) ≡ split mlKem768 dk a w
   unfolding split
   keyOf-imported e =
       rw (take-at (publicPart mlKem768 dk) (hashPart mlKem768 dk) 1184 e, drop-at (publicPart mlKem768 dk) (hashPart mlKem768 dk) 1184 e)
 
-  pub decaps-imported : Importable mlKem768 dk a w → (k0 k1 : List ℕ) → Typed (imported dk a w c words coeffs)
-      → decapsAnswer mlKem768 (imported dk a w c words coeffs) k0 k1 ≡ Done
-      → bytesOf (joinedList (decapsShares mlKem768 (imported dk a w c words coeffs))) ≡ fips203.decaps mlKem768 dk c
+  pub decaps-imported : Importable mlKem768 dk a w → (k0 k1 : List ℕ) → Typed (imported mlKem768 dk a w c words coeffs)
+      → decapsAnswer mlKem768 (imported mlKem768 dk a w c words coeffs) k0 k1 ≡ Done
+      → bytesOf (joinedList (decapsShares mlKem768 (imported mlKem768 dk a w c words coeffs))) ≡ fips203.decaps mlKem768 dk c
   unfolding split
   decaps-imported o k0 k1 types done =
-      decaps-joins (imported dk a w c words coeffs) k0 k1 types done
+      decaps-joins (imported mlKem768 dk a w c words coeffs) k0 k1 types done
       ∙ ap (λ (key : SplitKey). fips203.decaps mlKem768 (joinedDk mlKem768 key) c) (keyOf-imported (split-inOrder o .ek))
       ∙ ap (λ (l : List ℕ). fips203.decaps mlKem768 l c) (joinedDk-split o)

@@ -9,7 +9,8 @@ use lib.Arith.{digits-div, digits-mod}
 use lib.ListN.{length, getD, take, drop, replicate, length-append, length-take, length-replicate, List·getD-eq-default, drop-of-length-le}
 use lib.Seq.{getD-take, getD-drop}
 use Rattle.words.specs.Tab.{tab, tab-cong, tab-of}
-use Rattle.words.specs.Numeral.{value, value-append, value-zeros}
+use Rattle.words.specs.Numeral.{value}
+use Rattle.words.specs.NumeralLaws.{value-append, value-zeros}
 use Rattle.fips202.specs.Sponge.{laneOf}
 
 getD-zeros : (m x : ℕ) → getD {A = ℕ} (replicate m 0) x 0 ≡ 0

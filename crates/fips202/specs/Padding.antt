@@ -9,8 +9,10 @@ use lib.Arith.{digits-mod}
 use lib.ListN.{length, replicate, length-append, length-replicate, replicate-append-replicate}
 use lib.Pow.{pow-add}
 use lib.Seq.{append-snoc}
-use Rattle.words.specs.Bounded.{Below, below-nil, below-cons, below-append, below-zeros}
-use Rattle.words.specs.Numeral.{value, digits, digits-value, value-append, value-zeros, digits-value-zeros}
+use Rattle.words.specs.Bounded.{Below}
+use Rattle.words.specs.BoundedLaws.{below-nil, below-cons, below-append, below-zeros}
+use Rattle.words.specs.Numeral.{value, digits}
+use Rattle.words.specs.NumeralLaws.{digits-value, value-append, value-zeros, digits-value-zeros}
 use Rattle.fips202.specs.Sponge.{padding, padded}
 
 abbrev pub zeros : ℕ → List ℕ

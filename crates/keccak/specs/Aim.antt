@@ -7,7 +7,8 @@ use lib.Dec.{T, eqb}
 use Rattle.words.specs.Word.{Bits, xor, rotl}
 use Rattle.words.specs.WordLaws.{xor-bits, zero-bits, xor-same, xor-zero, zero-xor}
 use Rattle.words.specs.Rotation.{rotl-bits, rotl-rotl, rotl-zero}
-use Rattle.words.specs.Table.{every, every-at}
+use Rattle.words.specs.Table.{every}
+use Rattle.words.specs.TableLaws.{every-at}
 use Rattle.keccak.specs.KeccakP.{along}
 use Rattle.keccak.specs.Pass.{passAt, LaneBits, source, turn, turn-le, sum5, pass-even, pass-xor}
 

@@ -7,7 +7,7 @@ use lib.Pow.{shl-lt}
 use Rattle.words.specs.Word.{Bits}
 use Rattle.words.specs.WordLaws.{xor-bits, zero-bits, bits-mono}
 use Rattle.words.specs.Iterate.{iterate-keeps}
-use Rattle.words.specs.Table.{every-at}
+use Rattle.words.specs.TableLaws.{every-at}
 use Rattle.keccak.specs.KeccakP.{rc, withBit, constant}
 
 pub constant-bits : (i : ℕ) → Bits 64 (constant i)

@@ -10,7 +10,7 @@ use Rattle.words.specs.WordLaws.{xor-bits, xor-zero, xor-swap}
 use Rattle.words.specs.Rotation.{rotl-bits, rotl-xor, rotl-zero}
 use Rattle.words.specs.Tab.{tab, getD-tab, tab-cong}
 use Rattle.words.specs.Iterate.{iterate}
-use Rattle.words.specs.Table.{every-at}
+use Rattle.words.specs.TableLaws.{every-at}
 use Rattle.keccak.specs.KeccakP.{parity, effect, theta, walk, offset, rho, pi}
 
 -- lane i of pi (rho (theta s)), for the state with the lanes s

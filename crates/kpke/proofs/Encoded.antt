@@ -6,7 +6,8 @@ use native.Mathlib.Nat.{mul-assoc}
 use native.Mathlib.Omega.{arith}
 use lib.ListN.{length, take, drop}
 use lib.Pow.{pow-pos}
-use Rattle.words.specs.Bounded.{Below, below-nil, below-cons}
+use Rattle.words.specs.Bounded.{Below}
+use Rattle.words.specs.BoundedLaws.{below-nil, below-cons}
 use Rattle.words.specs.Residue.{q}
 use Rattle.words.specs.Tab.{length-tab}
 use Rattle.fips202.specs.Sponge.{sha3-256, sponge, squeezed}

@@ -4,7 +4,8 @@ use mathlib.Core.List.{List}
 use Prim.Native.Nat.{ℕ, zero, suc, _*_, _<_}
 use native.Mathlib.Omega.{arith}
 use lib.ListN.{length, take, length-map, length-replicate}
-use Rattle.words.specs.Bounded.{Below, below-nil, below-append}
+use Rattle.words.specs.Bounded.{Below}
+use Rattle.words.specs.BoundedLaws.{below-nil, below-append}
 use Rattle.words.specs.Residue.{q}
 use Rattle.words.specs.Part.{part-take}
 use Rattle.words.specs.Tab.{length-tab}

@@ -9,7 +9,8 @@ use lib.Dec.{T, leb→le}
 use lib.ListN.{length, take, drop}
 use lib.Seq.{drop-drop}
 use Rattle.words.specs.Part.{part-take}
-use Rattle.words.specs.Table.{every, every-at}
+use Rattle.words.specs.Table.{every}
+use Rattle.words.specs.TableLaws.{every-at}
 use Rattle.codec.specs.Sample.{full, accepted}
 use Rattle.codec.specs.SampleLaws.{length-sampleNtt}
 use Rattle.kpke.specs.Functions.{XOF}

@@ -16,9 +16,11 @@ use Rattle.worksheet.specs.Prog.{_>>=_, entry}
 use Rattle.worksheet.specs.Uses.{Uses, ret-u, enter-u, uses-bind, uses-loop, uses-times, uses-recount}
 use Rattle.worksheet.specs.Turns.{Each}
 use Rattle.worksheet.specs.Gives.{Gives, ret-g, enter-g, gives-bind, gives-weaken, gives-loop, gives-times}
-use Rattle.worksheet.specs.Sharing.{shares, Sharing, sharing-bits, sharing-xorPublic}
-use Rattle.worksheet.specs.MaskedAnd.{uses-maskedAnd}
-use Rattle.worksheet.specs.Gates.{maskedOr, uses-maskedNot, uses-maskedXor, uses-maskedOr}
+use Rattle.worksheet.specs.Sharing.{shares}
+use Rattle.worksheet.specs.SharingLaws.{Sharing, sharing-bits, sharing-xorPublic}
+use Rattle.worksheet.specs.MaskedAndLaws.{uses-maskedAnd}
+use Rattle.worksheet.specs.Gates.{maskedOr}
+use Rattle.worksheet.specs.GatesLaws.{uses-maskedNot, uses-maskedXor, uses-maskedOr}
 use Rattle.worksheet.specs.GatesSharing.{sharing-maskedNot, sharing-maskedOr}
 use Rattle.masked_comparison.specs.Comparison.{addPublic, foldOr, halve, halves, allZero, copies, select}
 

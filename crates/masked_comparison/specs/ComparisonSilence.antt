@@ -11,7 +11,8 @@ use Rattle.worksheet.specs.Prog.{Prog, ret, _>>=_, entry}
 use Rattle.worksheet.specs.Couple.{ret-c, enter-c, Silent, here, sameAt-recount}
 use Rattle.worksheet.specs.CoupleLoops.{coupled-times, like-times, silent-times}
 use Rattle.worksheet.specs.Stage.{Stage, andThen, comap}
-use Rattle.worksheet.specs.Sharing.{shares, share, none, notShares, share-notShares}
+use Rattle.worksheet.specs.Sharing.{shares, none}
+use Rattle.worksheet.specs.SharingLaws.{share, notShares, share-notShares}
 use Rattle.worksheet.specs.Choice.{both-bits, Kept, KeptWords, KeptList}
 use Rattle.worksheet.specs.Gates.{maskedNot}
 use Rattle.worksheet.specs.GatesSilence.{like-maskedNot, sameAt-maskedNot}

@@ -12,7 +12,7 @@ use Rattle.worksheet.specs.Couple.{Coupled, Like, SameAt, coupled-bind}
 use Rattle.worksheet.specs.CoupleLoops.{coupled-loop, like-loop, sameAt-loop}
 use Rattle.worksheet.specs.Places.{turns}
 use Rattle.worksheet.specs.Stage.{Stage}
-use Rattle.worksheet.specs.Sharing.{sharing-bits}
+use Rattle.worksheet.specs.SharingLaws.{sharing-bits}
 use Rattle.worksheet.specs.Choice.{Both, Kept, KeptWords, Way, keeping, coupled-way}
 use Rattle.worksheet.specs.Gates.{maskedOr}
 use Rattle.worksheet.specs.GatesSilence.{orReadsLeft, orReadsRight, like-maskedOr, coupled-maskedOr, sameAt-maskedOr}

@@ -10,7 +10,7 @@ use Rattle.words.specs.Word.{Bits, low}
 use Rattle.words.specs.WordLaws.{low-bits, high-bits, low-xor, xor-shift}
 use Rattle.worksheet.specs.declared.Shares.{Shares}
 use Rattle.worksheet.specs.Stage.{Stage, loop-stage}
-use Rattle.worksheet.specs.Sharing.{Apart, apart-cong, keep, keep-bits}
+use Rattle.worksheet.specs.SharingLaws.{Apart, apart-cong, keep, keep-bits}
 use Rattle.worksheet.specs.Choice.{Kept, chosen, Way, keeping}
 use Rattle.worksheet.specs.GatesSilence.{orReadsLeft, orReadsRight, like-maskedOr}
 use Rattle.masked_comparison.specs.Comparison.{halve, halves}

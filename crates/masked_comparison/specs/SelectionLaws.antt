@@ -9,7 +9,7 @@ use Rattle.words.specs.WordLaws.{xor-same, xor-zero, zero-xor, xor-bits, and-co
 use Rattle.words.specs.Formula.{boole, at, _⊕_}
 use Rattle.worksheet.specs.declared.Shares.{Shares}
 use Rattle.worksheet.specs.Gives.{Gives, gives-bind, gives-weaken}
-use Rattle.worksheet.specs.Sharing.{Sharing, sharing-bits}
+use Rattle.worksheet.specs.SharingLaws.{Sharing, sharing-bits}
 use Rattle.worksheet.specs.GatesSharing.{sharing-maskedXor, sharing-maskedAnd}
 use Rattle.masked_comparison.specs.Comparison.{copies, select}
 use Rattle.masked_comparison.specs.ComparisonLaws.{isZero, and-zero}

@@ -12,7 +12,7 @@ use Rattle.worksheet.specs.Couple.{Coupled, enter-c, Like, SameAt, here, there,
 use Rattle.worksheet.specs.CoupleLoops.{coupled-times, like-times, sameAt-times}
 use Rattle.worksheet.specs.Places.{turns}
 use Rattle.worksheet.specs.Stage.{Stage}
-use Rattle.worksheet.specs.Sharing.{share, sharing-bits, apart-xor, sharing-xorShares, share-xorShares}
+use Rattle.worksheet.specs.SharingLaws.{share, sharing-bits, apart-xor, sharing-xorShares, share-xorShares}
 use Rattle.worksheet.specs.Choice.{Both, both-bits, Kept, KeptWords, KeptList, Way, keeping, coupled-way}
 use Rattle.worksheet.specs.MaskedAndSilence.{readsLeft, readsRight}
 use Rattle.worksheet.specs.Gates.{maskedXor}

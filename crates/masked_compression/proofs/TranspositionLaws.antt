@@ -12,10 +12,13 @@ use lib.ListN.{getD}
 use lib.Pow.{pow-add, pow-pos, shl-shr, shr-le}
 use Rattle.words.specs.Word.{Bits, xor, and, low}
 use Rattle.words.specs.WordLaws.{xor-bits, and-bits, bits-mono, low-bits}
-use Rattle.words.specs.Digit.{digit, digit-lt, digit-div, digit-mod, digit-high, digit-xor, digit-and, ext-bits}
-use Rattle.words.specs.Plane.{plane, plane-bits, digit-plane}
+use Rattle.words.specs.Digit.{digit}
+use Rattle.words.specs.DigitLaws.{digit-lt, digit-div, digit-mod, digit-high, digit-xor, digit-and, ext-bits}
+use Rattle.words.specs.Plane.{plane}
+use Rattle.words.specs.PlaneLaws.{plane-bits, digit-plane}
 use Rattle.words.specs.Tab.{tab, tab-cong, getD-tab}
-use Rattle.words.specs.Table.{every, every-at}
+use Rattle.words.specs.Table.{every}
+use Rattle.words.specs.TableLaws.{every-at}
 use Rattle.masked_compression.specs.Transposition.{pick, packed, differences, lower, upper, stepped, transposed}
 
 -- ---- a number moved up by s places

@@ -4,15 +4,17 @@ use mathlib.Core.Path.{_≡_, ap}
 use native.Mathlib.Omega.{arith}
 use Rattle.words.specs.Word.{Bits, xor, and}
 use Rattle.words.specs.WordLaws.{xor-bits, xor-xor-cancel}
-use Rattle.words.specs.Plane.{plane, plane-bits}
+use Rattle.words.specs.Plane.{plane}
+use Rattle.words.specs.PlaneLaws.{plane-bits}
 use Rattle.worksheet.specs.declared.Shares.{Shares}
 use Rattle.worksheet.specs.Prog.{_>>=_, mask, entry, times-cong}
 use Rattle.worksheet.specs.Uses.{Uses, ret-u, word-u, enter-u, uses-bind, uses-times, uses-chain, uses-recount}
 use Rattle.worksheet.specs.Turns.{Each, each-weaken}
 use Rattle.worksheet.specs.Gives.{Gives, ret-g, draw-g, enter-g, gives-bind, gives-weaken, gives-times, gives-chain}
-use Rattle.worksheet.specs.Sharing.{none, Sharing, sharing-none, sharing-xorShares}
-use Rattle.worksheet.specs.MaskedAnd.{uses-maskedAnd}
-use Rattle.worksheet.specs.Gates.{uses-maskedXor}
+use Rattle.worksheet.specs.Sharing.{none}
+use Rattle.worksheet.specs.SharingLaws.{Sharing, sharing-none, sharing-xorShares}
+use Rattle.worksheet.specs.MaskedAndLaws.{uses-maskedAnd}
+use Rattle.worksheet.specs.GatesLaws.{uses-maskedXor}
 use Rattle.worksheet.specs.GatesSharing.{sharing-maskedXor, sharing-maskedAnd}
 use Rattle.masked_compression.specs.Adder.{maskPlane, carryStep, sumPlane, at, adder}
 use Rattle.masked_compression.specs.PlaneSum.{plainCarry, plainSum, plane-add}

@@ -10,12 +10,11 @@ use Rattle.words.specs.WordLaws.{xor-bits, zero-bits, xor-zero, zero-xor, xor-c
 use Rattle.worksheet.specs.declared.Shares.{Shares}
 use Rattle.worksheet.specs.Prog.{_>>=_}
 use Rattle.worksheet.specs.Couple.{Coupled, Like, Silent, SameAt, coupled-bind, sameAt-left, sameAt-right}
-use Rattle.worksheet.specs.CoupleLoops.{coupled-times, like-times, sameAt-times, silent-times}
-use Rattle.worksheet.specs.CoupleLoops.{coupled-chain, like-chain, sameAt-chain}
+use Rattle.worksheet.specs.CoupleLoops.{coupled-times, like-times, sameAt-times, silent-times, coupled-chain, like-chain, sameAt-chain}
 use Rattle.worksheet.specs.Places.{cut, turns}
 use Rattle.worksheet.specs.Turns.{Turns}
-use Rattle.worksheet.specs.Sharing.{Apart, apart-cong, apart-xorShares, sharing-bits, none, sharing-none}
-use Rattle.worksheet.specs.Sharing.{keep, share-keep, keep-bits, keep-xor, keep-same}
+use Rattle.worksheet.specs.Sharing.{none}
+use Rattle.worksheet.specs.SharingLaws.{Apart, apart-cong, apart-xorShares, sharing-bits, sharing-none, keep, share-keep, keep-bits, keep-xor, keep-same}
 use Rattle.masked_compression.specs.Adder.{carryStep, at, maskPlanes, carries, sumPlanes, adder}
 use Rattle.masked_compression.specs.PlaneSum.{plainCarry, plainSum}
 use Rattle.masked_compression.specs.AdderStepsSilence.{like-maskPlane, coupled-maskPlane, silent-maskPlane}

@@ -12,7 +12,8 @@ use Rattle.worksheet.specs.declared.Shares.{Shares}
 use Rattle.worksheet.specs.Prog.{_>>=_, mask, entry}
 use Rattle.worksheet.specs.Couple.{Coupled, ret-c, draw-c, enter-c, coupled-bind, Like, Silent, SameAt, here, there, under}
 use Rattle.worksheet.specs.Matching.{identity, byXor}
-use Rattle.worksheet.specs.Sharing.{shares, share, Sharing, Apart, apart-xor, xorShares, sharing-xorShares}
+use Rattle.worksheet.specs.Sharing.{shares}
+use Rattle.worksheet.specs.SharingLaws.{share, Sharing, Apart, apart-xor, xorShares, sharing-xorShares}
 use Rattle.worksheet.specs.MaskedAndSilence.{readsLeft, readsRight}
 use Rattle.worksheet.specs.Gates.{maskedXor}
 use Rattle.worksheet.specs.GatesSilence.{like-maskedXor, coupled-maskedXor, like-xorAnd, coupled-xorAnd, sameAt-xorAnd}

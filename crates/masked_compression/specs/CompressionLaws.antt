@@ -4,8 +4,10 @@ use mathlib.Core.Path.{_≡_, refl, sym, ap, _∙_}
 use native.Mathlib.Nat.{add-mod}
 use native.Mathlib.Omega.{arith}
 use lib.ListN.{getD, drop}
-use Rattle.words.specs.Digit.{digit, digit-div, digit-mod}
-use Rattle.words.specs.Plane.{plane, plane-cong}
+use Rattle.words.specs.Digit.{digit}
+use Rattle.words.specs.DigitLaws.{digit-div, digit-mod}
+use Rattle.words.specs.Plane.{plane}
+use Rattle.words.specs.PlaneLaws.{plane-cong}
 use Rattle.words.specs.Residue.{q}
 use Rattle.codec.specs.Compress.{compress}
 use Rattle.codec.specs.CompressLaws.{compress-shares}
@@ -14,7 +16,7 @@ use Rattle.worksheet.specs.Prog.{entry}
 use Rattle.worksheet.specs.Uses.{Uses, ret-u, enter-u, uses-bind, uses-map, uses-times, uses-recount}
 use Rattle.worksheet.specs.Turns.{Each, each-drop}
 use Rattle.worksheet.specs.Gives.{Gives, ret-g, enter-g, gives-bind, gives-times}
-use Rattle.worksheet.specs.Sharing.{Sharing}
+use Rattle.worksheet.specs.SharingLaws.{Sharing}
 use Rattle.masked_compression.specs.Compression.{fixedPoint, fixedPoints, maskedCompress}
 use Rattle.masked_compression.specs.AdderLaws.{uses-adder, gives-adder}
 

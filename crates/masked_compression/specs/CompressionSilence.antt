@@ -6,17 +6,18 @@ use mathlib.Core.List.{List}
 use native.Mathlib.Omega.{arith}
 use lib.ListN.{drop}
 use Rattle.words.specs.Word.{Bits}
-use Rattle.words.specs.Plane.{plane, plane-bits}
+use Rattle.words.specs.Plane.{plane}
+use Rattle.words.specs.PlaneLaws.{plane-bits}
 use Rattle.worksheet.specs.declared.Shares.{Shares}
 use Rattle.worksheet.specs.Prog.{Prog, ret, _>>=_, times}
 use Rattle.worksheet.specs.Couple.{Coupled, Like, SameAt, coupled-bind, coupled-map, sameAt-left, sameAt-right, sameAt-map}
 use Rattle.worksheet.specs.Places.{cut}
 use Rattle.worksheet.specs.Turns.{Turns, turns-weaken, turns-drop}
 use Rattle.worksheet.specs.Stage.{Stage, comap, times-stage}
-use Rattle.worksheet.specs.Sharing.{keep, keep-bits}
+use Rattle.worksheet.specs.SharingLaws.{keep, keep-bits}
 use Rattle.worksheet.specs.SharedList.{SharedList, sharedAt}
 use Rattle.worksheet.specs.Choice.{Kept, KeptList, chosen, SameShares, SameShare, sameShare-at}
-use Rattle.worksheet.specs.Pass.{like-entries, silent-entries}
+use Rattle.worksheet.specs.PassLaws.{like-entries, silent-entries}
 use Rattle.masked_compression.specs.PlaneSum.{plainSum, plane-add}
 use Rattle.masked_compression.specs.AdderSilence.{adderEntries, like-adder, coupled-adder, silent-adder}
 use Rattle.masked_compression.specs.Adder.{adder}

@@ -8,9 +8,12 @@ use lib.Dec.{eqb, eqb→eq}
 use lib.Pow.{shr-shr}
 use Rattle.words.specs.Word.{Bits, xor, and}
 use Rattle.words.specs.WordLaws.{xor-bits, and-bits, zero-bits}
-use Rattle.words.specs.Digit.{digit, digit-lt, digit-zero, digit-xor, digit-and, ext-bits}
-use Rattle.words.specs.Plane.{plane, plane-bits, digit-plane}
-use Rattle.words.specs.Table.{every, every-at}
+use Rattle.words.specs.Digit.{digit}
+use Rattle.words.specs.DigitLaws.{digit-lt, digit-zero, digit-xor, digit-and, ext-bits}
+use Rattle.words.specs.Plane.{plane}
+use Rattle.words.specs.PlaneLaws.{plane-bits, digit-plane}
+use Rattle.words.specs.Table.{every}
+use Rattle.words.specs.TableLaws.{every-at}
 
 -- the carry into plane j
 unfoldable pub plainCarry : (ℕ → ℕ) → (ℕ → ℕ) → ℕ → ℕ

@@ -17,7 +17,8 @@ use Rattle.worksheet.specs.Prog.{word, mask, times}
 use Rattle.worksheet.specs.Ran.{Ran, Makes, Draws, bind, over, draws-word, next-word}
 use Rattle.worksheet.specs.RanLoops.{times-start, times-turn}
 use Rattle.worksheet.specs.Sharing.{none}
-use Rattle.worksheet.specs.SharedList.{SharedList, sharedList, sharedAt, unzip, zip, getD-zip, zip-set}
+use Rattle.worksheet.specs.SharedList.{SharedList, sharedList, sharedAt, unzip, zip}
+use Rattle.worksheet.specs.SharedListLaws.{getD-zip, zip-set}
 use Rattle.worksheet.specs.Gates.{maskedXor}
 use Rattle.masked_fips202.specs.MaskedSponge.{start, mixLanes}
 

@@ -13,15 +13,15 @@ use Rattle.words.specs.WordLaws.{xor-bits, zero-bits, xor-same, xor-zero, xor-x
 use Rattle.keccak.specs.Pass.{LaneBits}
 use Rattle.worksheet.specs.declared.Shares.{Shares}
 use Rattle.worksheet.specs.Prog.{_>>=_, mask, entry, loop}
-use Rattle.worksheet.specs.Couple.{Coupled, ret-c, draw-c, enter-c, Like, SameAt, coupled-weaken, coupled-recount, sameAt-recount}
-use Rattle.worksheet.specs.Couple.{coupled-bind, coupled-map, sameAt-right, sameAt-map}
+use Rattle.worksheet.specs.Couple.{Coupled, ret-c, draw-c, enter-c, Like, SameAt, coupled-weaken, coupled-recount, sameAt-recount, coupled-bind, coupled-map, sameAt-right, sameAt-map}
 use Rattle.worksheet.specs.CoupleLoops.{like-loop, coupled-times, like-times, sameAt-times}
 use Rattle.worksheet.specs.Matching.{byXor}
 use Rattle.worksheet.specs.Places.{turns}
 use Rattle.worksheet.specs.Stage.{EqualAt, Stage, andThen, loop-stage}
-use Rattle.worksheet.specs.Sharing.{shares, none, joined, sharing-bits, Apart, apart-xor, apart-cong, share-keep}
-use Rattle.worksheet.specs.Sharing.{xorShares, apart-xorShares}
-use Rattle.worksheet.specs.SharedList.{SharedList, sharedAt, unzip, sharedAt-unzip}
+use Rattle.worksheet.specs.Sharing.{shares, none, joined}
+use Rattle.worksheet.specs.SharingLaws.{sharing-bits, Apart, apart-xor, apart-cong, share-keep, xorShares, apart-xorShares}
+use Rattle.worksheet.specs.SharedList.{SharedList, sharedAt, unzip}
+use Rattle.worksheet.specs.SharedListLaws.{sharedAt-unzip}
 use Rattle.worksheet.specs.Choice.{Both, both-bits}
 use Rattle.worksheet.specs.Gates.{maskedXor}
 use Rattle.worksheet.specs.GatesSilence.{like-maskedXor, sameAt-maskedXor}

@@ -6,8 +6,9 @@ use mathlib.Core.List.{List}
 use native.Mathlib.Nat.{lt-of-lt-of-le, pow-le-pow-right, suc-mul, div-add-mod', div-lt-iff-lt-mul, mod-lt}
 use native.Mathlib.Omega.{arith}
 use lib.ListN.{length, getD, take, drop, replicate, length-take}
-use Rattle.words.specs.Bounded.{Below, below-nil, below-cons, below-append, below-zeros, below-drop, below-take}
-use Rattle.words.specs.Numeral.{value-lt}
+use Rattle.words.specs.Bounded.{Below}
+use Rattle.words.specs.BoundedLaws.{below-nil, below-cons, below-append, below-zeros, below-drop, below-take}
+use Rattle.words.specs.NumeralLaws.{value-lt}
 use Rattle.words.specs.Word.{Bits}
 use Rattle.worksheet.specs.declared.Shares.{Shares}
 use Rattle.worksheet.specs.Prog.{Prog}
@@ -16,7 +17,8 @@ use Rattle.worksheet.specs.CoupleLoops.{AllKeep, coupled-chain, like-chain, sam
 use Rattle.worksheet.specs.Places.{turns}
 use Rattle.worksheet.specs.Turns.{Turns}
 use Rattle.worksheet.specs.Stage.{EqualAt, Stage, andThen}
-use Rattle.worksheet.specs.SharedList.{SharedList, sharedAt, sharedAt-unzip}
+use Rattle.worksheet.specs.SharedList.{SharedList, sharedAt}
+use Rattle.worksheet.specs.SharedListLaws.{sharedAt-unzip}
 use Rattle.worksheet.specs.Choice.{Kept, KeptShared, both-bits}
 use Rattle.masked_keccak.specs.MaskedKeccak.{maskedKeccakP}
 use Rattle.masked_keccak.specs.Lanes.{Differences, LanesApart, keepLanes, kept-lane, lanes-both}

@@ -9,7 +9,7 @@ use Rattle.worksheet.specs.declared.Shares.{Shares}
 use Rattle.worksheet.specs.Prog.{mask}
 use Rattle.worksheet.specs.Uses.{Uses, ret-u, word-u, uses-recount, uses-bind, uses-map, uses-loop, uses-times, uses-chain}
 use Rattle.worksheet.specs.SharedList.{SharedList}
-use Rattle.worksheet.specs.Gates.{uses-maskedXor}
+use Rattle.worksheet.specs.GatesLaws.{uses-maskedXor}
 use Rattle.masked_keccak.specs.Uses.{uses-maskedKeccakP}
 use Rattle.masked_fips202.specs.MaskedSponge.{start, mixLanes, maskedBlocks, maskedAbsorb, maskedSqueeze, maskedSponge}
 

@@ -12,7 +12,8 @@ use lib.Dec.{ltb}
 use lib.ListN.{length, getD, take, drop, replicate, getD-replicate}
 use Rattle.words.specs.Word.{Bits, xor}
 use Rattle.words.specs.WordLaws.{xor-same, xor-zero}
-use Rattle.words.specs.Bounded.{Below, below-nil, below-cons, below-append, below-zeros, below-take, below-drop}
+use Rattle.words.specs.Bounded.{Below}
+use Rattle.words.specs.BoundedLaws.{below-nil, below-cons, below-append, below-zeros, below-take, below-drop}
 use Rattle.words.specs.Tab.{length-tab, getD-tab, tab-cong}
 use Rattle.words.specs.Iterate.{iterate}
 use Rattle.keccak.specs.KeccakP.{keccak-p}
@@ -21,8 +22,10 @@ use Rattle.worksheet.specs.Prog.{mask}
 use Rattle.worksheet.specs.Run.{run}
 use Rattle.worksheet.specs.Turns.{Each}
 use Rattle.worksheet.specs.Gives.{Gives, ret-g, draw-g, gives-bind, gives-loop, gives-times, gives-chain, gives-run}
-use Rattle.worksheet.specs.Sharing.{none, Sharing}
-use Rattle.worksheet.specs.SharedList.{SharedList, sharedList, sharedAt, unzip, sharedAt-unzip, joinedList}
+use Rattle.worksheet.specs.Sharing.{none}
+use Rattle.worksheet.specs.SharingLaws.{Sharing}
+use Rattle.worksheet.specs.SharedList.{SharedList, sharedList, sharedAt, unzip, joinedList}
+use Rattle.worksheet.specs.SharedListLaws.{sharedAt-unzip}
 use Rattle.worksheet.specs.GatesSharing.{sharing-maskedXor}
 use Rattle.masked_keccak.specs.Joined.{StateSharing, state-lanes, state-sharing, gives-maskedKeccakP}
 use Rattle.fips202.specs.Sponge.{padding, padded, laneOf, mixed, absorbed, byteOf, squeezed, sponge, sha3-512, shake256}

@@ -12,11 +12,14 @@ use lib.ListN.{length, getD, take, drop, length-take, List·getD-append, List·g
 use lib.Seq.{getD-take, getD-drop, getD-append-add}
 use Rattle.words.specs.Word.{Bits, xor, low}
 use Rattle.words.specs.WordLaws.{xor-zero, xor-shift, low-xor}
-use Rattle.words.specs.Bounded.{Below, below-tab}
+use Rattle.words.specs.Bounded.{Below}
+use Rattle.words.specs.BoundedLaws.{below-tab}
 use Rattle.words.specs.Tab.{tab, length-tab, getD-tab, tab-add, tab-cong}
-use Rattle.words.specs.Table.{every-at}
-use Rattle.words.specs.Numeral.{value, value-lt}
-use Rattle.worksheet.specs.Sharing.{shares, joined, Sharing}
+use Rattle.words.specs.TableLaws.{every-at}
+use Rattle.words.specs.Numeral.{value}
+use Rattle.words.specs.NumeralLaws.{value-lt}
+use Rattle.worksheet.specs.Sharing.{shares, joined}
+use Rattle.worksheet.specs.SharingLaws.{Sharing}
 use Rattle.worksheet.specs.SharedList.{sharedList, sharedAt, joinedList}
 use Rattle.fips202.specs.Sponge.{padding, padded, laneOf}
 use Rattle.fips202.specs.Lanes.{laneOf-tab}

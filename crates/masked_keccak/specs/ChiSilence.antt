@@ -11,7 +11,7 @@ use Rattle.worksheet.specs.Prog.{_>>=_, entry}
 use Rattle.worksheet.specs.Couple.{Coupled, enter-c, Like, SameAt, here, there, coupled-bind}
 use Rattle.worksheet.specs.CoupleLoops.{coupled-times, like-times, sameAt-times}
 use Rattle.worksheet.specs.Turns.{Turns}
-use Rattle.worksheet.specs.Sharing.{share, Sharing, Apart, sharing-notShares, share-notShares}
+use Rattle.worksheet.specs.SharingLaws.{share, Sharing, Apart, sharing-notShares, share-notShares}
 use Rattle.worksheet.specs.SharedList.{SharedList, sharedAt}
 use Rattle.worksheet.specs.Gates.{maskedNot}
 use Rattle.worksheet.specs.MaskedAndSilence.{readsLeft, readsRight}

@@ -18,7 +18,8 @@ use Rattle.worksheet.specs.Prog.{_>>=_, entry}
 use Rattle.worksheet.specs.Turns.{Each}
 use Rattle.worksheet.specs.Gives.{Gives, ret-g, enter-g, gives-bind, gives-weaken, gives-loop, gives-times}
 use Rattle.worksheet.specs.Couple.{gives-coupled}
-use Rattle.worksheet.specs.Sharing.{joined, none, Sharing, sharing-xorPublic}
+use Rattle.worksheet.specs.Sharing.{joined, none}
+use Rattle.worksheet.specs.SharingLaws.{Sharing, sharing-xorPublic}
 use Rattle.worksheet.specs.SharedList.{SharedList, sharedList, sharedAt, unzip, joinedList}
 use Rattle.masked_keccak.specs.MaskedKeccak.{pass, chi, round, maskedKeccakP}
 use Rattle.masked_keccak.specs.Lanes.{LaneSharings}

@@ -2,7 +2,7 @@
 use Prim.Native.Nat.{ℕ, _<_}
 use mathlib.Core.Bool.{Bool}
 use Rattle.keccak.specs.Pass.{LaneBits}
-use Rattle.worksheet.specs.Sharing.{Sharing, Apart, keep, keep-bits, sharing-bits}
+use Rattle.worksheet.specs.SharingLaws.{Sharing, Apart, keep, keep-bits, sharing-bits}
 use Rattle.worksheet.specs.Choice.{Kept, chosen}
 use Rattle.worksheet.specs.SharedList.{SharedList, sharedAt}
 

@@ -9,18 +9,17 @@ use Rattle.keccak.specs.Pass.{passAt, LaneBits, pass-is, pass-cong, pass-bits, 
 use Rattle.keccak.specs.Aim.{aimed, aimed-bits, aimed-1, aimed-2}
 use Rattle.worksheet.specs.declared.Shares.{Shares}
 use Rattle.worksheet.specs.Prog.{Prog, ret, _>>=_, entry}
-use Rattle.worksheet.specs.Couple.{Coupled, ret-c, enter-c, Like, Silent, here}
-use Rattle.worksheet.specs.Couple.{coupled-weaken, sameAt-recount, coupled-bind, coupled-map, sameAt-left, sameAt-right, sameAt-map}
+use Rattle.worksheet.specs.Couple.{Coupled, ret-c, enter-c, Like, Silent, here, coupled-weaken, sameAt-recount, coupled-bind, coupled-map, sameAt-left, sameAt-right, sameAt-map}
 use Rattle.worksheet.specs.CoupleLoops.{coupled-times, like-times, silent-times}
 use Rattle.worksheet.specs.Places.{cut}
 use Rattle.worksheet.specs.Turns.{Turns}
 use Rattle.worksheet.specs.Stage.{EqualAt, Stage}
-use Rattle.worksheet.specs.Sharing.{shares, share, Sharing, Apart, apart-cong, keep, keep-bits, share-keep}
+use Rattle.worksheet.specs.Sharing.{shares}
+use Rattle.worksheet.specs.SharingLaws.{share, Sharing, Apart, apart-cong, keep, keep-bits, share-keep}
 use Rattle.worksheet.specs.SharedList.{SharedList, sharedList, sharedAt}
 use Rattle.keccak.specs.KeccakP.{along}
 use Rattle.masked_keccak.specs.MaskedKeccak.{pass}
-use Rattle.masked_keccak.specs.Lanes.{LaneSharings, LanesBoth, lane-bits, Differences, LanesApart, keepLanes, kept-lane}
-use Rattle.masked_keccak.specs.Lanes.{lanes-both, difference-bits}
+use Rattle.masked_keccak.specs.Lanes.{LaneSharings, LanesBoth, lane-bits, Differences, LanesApart, keepLanes, kept-lane, lanes-both, difference-bits}
 
 -- ---- one share
 

@@ -14,13 +14,13 @@ use Rattle.keccak.specs.Constant.{constant-bits}
 use Rattle.keccak.specs.Pass.{LaneBits}
 use Rattle.worksheet.specs.declared.Shares.{Shares}
 use Rattle.worksheet.specs.Prog.{Prog, ret, enter, _>>=_, entry, loop, bind-assoc}
-use Rattle.worksheet.specs.Couple.{Coupled, ret-c, enter-c, Like, SameAt, here}
-use Rattle.worksheet.specs.Couple.{coupled-weaken, coupled-bind, sameAt-recount, sameAt-left, sameAt-right}
+use Rattle.worksheet.specs.Couple.{Coupled, ret-c, enter-c, Like, SameAt, here, coupled-weaken, coupled-bind, sameAt-recount, sameAt-left, sameAt-right}
 use Rattle.worksheet.specs.CoupleLoops.{coupled-loop}
 use Rattle.worksheet.specs.Places.{cut, turns}
 use Rattle.worksheet.specs.Turns.{Turns}
 use Rattle.worksheet.specs.Stage.{EqualAt, Stage, andThen, loop-stage}
-use Rattle.worksheet.specs.Sharing.{shares, none, Apart, share-keep, xorPublic, apart-xorPublic}
+use Rattle.worksheet.specs.Sharing.{shares, none}
+use Rattle.worksheet.specs.SharingLaws.{Apart, share-keep, xorPublic, apart-xorPublic}
 use Rattle.worksheet.specs.SharedList.{SharedList, sharedList, sharedAt, unzip}
 use Rattle.masked_keccak.specs.MaskedKeccak.{pass, chi, round, maskedKeccakP}
 use Rattle.masked_keccak.specs.Lanes.{LanesBoth, lane-bits, Differences, LanesApart, keepLanes, lanes-both}

@@ -5,8 +5,8 @@ use Rattle.worksheet.specs.declared.Shares.{Shares}
 use Rattle.worksheet.specs.Prog.{entry}
 use Rattle.worksheet.specs.Uses.{Uses, ret-u, enter-u, uses-bind, uses-loop, uses-map, uses-times}
 use Rattle.worksheet.specs.SharedList.{SharedList}
-use Rattle.worksheet.specs.MaskedAnd.{uses-maskedAnd}
-use Rattle.worksheet.specs.Gates.{uses-maskedNot, uses-maskedXor}
+use Rattle.worksheet.specs.MaskedAndLaws.{uses-maskedAnd}
+use Rattle.worksheet.specs.GatesLaws.{uses-maskedNot, uses-maskedXor}
 use Rattle.masked_keccak.specs.MaskedKeccak.{pass, chiLane, chi, round, maskedKeccakP}
 
 uses-entry : (v : ℕ) → Uses 1 0 0 (entry v)

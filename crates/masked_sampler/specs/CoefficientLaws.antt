@@ -7,7 +7,7 @@ use native.Mathlib.Omega.{arith}
 use lib.Dec.{eqb, eqb→eq}
 use Rattle.words.specs.Word.{xor}
 use Rattle.words.specs.Residue.{q}
-use Rattle.words.specs.Table.{every-at}
+use Rattle.words.specs.TableLaws.{every-at}
 use Rattle.codec.specs.Compress.{decompress}
 use Rattle.worksheet.specs.declared.Shares.{Shares}
 use Rattle.worksheet.specs.Prog.{_>>=_, mask, entry}

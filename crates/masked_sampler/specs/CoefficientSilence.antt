@@ -12,7 +12,7 @@ use Rattle.worksheet.specs.declared.Shares.{Shares}
 use Rattle.worksheet.specs.Prog.{_>>=_, mask, entry}
 use Rattle.worksheet.specs.Couple.{Coupled, ret-c, draw-c, enter-c, coupled-weaken, Like, Silent, here, there, under}
 use Rattle.worksheet.specs.Matching.{identity, byAdding}
-use Rattle.worksheet.specs.Sharing.{share}
+use Rattle.worksheet.specs.SharingLaws.{share}
 use Rattle.worksheet.specs.CoeffSharing.{CoeffApart, coeffKeep, share-coeffKeep}
 use Rattle.masked_sampler.specs.Coefficient.{bitToCoeff}
 use Rattle.masked_sampler.specs.CoefficientLaws.{mod-q-lt, coeffOf, cond-table, coeffSharing-result}

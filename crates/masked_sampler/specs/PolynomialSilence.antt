@@ -9,7 +9,8 @@ use Rattle.worksheet.specs.Prog.{Prog, ret, _>>=_, times}
 use Rattle.worksheet.specs.Couple.{Coupled, Like, Silent, coupled-map, sameAt-map}
 use Rattle.worksheet.specs.CoupleLoops.{coupled-times, like-times, silent-times}
 use Rattle.worksheet.specs.Stage.{Stage}
-use Rattle.worksheet.specs.Sharing.{share, none}
+use Rattle.worksheet.specs.Sharing.{none}
+use Rattle.worksheet.specs.SharingLaws.{share}
 use Rattle.worksheet.specs.SharedList.{SharedList, unzip}
 use Rattle.worksheet.specs.Choice.{SameShare, sameShare-unzip}
 use Rattle.masked_sampler.specs.Coefficient.{bitToCoeff, sampler}

@@ -9,14 +9,13 @@ use lib.ListN.{getD}
 use Rattle.words.specs.Residue.{q}
 use Rattle.worksheet.specs.declared.Shares.{Shares}
 use Rattle.worksheet.specs.Prog.{Prog, ret, _>>=_, entry, times}
-use Rattle.worksheet.specs.Couple.{Coupled, ret-c, enter-c, Like, Silent, SameAt, here}
-use Rattle.worksheet.specs.Couple.{coupled-weaken, coupled-bind, coupled-map, sameAt-left, sameAt-right, sameAt-map}
+use Rattle.worksheet.specs.Couple.{Coupled, ret-c, enter-c, Like, Silent, SameAt, here, coupled-weaken, coupled-bind, coupled-map, sameAt-left, sameAt-right, sameAt-map}
 use Rattle.worksheet.specs.CoupleLoops.{coupled-loop, like-loop, silent-loop, coupled-times, like-times, silent-times}
 use Rattle.worksheet.specs.Places.{cut}
 use Rattle.worksheet.specs.Turns.{Turns}
-use Rattle.worksheet.specs.Sharing.{shares, share, none}
-use Rattle.worksheet.specs.CoeffSharing.{CoeffApart, coeffApart-cong, coeffApart-addShares}
-use Rattle.worksheet.specs.CoeffSharing.{coeffKeep, coeffKeep-lt, share-coeffKeep}
+use Rattle.worksheet.specs.Sharing.{shares, none}
+use Rattle.worksheet.specs.SharingLaws.{share}
+use Rattle.worksheet.specs.CoeffSharing.{CoeffApart, coeffApart-cong, coeffApart-addShares, coeffKeep, coeffKeep-lt, share-coeffKeep}
 use Rattle.masked_sampler.specs.Coefficient.{bitToCoeff, sums, weight, sampler}
 use Rattle.masked_sampler.specs.CoefficientLaws.{coeffOf}
 use Rattle.masked_sampler.specs.SamplerLaws.{sumTo}

@@ -1,15 +1,16 @@
 -- What key making, encapsulation, import and sampling answer and leave in the lent buffers, for a parameter set.
+use mathlib.Core.Path.{_≡_}
 use mathlib.Core.Bool.{not}
 use mathlib.Core.List.{List, [], _∷_, _++_}
 use Prim.Native.Nat.{ℕ, _+_, _-_, _*_, _%_}
-use lib.ListN.{getD, take, drop}
+use lib.ListN.{length, getD, take, drop}
 use Rattle.words.specs.Word.{xor}
 use Rattle.words.specs.Residue.{q}
 use Rattle.fips202.specs.Sponge.{laneOf}
 use Rattle.words.specs.Tab.{tab}
 use Rattle.codec.specs.Sample.{full}
 use Rattle.mlkem.specs.declared.Answer.{Answer}
-use Rattle.mlkem.specs.declared.Answer.the-variants.{WrongLength, PublicKeyRange, WrongHash, SecretRange, MaskRange, ShortStream}
+use Rattle.mlkem.specs.declared.Answer.the-variants.{Done, WrongLength, PublicKeyRange, WrongHash, SecretRange, MaskRange, ShortStream}
 use Rattle.kpke.specs.Parameters.{Parameters, vectorBytes, ekBytes, dkBytes, ctBytes}
 use Rattle.kpke.specs.Functions.{H, G₁}
 use Rattle.kpke.specs.KPke.{coefficients, matrixFull}
@@ -62,6 +63,11 @@ module _ (p : Parameters) where
       ∷ lent pub-h (ekBytes p + 32) ∷ [])))
       WrongLength
       ∷ (keyRows dk ++ row (not (reduced a)) MaskRange ∷ []))
+
+  -- a key that import does not refuse, its other arguments being in order
+  pub record Accepted (dk : List ℕ) : Type 0 where
+    pub long : length dk ≡ dkBytes p
+    pub rows : answer (keyRows dk) ≡ Done
 
   -- the second shares, for the first shares a of the secret and w of z
   unfoldable pub secondCoeffs : List ℕ → List ℕ → List ℕ

@@ -11,7 +11,8 @@ use lib.Arith.{digits-div, digits-mod, digits-lt}
 use lib.Dec.{ltb}
 use lib.ListN.{length, drop, take-append-drop, length-drop}
 use lib.Seq.{drop-at}
-use Rattle.words.specs.Bounded.{Below, below-take, below-drop}
+use Rattle.words.specs.Bounded.{Below}
+use Rattle.words.specs.BoundedLaws.{below-take, below-drop}
 use Rattle.words.specs.Part.{length-part, part-append}
 use Rattle.codec.specs.Bytes.{byteEncode, byteDecode}
 use Rattle.codec.specs.BytesLaws.{length-byteEncode, length-byteDecode, below-byteDecode, byteDecode-byteEncode, byteEncode-byteDecode}

@@ -12,13 +12,15 @@ use lib.ListN.{length, getD, length-map}
 use Rattle.words.specs.Word.{Bits, xor}
 use Rattle.words.specs.WordLaws.{xor-same, xor-zero, xor-cancel}
 use Rattle.words.specs.Bounded.{Below}
-use Rattle.words.specs.Plane.{plane-bits}
-use Rattle.words.specs.Table.{every, every-at, every-true}
+use Rattle.words.specs.PlaneLaws.{plane-bits}
+use Rattle.words.specs.Table.{every}
+use Rattle.words.specs.TableLaws.{every-at, every-true}
 use Rattle.codec.specs.Compress.{compress}
 use Rattle.codec.specs.CompressLaws.{compress-lt, getD-compress}
 use Rattle.worksheet.specs.Turns.{Each}
 use Rattle.worksheet.specs.Gives.{Gives, ret-g, gives-bind, gives-weaken, gives-times}
-use Rattle.worksheet.specs.Sharing.{none, Sharing}
+use Rattle.worksheet.specs.Sharing.{none}
+use Rattle.worksheet.specs.SharingLaws.{Sharing}
 use Rattle.masked_comparison.specs.ComparisonLaws.{isZero, gives-addPublic, gives-allZero}
 use Rattle.kpke.specs.Parameters.{Parameters, ctBytes}
 use Rattle.mlkem.specs.MlKem.{same}

@@ -8,10 +8,12 @@ use lib.ListN.{length, getD, take, drop, replicate, length-append, length-drop, 
 use lib.Seq.{getD-append-add, getD-drop}
 use Rattle.words.specs.Word.{xor}
 use Rattle.words.specs.WordLaws.{xor-zero}
-use Rattle.words.specs.Bounded.{Below, below-append, below-zeros}
+use Rattle.words.specs.Bounded.{Below}
+use Rattle.words.specs.BoundedLaws.{below-append, below-zeros}
 use Rattle.words.specs.Tab.{tab, length-tab, getD-tab, tab-of}
 use Rattle.worksheet.specs.Gives.{Gives, gives-weaken}
-use Rattle.worksheet.specs.SharedList.{SharedList, sharedList, sharedAt, unzip, sharedAt-unzip, joinedList}
+use Rattle.worksheet.specs.SharedList.{SharedList, sharedList, sharedAt, unzip, joinedList}
+use Rattle.worksheet.specs.SharedListLaws.{sharedAt-unzip}
 use Rattle.fips202.specs.Sponge.{padded, absorbed, squeezed, sponge, sha3-512, shake256}
 use Rattle.fips202.specs.Lanes.{byte-place}
 use Rattle.masked_fips202.specs.XorBytes.{byte-xor}
@@ -20,7 +22,7 @@ use Rattle.kpke.specs.Parameters.{Parameters}
 use Rattle.kpke.specs.Functions.{J, G₁, G₂}
 use Rattle.mlkem.specs.Worksheet.{bytesOf, four, hashShared, stage3, stage9}
 use Rattle.mlkem.specs.WordBytes.{length-bytesOf, below-bytesOf, getD-bytesOf, take-bytesOf, drop-bytesOf}
-use Rattle.mlkem.specs.Joined.{WordSharing}
+use Rattle.mlkem.specs.StageSharing.{WordSharing}
 
 -- ---- the input
 

@@ -1,13 +1,12 @@
--- What a split key stands for (document 01, The work and its edge), and what the shares that a stage hands on stand for.
+-- What a split key stands for (document 01, The work and its edge).
 use mathlib.Core.Path.{_≡_}
 use mathlib.Core.List.{List, _++_}
-use Prim.Native.Nat.{ℕ, _*_, _^_, _<_}
-use lib.ListN.{length, getD}
+use Prim.Native.Nat.{ℕ, _*_, _^_}
+use lib.ListN.{length}
 use Rattle.words.specs.Bounded.{Below}
 use Rattle.codec.specs.Bytes.{byteEncode}
 use Rattle.ring.specs.Polynomial.{add}
-use Rattle.worksheet.specs.Sharing.{Sharing}
-use Rattle.worksheet.specs.SharedList.{SharedList, sharedAt, joinedList}
+use Rattle.worksheet.specs.SharedList.{SharedList, joinedList}
 use Rattle.kpke.specs.Parameters.{Parameters, ekBytes}
 use Rattle.kpke.specs.KPke.{parts, concat}
 use Rattle.mlkem.specs.Worksheet.{SplitKey, bytesOf}
@@ -33,14 +32,3 @@ pub record InOrder (p : Parameters) (key : SplitKey) : Type 0 where
   pub ek : length (key .ek) ≡ ekBytes p
   pub h : length (key .h) ≡ 32
   pub bytes : Below 256 (key .h)
-
--- two shares of the polynomial f
-pub record PolySharing (f : List ℕ) (s : SharedList) : Type 0 where
-  pub long0 : length (s .s0) ≡ 256
-  pub long1 : length (s .s1) ≡ 256
-  pub sums : joinedCoeffs s ≡ f
-
--- two shares of the n words of l
-pub record WordSharing (n : ℕ) (l : List ℕ) (s : SharedList) : Type 0 where
-  pub long : length l ≡ n
-  pub at : (i : ℕ) → i < n → Sharing 64 (getD l i 0) (sharedAt s i)

@@ -6,17 +6,20 @@ use native.Mathlib.Omega.{arith}
 use lib.ListN.{length, getD}
 use Rattle.words.specs.Residue.{q}
 use Rattle.words.specs.Tab.{tab, length-tab, getD-tab, tab-of}
-use Rattle.words.specs.Digit.{digit, xor-digit}
+use Rattle.words.specs.Digit.{digit}
+use Rattle.words.specs.DigitLaws.{xor-digit}
 use Rattle.codec.specs.Bytes.{bitsOf}
 use Rattle.ring.specs.Polynomial.{add}
 use Rattle.ring.specs.Sum.{length-add, getD-add, getD-add-lt}
 use Rattle.worksheet.specs.declared.Shares.{Shares}
-use Rattle.worksheet.specs.Sharing.{joined, Sharing}
-use Rattle.worksheet.specs.SharedList.{SharedList, unzip, sharedAt-unzip}
+use Rattle.worksheet.specs.Sharing.{joined}
+use Rattle.worksheet.specs.SharingLaws.{Sharing}
+use Rattle.worksheet.specs.SharedList.{SharedList, unzip}
+use Rattle.worksheet.specs.SharedListLaws.{sharedAt-unzip}
 use Rattle.worksheet.specs.CoeffSharing.{CoeffSharing}
 use Rattle.mlkem.specs.Worksheet.{bytesOf, bitOf}
 use Rattle.mlkem.specs.WordBytes.{bitsOf-bytesOf, getD-bitsOf}
-use Rattle.mlkem.specs.Joined.{PolySharing, WordSharing}
+use Rattle.mlkem.specs.StageSharing.{PolySharing, WordSharing}
 
 -- ---- polynomials
 

@@ -4,13 +4,15 @@ pub mod RefusalLaws
 pub mod TestLaws
 pub mod Calls
 pub mod Worksheet
+pub mod StripLengths
 pub mod WorksheetUses
 pub mod Layout
 pub mod LayoutLaws
 pub mod Split
-pub mod Accepted
+pub mod AcceptedLaws
 pub mod Fits
 pub mod Joined
+pub mod StageSharing
 pub mod WordBytes
 pub mod JoinedLaws
 pub mod JoinedKey

@@ -8,7 +8,8 @@ use lib.ListN.{length, getD, take, drop, length-map, List·getD-map}
 use lib.Seq.{drop-cons, ext-getD}
 use Rattle.words.specs.Tab.{tab, length-tab, getD-tab, tab-of}
 use Rattle.words.specs.Numeral.{value}
-use Rattle.words.specs.Digit.{digit, digit-lt}
+use Rattle.words.specs.Digit.{digit}
+use Rattle.words.specs.DigitLaws.{digit-lt}
 use Rattle.words.specs.Residue.{q}
 use Rattle.codec.specs.Bytes.{bitsOf, byteEncode, byteDecode}
 use Rattle.codec.specs.BytesLaws.{length-bitsOf, below-bitsOf, getD-numbersOf, bitsOf-numbersOf, length-byteEncode, below-byteEncode, length-byteDecode}
@@ -21,7 +22,7 @@ use Rattle.kpke.specs.Parameters.{Parameters}
 use Rattle.mlkem.specs.Worksheet.{bytesOf, bitOf, stage2, stage4}
 use Rattle.mlkem.specs.WordBytes.{length-bytesOf, below-bytesOf, bitsOf-bytesOf, getD-bitsOf, ext-bytes}
 use Rattle.mlkem.specs.PlanesValue.{planeOf, digit-planeOf, gives-compressPoly}
-use Rattle.mlkem.specs.Joined.{PolySharing, WordSharing}
+use Rattle.mlkem.specs.StageSharing.{PolySharing, WordSharing}
 use Rattle.mlkem.specs.JoinedLaws.{polySharing-unzip, wordSharing-unzip, joined-bitOf}
 
 -- ---- stage 2

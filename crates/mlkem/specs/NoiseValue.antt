@@ -6,10 +6,10 @@ use native.Mathlib.Nat.{mul-le-mul-right}
 use native.Mathlib.Omega.{arith}
 use lib.ListN.{length, getD, take, drop}
 use lib.Seq.{getD-take, getD-drop}
-use Rattle.words.specs.Bounded.{below-nil, below-cons}
+use Rattle.words.specs.BoundedLaws.{below-nil, below-cons}
 use Rattle.words.specs.Tab.{tab, tab-cong, tab-of}
 use Rattle.words.specs.Part.{length-part}
-use Rattle.words.specs.Digit.{digit-lt}
+use Rattle.words.specs.DigitLaws.{digit-lt}
 use Rattle.codec.specs.Bytes.{bitsOf}
 use Rattle.codec.specs.BytesLaws.{length-bitsOf}
 use Rattle.ring.specs.Polynomial.{minus}
@@ -22,7 +22,7 @@ use Rattle.kpke.specs.Parameters.{Parameters}
 use Rattle.kpke.specs.KPke.{noise}
 use Rattle.mlkem.specs.Worksheet.{bytesOf, bitOf, noisePoly, stage5}
 use Rattle.mlkem.specs.WordBytes.{length-bytesOf}
-use Rattle.mlkem.specs.Joined.{PolySharing, WordSharing}
+use Rattle.mlkem.specs.StageSharing.{PolySharing, WordSharing}
 use Rattle.mlkem.specs.JoinedLaws.{polySharing-unzip, joined-bitOf}
 use Rattle.mlkem.specs.HashValue.{shake, shake-bytes, gives-hashShared}
 use Rattle.mlkem.specs.PolynomialValue.{NoiseSharing}

@@ -6,20 +6,22 @@ use native.Mathlib.Omega.{arith}
 use lib.ListN.{length, getD}
 use lib.Seq.{ext-getD}
 use Rattle.words.specs.Bounded.{Below}
-use Rattle.words.specs.Digit.{digit, ext-bits}
-use Rattle.words.specs.Plane.{plane, digit-plane, plane-cong}
+use Rattle.words.specs.Digit.{digit}
+use Rattle.words.specs.DigitLaws.{ext-bits}
+use Rattle.words.specs.Plane.{plane}
+use Rattle.words.specs.PlaneLaws.{digit-plane, plane-cong}
 use Rattle.words.specs.Residue.{q}
 use Rattle.codec.specs.Compress.{compress}
 use Rattle.codec.specs.CompressLaws.{getD-compress}
 use Rattle.worksheet.specs.declared.Shares.{Shares}
 use Rattle.worksheet.specs.Turns.{Each, each-weaken}
 use Rattle.worksheet.specs.Gives.{Gives, gives-weaken, gives-times}
-use Rattle.worksheet.specs.Sharing.{Sharing}
+use Rattle.worksheet.specs.SharingLaws.{Sharing}
 use Rattle.worksheet.specs.SharedList.{SharedList, sharedAt}
 use Rattle.masked_compression.specs.Compression.{maskedCompress}
 use Rattle.masked_compression.specs.CompressionLaws.{gives-maskedCompress}
 use Rattle.mlkem.specs.Worksheet.{compressPoly}
-use Rattle.mlkem.specs.Joined.{PolySharing}
+use Rattle.mlkem.specs.StageSharing.{PolySharing}
 use Rattle.mlkem.specs.JoinedLaws.{polySharing-at}
 
 -- plane j of group g of the numbers f

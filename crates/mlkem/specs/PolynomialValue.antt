@@ -13,7 +13,8 @@ use Rattle.ring.specs.Sum.{length-add, length-sub, add-swap, part-add, sub-shar
 use Rattle.codec.specs.Sample.{sampleNtt, accepted}
 use Rattle.ring.specs.Transform.{ntt, inverseNtt}
 use Rattle.ring.specs.Linear.{ntt-linear, inverseNtt-linear}
-use Rattle.worksheet.specs.Pass.{enterBoth, gives-enterBoth}
+use Rattle.worksheet.specs.Pass.{enterBoth}
+use Rattle.worksheet.specs.PassLaws.{gives-enterBoth}
 use Rattle.worksheet.specs.Turns.{Each}
 use Rattle.worksheet.specs.Gives.{Gives, ret-g, gives-bind, gives-weaken, gives-times}
 use Rattle.worksheet.specs.SharedList.{SharedList}
@@ -23,7 +24,8 @@ use Rattle.kpke.specs.KPke.{parts, dot, matrix, firstDecoded, secondDecoded, no
 use Rattle.kpke.specs.VectorLaws.{part-fits, dot-cong}
 use Rattle.kpke.specs.DotLaws.{length-dot, dot-add-left, dot-add-right}
 use Rattle.mlkem.specs.Worksheet.{Noise, Reencrypted, nothing, first, second, stage1, uShare, vShare, stage6}
-use Rattle.mlkem.specs.Joined.{joinedCoeffs, PolySharing}
+use Rattle.mlkem.specs.Joined.{joinedCoeffs}
+use Rattle.mlkem.specs.StageSharing.{PolySharing}
 
 -- two lists of 256 coefficients whose sum is f, entered
 gives-poly : (f a b : List ℕ) → length a ≡ 256 → length b ≡ 256 → add a b ≡ f → Gives (PolySharing f) (enterBoth 256 a b)

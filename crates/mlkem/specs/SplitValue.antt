@@ -6,11 +6,11 @@ use native.Mathlib.Omega.{arith}
 use lib.ListN.{length, getD, take, drop, length-drop, length-take, take-append-drop}
 use lib.Seq.{ext-getD, take-all, getD-take, getD-drop, drop-drop}
 use Rattle.words.specs.WordLaws.{xor-bits}
-use Rattle.words.specs.Bounded.{Below, below-take, below-drop, below-tab}
+use Rattle.words.specs.Bounded.{Below}
+use Rattle.words.specs.BoundedLaws.{below-take, below-drop, below-tab}
 use Rattle.words.specs.Tab.{tab, length-tab, getD-tab, tab-cong}
 use Rattle.words.specs.Part.{length-part}
-use Rattle.words.specs.Numeral.{digits-value, getD-digits}
-use Rattle.words.specs.Residue.{q}
+use Rattle.words.specs.NumeralLaws.{digits-value, getD-digits}
 use Rattle.codec.specs.Bytes.{byteEncode, byteDecode}
 use Rattle.codec.specs.BytesLaws.{length-byteDecode, byteEncode-byteDecode}
 use Rattle.ring.specs.Polynomial.{add}
@@ -27,8 +27,8 @@ use Rattle.mlkem.specs.MlKem.{secretPart, publicPart, hashPart, zPart, d
 use Rattle.kpke.specs.VectorLaws
 use Rattle.kpke.specs.VectorLaws.{part-fits, length-concat, concat-cong, concat-parts, parts-concat}
 use Rattle.mlkem.specs.Calls.{secondCoeffs, secondWords}
-use Rattle.mlkem.specs.Split.{split}
-use Rattle.mlkem.specs.Accepted.{Accepted, join-coefficients, join-words}
+use Rattle.mlkem.specs.Split.{split, Importable}
+use Rattle.mlkem.specs.AcceptedLaws.{join-coefficients, join-words}
 use Rattle.mlkem.specs.Worksheet.{bytesOf, worksheet}
 use Rattle.mlkem.specs.WordBytes.{length-bytesOf, getD-bytesOf}
 use Rattle.mlkem.specs.Joined.{joinedDk, InOrder}
@@ -50,15 +50,6 @@ bytesOf-lanes n b e h =
     ∙ getD-take 8 (drop (8 * (i / 8)) b) (i % 8) 0 (omega arith)
     ∙ getD-drop (8 * (i / 8)) b (i % 8) 0
     ∙ ap (λ (k : ℕ). getD b k 0) (omega arith))
-
--- an accepted key, and first shares of its secret and of z
-pub record Importable (p : Parameters) (dk a w : List ℕ) : Type 0 where
-  pub accepted : Accepted p dk
-  pub bytes : Below 256 dk
-  pub coeffs : length a ≡ 256 * p .k
-  pub range : Below q a
-  pub words : length w ≡ 4
-  pub bits : Below (2 ^ 64) w
 
 module _ {p : Parameters} {dk a w : List ℕ} (o : Importable p dk a w) where
   length-secret : length (secretPart p dk) ≡ vectorBytes p

@@ -8,7 +8,8 @@ use borrow.Author.Tests.{eq-eqb, eqb-true, lt-ltb, ltb-true}
 use lib.Dec.{eqb, ltb}
 use lib.ListN.{getD}
 use Rattle.words.specs.Residue.{q}
-use Rattle.words.specs.Bounded.{Below, below-nil, below-cons, below-head, below-tail}
+use Rattle.words.specs.Bounded.{Below}
+use Rattle.words.specs.BoundedLaws.{below-nil, below-cons, below-head, below-tail}
 use Rattle.mlkem.specs.MlKem.{same}
 use Rattle.mlkem.specs.Refusals.{reduced}
 

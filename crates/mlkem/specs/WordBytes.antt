@@ -8,10 +8,13 @@ use native.Mathlib.Numerals.{add-one}
 use native.Mathlib.Omega.{arith}
 use lib.ListN.{length, getD, take, drop, length-append, List·getD-append}
 use lib.Seq.{getD-append-add, take-append-add, drop-append-add, take-nil, drop-nil}
-use Rattle.words.specs.Bounded.{Below, below-nil, below-append}
-use Rattle.words.specs.Numeral.{digits, length-digits, below-digits, getD-digits, digits-split}
+use Rattle.words.specs.Bounded.{Below}
+use Rattle.words.specs.BoundedLaws.{below-nil, below-append}
+use Rattle.words.specs.Numeral.{digits}
+use Rattle.words.specs.NumeralLaws.{length-digits, below-digits, getD-digits, digits-split}
 use Rattle.words.specs.Tab.{tab, tab-of}
-use Rattle.words.specs.Digit.{digit, digit-zero}
+use Rattle.words.specs.Digit.{digit}
+use Rattle.words.specs.DigitLaws.{digit-zero}
 use Rattle.codec.specs.Bytes.{bitsOf, numbersOf}
 use Rattle.codec.specs.BytesLaws.{bitsOf-append, numbersOf-bitsOf}
 use Rattle.kpke.specs.KPke.{concat}

@@ -1,5 +1,5 @@
 -- How much the worksheet does, stage by stage, for a parameter set; at ML-KEM-768 187,794 entries, 11,750 words and 7,424 coefficients.
-use Prim.Native.Nat.{ℕ, _+_, _-_, _*_, _/_}
+use Prim.Native.Nat.{ℕ, _+_, _-_, _*_}
 use mathlib.Core.Path.{_≡_, refl, ap, _∙_}
 use mathlib.Core.List.{List, [], _∷_, _++_}
 use native.Mathlib.Omega.{arith}
@@ -16,6 +16,7 @@ use Rattle.masked_sampler.specs.CoefficientLaws.{uses-bitToCoeff}
 use Rattle.masked_sampler.specs.SamplerLaws.{uses-sampler}
 use Rattle.masked_comparison.specs.ComparisonLaws.{uses-addPublic, uses-allZero, uses-select}
 use Rattle.kpke.specs.Parameters.{Parameters, mlKem768, ctBytes}
+use Rattle.mlkem.specs.StripLengths.{compressEntries, compressWords, hashEntries, hashWords, noiseEntries, noiseWords, noiseCoeffs, steps, stripWords, stripCoeffs}
 use Rattle.mlkem.specs.WordBytes.{length-bytesOf}
 use Rattle.mlkem.specs.Worksheet.{SplitKey, Noise, Reencrypted, Planes, bytesOf, four, compressPoly, hashShared, noisePoly}
 use Rattle.mlkem.specs.Worksheet.{planeWords, stage1, stage2, stage3, stage4, stage5, stage6, stage7, stage8, stage9, stage10, worksheet}
@@ -31,23 +32,9 @@ uses-enterBoth : (f g : List ℕ) → Uses 512 0 0 (enterBoth 256 f g)
 unfolding enterBoth entry
 uses-enterBoth f g = uses-bind (uses-times 256 (λ i. enter-u ret-u)) (λ a. uses-map _ (uses-times 256 (λ i. enter-u ret-u)))
 
--- masked compression of a polynomial to depth d
-abbrev compressEntries : ℕ → ℕ
-compressEntries d = 4 * (128 + (18 * (d + 13) - 14))
-
-abbrev compressWords : ℕ → ℕ
-compressWords d = 4 * (3 * (d + 13) - 1)
-
 uses-compressPoly : (d : ℕ) (f : SharedList) → Uses (compressEntries d) (compressWords d) 0 (compressPoly d f)
 unfolding compressPoly
 uses-compressPoly d f = uses-times 4 (λ g. uses-maskedCompress d _)
-
--- a hash of len bytes with n words of output
-abbrev pub hashEntries : ℕ → ℕ → ℕ → ℕ
-hashEntries rate len n = (len / rate + 1) * (rate / 8 * 2 + 7824) + (n - 1) / (rate / 8) * 7824
-
-abbrev hashWords : ℕ → ℕ → ℕ → ℕ
-hashWords rate len n = 25 + (len / rate + 1 + (n - 1) / (rate / 8)) * 600
 
 uses-hashShared : (rate suffix len : ℕ) (w : SharedList) (public : List ℕ) (n : ℕ) → length public ≡ len
     → Uses (hashEntries rate (32 + len) n) (hashWords rate (32 + len) n) 0 (hashShared rate suffix w public n)
@@ -55,16 +42,6 @@ unfolding hashShared
 uses-hashShared rate suffix len w public n e =
     rw (length-bytesOf-four (w .s0) public ∙ ap (λ (t : ℕ). 32 + t) e)
     at (uses-maskedSponge rate suffix (bytesOf (four (w .s0)) ++ public) (bytesOf (four (w .s1)) ++ replicate (length public) 0) n)
-
--- a noise polynomial of width eta
-abbrev noiseEntries : ℕ → ℕ
-noiseEntries eta = hashEntries 136 33 (8 * eta) + 256 * (8 * eta + 2 * (2 * eta - 1))
-
-abbrev noiseWords : ℕ → ℕ
-noiseWords eta = hashWords 136 33 (8 * eta)
-
-abbrev noiseCoeffs : ℕ → ℕ
-noiseCoeffs eta = 256 * (2 * eta)
 
 -- ---- the stages
 
@@ -124,29 +101,7 @@ module _ (p : Parameters) where
   unfolding stage9
   uses-stage9 z c e = uses-hashShared 136 0x1f (ctBytes p) z c 4 e
 
-  -- ---- the whole
-
-  -- the worksheet's entries
-  abbrev pub steps : ℕ
-  steps =
-      512 + (1464 + (7842 + (1024
-      + (p .k * noiseEntries (p .eta1) + (p .k * noiseEntries (p .eta2) + noiseEntries (p .eta2))
-      + (p .k * 512 + 512
-      + (p .k * compressEntries (p .du) + compressEntries (p .dv)
-      + (planeWords p + (11 * (planeWords p - 1) + 67)
-      + (hashEntries 136 (32 + ctBytes p) 4 + 48))))))))
-
-  -- the mask words and mask coefficients of a strip
-  abbrev pub stripWords : ℕ
-  stripWords =
-      164 + (625
-      + (p .k * noiseWords (p .eta1) + (p .k * noiseWords (p .eta2) + noiseWords (p .eta2))
-      + (p .k * compressWords (p .du) + compressWords (p .dv) + (planeWords p - 1 + 6 + (hashWords 136 (32 + ctBytes p) 4 + 4)))))
-
-  abbrev pub stripCoeffs : ℕ
-  stripCoeffs = 256 + (p .k * noiseCoeffs (p .eta1) + (p .k * noiseCoeffs (p .eta2) + noiseCoeffs (p .eta2)))
-
-  pub uses-worksheet : (key : SplitKey) (c : List ℕ) → length (key .h) ≡ 32 → length c ≡ ctBytes p → Uses steps stripWords stripCoeffs (worksheet p key c)
+  pub uses-worksheet : (key : SplitKey) (c : List ℕ) → length (key .h) ≡ 32 → length c ≡ ctBytes p → Uses (steps p) (stripWords p) (stripCoeffs p) (worksheet p key c)
   unfolding worksheet
   uses-worksheet key c h-long c-long =
       uses-recount (omega arith) (omega arith) (omega arith)

@@ -15,8 +15,10 @@ use Rattle.worksheet.specs.declared.Shares.{Shares}
 use Rattle.worksheet.specs.Prog.{word, coeff, bound}
 use Rattle.worksheet.specs.Run.{run}
 use Rattle.worksheet.specs.Gives.{Gives, ret-g, gives-bind, gives-weaken, gives-times, gives-run}
-use Rattle.worksheet.specs.Sharing.{joined, none, Sharing, sharing-joined}
-use Rattle.worksheet.specs.SharedList.{SharedList, sharedAt, joinedList, joinedList-unzip}
+use Rattle.worksheet.specs.Sharing.{joined, none}
+use Rattle.worksheet.specs.SharingLaws.{Sharing, sharing-joined}
+use Rattle.worksheet.specs.SharedList.{SharedList, sharedAt, joinedList}
+use Rattle.worksheet.specs.SharedListLaws.{joinedList-unzip}
 use Rattle.masked_comparison.specs.ComparisonLaws.{isZero}
 use Rattle.masked_comparison.specs.SelectionLaws.{gives-select}
 use Rattle.kpke.specs.Parameters.{Parameters, ctBytes}
@@ -25,7 +27,8 @@ use Rattle.kpke.specs.Functions.{G₂}
 use Rattle.kpke.specs.KPke.{parts, noise, firstPart, secondPart, ephemeral, publicVector, encrypt, noisyMessage}
 use Rattle.mlkem.specs.MlKem.{same, decaps}
 use Rattle.mlkem.specs.Worksheet.{SplitKey, bytesOf, nothing, uShare, vShare, stage10, worksheet}
-use Rattle.mlkem.specs.Joined.{joinedCoeffs, joinedDk, InOrder, PolySharing, WordSharing}
+use Rattle.mlkem.specs.Joined.{joinedCoeffs, joinedDk, InOrder}
+use Rattle.mlkem.specs.StageSharing.{PolySharing, WordSharing}
 use Rattle.mlkem.specs.JoinedKey.{zBytes, publicPart-joined, hashPart-joined, zPart-joined, decrypt-joined}
 use Rattle.mlkem.specs.CiphertextPlanes.{encoded}
 use Rattle.mlkem.specs.PolynomialValue.{gives-stage1, gives-stage6}

@@ -10,11 +10,13 @@ use borrow.Author.Tests.{lt-ltb, le-ltb}
 use lib.Arith.{digits-div, digits-mod}
 use lib.ListN.{length, getD, take, drop}
 use lib.Seq.{getD-take, getD-drop}
-use Rattle.words.specs.Bounded.{Below, below-nil}
+use Rattle.words.specs.Bounded.{Below}
+use Rattle.words.specs.BoundedLaws.{below-nil}
 use Rattle.words.specs.Digit.{digit}
 use Rattle.words.specs.Fill.{Filled, filled-start, filled-part, filled-end}
 use Rattle.words.specs.Part.{part-take}
-use Rattle.words.specs.Plane.{plane, plane-cong}
+use Rattle.words.specs.Plane.{plane}
+use Rattle.words.specs.PlaneLaws.{plane-cong}
 use Rattle.words.specs.Tab.{tab, tab-add, tab-cong, length-tab, getD-tab}
 use Rattle.codec.specs.Bytes.{byteDecode}
 use Rattle.worksheet.specs.declared.Recorder.{Recorder}
@@ -22,8 +24,10 @@ use Rattle.worksheet.specs.declared.Shares.{Shares}
 use Rattle.worksheet.specs.Prog.{word, _>>=_}
 use Rattle.worksheet.specs.Ran.{Ran, Makes, Draws, bind}
 use Rattle.worksheet.specs.Gives.{gives-run}
-use Rattle.worksheet.specs.Sharing.{shares, none, joined, Sharing, sharing-joined}
-use Rattle.worksheet.specs.SharedList.{SharedList, sharedList, sharedAt, zip, getD-zip}
+use Rattle.worksheet.specs.Sharing.{shares, none, joined}
+use Rattle.worksheet.specs.SharingLaws.{Sharing, sharing-joined}
+use Rattle.worksheet.specs.SharedList.{SharedList, sharedList, sharedAt, zip}
+use Rattle.worksheet.specs.SharedListLaws.{getD-zip}
 use Rattle.masked_comparison.specs.Comparison.{addPublic, allZero}
 use Rattle.masked_comparison.specs.ComparisonReads.{addPublic-cong, allZero-cong}
 use Rattle.masked_comparison.specs.ComparisonLaws.{gives-allZero}

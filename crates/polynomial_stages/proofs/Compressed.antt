@@ -11,7 +11,8 @@ use Rattle.words.specs.Part.{part-append}
 use Rattle.words.specs.Tab.{tab, length-tab, getD-tab, tab-of, tab-cong}
 use Rattle.worksheet.specs.declared.Shares.{Shares}
 use Rattle.worksheet.specs.Sharing.{shares, none}
-use Rattle.worksheet.specs.SharedList.{SharedList, sharedList, sharedAt, zip, unzip, getD-zip, zip-zero, zip-set}
+use Rattle.worksheet.specs.SharedList.{SharedList, sharedList, sharedAt, zip, unzip}
+use Rattle.worksheet.specs.SharedListLaws.{getD-zip, zip-zero, zip-set}
 use Rattle.masked_compression.specs.Compression.{maskedCompress}
 use Rattle.masked_compression.specs.CompressionReads.{maskedCompress-cong}
 use Rattle.kpke.specs.KPke.{parts}

@@ -5,10 +5,9 @@ use Prim.Native.Nat.{ℕ, _^_, _<_}
 use native.Mathlib.Nat.{mod-lt}
 use native.Mathlib.Omega.{arith}
 use lib.ListN.{getD}
-use Rattle.words.specs.Residue.{q}
 use Rattle.words.specs.Tab.{tab, getD-tab}
 use Rattle.words.specs.Residue.{q}
-use Rattle.words.specs.Table.{table-tab}
+use Rattle.words.specs.TableLaws.{table-tab}
 use Rattle.words.specs.Numeral.{value}
 use Rattle.words.specs.Digit.{digit}
 use Rattle.ring.specs.Transform.{bitRev7, zeta, gamma}

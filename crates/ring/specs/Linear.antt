@@ -6,10 +6,12 @@ use Prim.Native.Nat.{ℕ, zero, suc, _+_, _-_, _*_, _/_, _%_, _^_, _<_}
 use native.Mathlib.Nat.{add-mod, mod-lt, mul-add-mod-self-right, div-add-mod'}
 use native.Mathlib.Omega.{arith}
 use lib.ListN.{length, getD, set, length-set}
-use Rattle.words.specs.Residue.{q, mul-mod-mod}
+use Rattle.words.specs.Residue.{q}
+use Rattle.words.specs.ResidueLaws.{mul-mod-mod}
 use Rattle.words.specs.Tab.{tab, length-tab, getD-tab, tab-of}
 use Rattle.words.specs.Iterate.{iterate}
-use Rattle.words.specs.Bounded.{Below, below-set, below-tab}
+use Rattle.words.specs.Bounded.{Below}
+use Rattle.words.specs.BoundedLaws.{below-set, below-tab}
 use Rattle.ring.specs.Polynomial.{minus, add}
 use Rattle.ring.specs.Sum.{minus-mod, length-add, below-add, getD-add, add-swap, add-set}
 use Rattle.ring.specs.Transform.{zeta, gamma, butterfly, block, layer, ntt, inverseButterfly, inverseBlock, inverseLayer, inverseNtt, baseCaseMultiply, multiplyNtts}

@@ -7,7 +7,8 @@ use native.Mathlib.Decide.{decLt, ℕ-discrete}
 use native.Mathlib.Omega.{arith}
 use lib.ListN.{length, getD, set, length-set}
 use lib.Seq.{getD-set-same, getD-set-other, ext-getD}
-use Rattle.words.specs.Residue.{q, mul-mod-mod}
+use Rattle.words.specs.Residue.{q}
+use Rattle.words.specs.ResidueLaws.{mul-mod-mod}
 use Rattle.words.specs.Iterate.{iterate}
 use Rattle.ring.specs.Polynomial.{add}
 use Rattle.ring.specs.Sum.{length-add, getD-add}

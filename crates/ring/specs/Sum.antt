@@ -7,10 +7,12 @@ use native.Mathlib.Decide.{decLt, ℕ-discrete}
 use native.Mathlib.Omega.{arith}
 use lib.ListN.{length, getD, take, drop, replicate, length-replicate, getD-replicate, set, length-set, List·getD-eq-default}
 use lib.Seq.{getD-set-same, getD-set-other, getD-take, getD-drop, ext-getD}
-use Rattle.words.specs.Residue.{q, mul-mod-mod, add-swap-mod}
+use Rattle.words.specs.Residue.{q}
+use Rattle.words.specs.ResidueLaws.{mul-mod-mod, add-swap-mod}
 use Rattle.words.specs.Tab.{tab, length-tab, getD-tab, tab-cong, part-tab}
 use Rattle.words.specs.Part.{length-part}
-use Rattle.words.specs.Bounded.{Below, below-tab}
+use Rattle.words.specs.Bounded.{Below}
+use Rattle.words.specs.BoundedLaws.{below-tab}
 use Rattle.ring.specs.Polynomial.{minus, add, sub}
 
 pub minus-mod : (x y : ℕ) → minus x (y % q) ≡ minus x y

@@ -3,6 +3,7 @@ use mathlib.Core.Path.{_≡_}
 use mathlib.Core.List.{List}
 use Prim.Native.Nat.{ℕ, _^_}
 use lib.ListN.{length, replicate}
+use lib.Dec.{eqb}
 use Rattle.words.specs.Bounded.{Below}
 use Rattle.words.specs.Residue.{q}
 use Rattle.worksheet.specs.Run.{run}
@@ -11,10 +12,11 @@ use Rattle.worksheet.specs.Count.{tally, strips, hit}
 use Rattle.kpke.specs.Parameters.{mlKem768}
 use Rattle.mlkem.specs.MlKem.{publicPart}
 use Rattle.kpke.specs.KPke.{matrixFull}
-use Rattle.mlkem.specs.Calls.{rhoOf}
+use Rattle.mlkem.specs.Calls.{rhoOf, Accepted}
 use Rattle.mlkem.specs.Worksheet.{worksheet}
+use Rattle.mlkem.specs.Refusals.{number}
 use Rattle.mlkem.specs.Split.{split}
-use Rattle.mlkem.specs.Accepted.{Accepted}
+use Rattle.decapsulation.specs.Calls.{Input, imported, traceAnswer, traceValue}
 
 -- a key that import doesn't refuse
 pub record Key (dk : List ℕ) : Type 0 where
@@ -36,3 +38,14 @@ unfoldable pub choices : List ℕ → List ℕ → ℕ → ℕ → ℕ
 choices dk c t v =
     when (matrixFull (mlKem768 .k) (rhoOf mlKem768 (publicPart mlKem768 dk)))
     (tally (replicate 768 q) (λ a. tally (replicate 4 (2 ^ 64)) (λ w. strips 11750 7424 (λ ws cs. gives dk c t v a w ws cs))))
+
+-- ---- by what the trace call hands back
+
+-- 1 where the trace of step t is carried out and hands back v, else 0
+abbrev pub handsBack : Input → ℕ → ℕ → ℕ
+handsBack g t v = when (eqb (number (traceAnswer mlKem768 g t)) 0) (when (eqb (traceValue mlKem768 g t) v) 1)
+
+-- how many choices of first shares and strip make the trace of step t hand back v, under the key dk split by import
+unfoldable pub traceChoices : List ℕ → List ℕ → ℕ → ℕ → ℕ
+traceChoices dk c t v =
+    tally (replicate 768 q) (λ a. tally (replicate 4 (2 ^ 64)) (λ w. strips 11750 7424 (λ ws cs. handsBack (imported mlKem768 dk a w c ws cs) t v)))

@@ -11,7 +11,7 @@ use Rattle.worksheet.specs.Stage.{Stage, rearrange}
 use Rattle.worksheet.specs.Sharing.{none}
 use Rattle.worksheet.specs.SharedList.{SharedList, unzip}
 use Rattle.worksheet.specs.Choice.{SameShare}
-use Rattle.worksheet.specs.Pass.{pass-stage}
+use Rattle.worksheet.specs.PassLaws.{pass-stage}
 use Rattle.masked_compression.specs.CompressionSilence.{compressEntries, groups-stage}
 use Rattle.masked_sampler.specs.PolynomialSilence.{Anything}
 use Rattle.kpke.specs.Parameters.{Parameters}

@@ -7,11 +7,13 @@ use native.Mathlib.Decide.{decLt}
 use native.Mathlib.Nat.{zero-add}
 use native.Mathlib.Omega.{arith}
 use lib.ListN.{length, drop, replicate, length-take, length-drop}
-use Rattle.words.specs.Bounded.{Below, below-take, below-drop}
+use Rattle.words.specs.Bounded.{Below}
+use Rattle.words.specs.BoundedLaws.{below-take, below-drop}
 use Rattle.words.specs.Residue.{q}
 use Rattle.worksheet.specs.Prog.{word, coeff, Prog, _>>=_, mask, times}
 use Rattle.worksheet.specs.Sum.{when}
-use Rattle.worksheet.specs.Count.{hits, hit, tally, strips, tally-cong, strips-hit, hits-drawn}
+use Rattle.worksheet.specs.Count.{hit, tally, strips}
+use Rattle.worksheet.specs.CountLaws.{hits, tally-cong, strips-hit, hits-drawn}
 use Rattle.worksheet.specs.Uses.{Uses, length-entries}
 use Rattle.worksheet.specs.Couple.{Like, SameAt, draw-c, ret-c, equal-hits, sameAt-right, sameAt-recount}
 use Rattle.worksheet.specs.CoupleLoops.{like-times}
@@ -25,7 +27,7 @@ use Rattle.mlkem.specs.Calls.{secondCoeffs, secondWords, rhoOf}
 use Rattle.mlkem.specs.Worksheet.{worksheet}
 use Rattle.mlkem.specs.WorksheetUses.{uses-worksheet}
 use Rattle.mlkem.specs.Split.{split}
-use Rattle.mlkem.specs.Accepted.{accepted-secret}
+use Rattle.mlkem.specs.AcceptedLaws.{accepted-secret}
 use Rattle.silence.specs.Claim.{Key, Ciphertext, gives, choices}
 use Rattle.silence.specs.WorksheetSilence.{worksheet-stage}
 use Rattle.silence.specs.SplitSilence.{coupled-firsts}

@@ -4,7 +4,8 @@ use mathlib.Core.Path.{_≡_, ap, _∙_}
 use mathlib.Core.List.{List, _++_}
 use native.Mathlib.Omega.{arith}
 use lib.ListN.{length, replicate}
-use Rattle.words.specs.Bounded.{Below, below-append, below-zeros}
+use Rattle.words.specs.Bounded.{Below}
+use Rattle.words.specs.BoundedLaws.{below-append, below-zeros}
 use Rattle.worksheet.specs.Stage.{Stage, comap}
 use Rattle.worksheet.specs.SharedList.{SharedList}
 use Rattle.worksheet.specs.Choice.{KeptShared}
@@ -12,7 +13,8 @@ use Rattle.masked_fips202.specs.MaskedSpongeSilence.{SharedBytes, maskedSponge-
 use Rattle.masked_sampler.specs.PolynomialSilence.{Anything}
 use Rattle.mlkem.specs.Worksheet.{bytesOf, four, hashShared}
 use Rattle.mlkem.specs.WordBytes.{below-bytesOf}
-use Rattle.mlkem.specs.WorksheetUses.{hashEntries, length-bytesOf-four}
+use Rattle.mlkem.specs.StripLengths.{hashEntries}
+use Rattle.mlkem.specs.WorksheetUses.{length-bytesOf-four}
 
 module _ (len : ℕ) (public : List ℕ) (long : length public ≡ len) (bytes : Below 256 public) where
   abbrev inputs : SharedList → SharedBytes (32 + len)

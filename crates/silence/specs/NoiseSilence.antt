@@ -6,7 +6,8 @@ use mathlib.Core.List.{List, [], _∷_}
 use native.Mathlib.Nat.{add-zero}
 use native.Mathlib.Omega.{arith}
 use lib.ListN.{length}
-use Rattle.words.specs.Bounded.{Below, below-nil, below-cons}
+use Rattle.words.specs.Bounded.{Below}
+use Rattle.words.specs.BoundedLaws.{below-nil, below-cons}
 use Rattle.worksheet.specs.Prog.{Prog, ret, _>>=_, times}
 use Rattle.worksheet.specs.Turns.{Turns}
 use Rattle.worksheet.specs.Stage.{Stage, andThen, andAlso, Beside, moves, comap, times-stage}
@@ -17,7 +18,7 @@ use Rattle.masked_sampler.specs.PolynomialSilence.{Anything, bitsToCoeffs-stage
 use Rattle.kpke.specs.Parameters.{Parameters}
 use Rattle.mlkem.specs.Fits.{Fits}
 use Rattle.mlkem.specs.Worksheet.{Noise, bitOf, noisePoly, stage3, stage4, stage5}
-use Rattle.mlkem.specs.WorksheetUses.{hashEntries}
+use Rattle.mlkem.specs.StripLengths.{hashEntries}
 use Rattle.silence.specs.HashSilence.{hashShared-stage}
 
 -- the entries of a noise polynomial of width eta

@@ -9,7 +9,7 @@ use lib.Dec.{ltb}
 use borrow.Author.Tests.{ltb-true, ltb-false}
 use lib.ListN.{getD}
 use Rattle.words.specs.Word.{Bits}
-use Rattle.words.specs.Plane.{plane-bits}
+use Rattle.words.specs.PlaneLaws.{plane-bits}
 use Rattle.worksheet.specs.declared.Shares.{Shares}
 use Rattle.worksheet.specs.Couple.{Coupled}
 use Rattle.worksheet.specs.CoupleLoops.{coupled-times}

@@ -11,7 +11,8 @@ use Rattle.worksheet.specs.CoupleLoops.{coupled-times}
 use Rattle.worksheet.specs.Stage.{Stage, times-stage}
 use Rattle.worksheet.specs.SharedList.{SharedList}
 use Rattle.worksheet.specs.Choice.{SameShare}
-use Rattle.worksheet.specs.Pass.{enterBoth, pass-stage, coupled-pass}
+use Rattle.worksheet.specs.Pass.{enterBoth}
+use Rattle.worksheet.specs.PassLaws.{pass-stage, coupled-pass}
 use Rattle.kpke.specs.Parameters.{Parameters}
 use Rattle.kpke.specs.VectorLaws.{dot-cong}
 use Rattle.mlkem.specs.Worksheet.{Noise, Reencrypted, nothing, first, second, uShare, vShare, stage6}

@@ -15,7 +15,8 @@ use Rattle.worksheet.specs.Couple.{Coupled, ret-c, draw-c, coupled-weaken, coup
 use Rattle.worksheet.specs.CoupleLoops.{coupled-times}
 use Rattle.worksheet.specs.Matching.{byAdding}
 use Rattle.worksheet.specs.Turns.{Turns}
-use Rattle.worksheet.specs.Sharing.{shares, share}
+use Rattle.worksheet.specs.Sharing.{shares}
+use Rattle.worksheet.specs.SharingLaws.{share}
 use Rattle.worksheet.specs.CoeffSharing.{CoeffSharing, coeffKeep-lt, share-coeffKeep}
 use Rattle.worksheet.specs.SharedList.{sharedList}
 use Rattle.worksheet.specs.Choice.{SameShare}

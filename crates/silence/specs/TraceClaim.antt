@@ -9,13 +9,15 @@ use borrow.Author.Tests.{lt-ltb, le-ltb}
 use lib.Dec.{eqb, ltb}
 use lib.ListN.{length, getD, drop, replicate, length-append}
 use lib.Seq.{take-at}
-use Rattle.words.specs.Bounded.{Below, below-tab}
+use Rattle.words.specs.Bounded.{Below}
+use Rattle.words.specs.BoundedLaws.{below-tab}
 use Rattle.words.specs.Residue.{q}
 use Rattle.words.specs.Tab.{length-tab}
 use Rattle.words.specs.Part.{length-part}
 use Rattle.worksheet.specs.Run.{run}
 use Rattle.worksheet.specs.Sum.{when}
-use Rattle.worksheet.specs.Count.{tally, strips, hit-getD}
+use Rattle.worksheet.specs.Count.{tally, strips}
+use Rattle.worksheet.specs.CountLaws.{hit-getD}
 use Rattle.mlkem.specs.declared.Answer.{Answer}
 use Rattle.mlkem.specs.declared.Answer.the-variants.{Done, ShortStream, NoSuchStep}
 use Rattle.kpke.specs.Parameters.{mlKem768}
@@ -26,21 +28,12 @@ use Rattle.kpke.specs.KPke.{matrixFull}
 use Rattle.mlkem.specs.Calls.{secondCoeffs, secondWords, rhoOf}
 use Rattle.mlkem.specs.Worksheet.{SplitKey, worksheet}
 use Rattle.mlkem.specs.Split.{split}
-use Rattle.decapsulation.specs.Calls.{Input, sheet, traceAnswer, traceValue}
+use Rattle.decapsulation.specs.Calls.{Input, sheet, imported, traceAnswer, traceValue}
 use Rattle.decapsulation.specs.AnswerLaws.{Lengths, trace-rows, sheet-steps}
-use Rattle.decapsulation.specs.Demand2.{imported, keyOf-imported}
-use Rattle.silence.specs.Claim.{Key, Ciphertext, gives, choices}
+use Rattle.decapsulation.specs.Demand2.{keyOf-imported}
+use Rattle.silence.specs.Claim.{Key, Ciphertext, gives, choices, handsBack, traceChoices}
 use Rattle.worksheet.specs.InRange.{tally-below, tally-when}
 use Rattle.silence.specs.Demand3.{hit-past, demand3}
-
--- 1 where the trace of step t is carried out and hands back v, else 0
-abbrev pub handsBack : Input → ℕ → ℕ → ℕ
-handsBack g t v = when (eqb (number (traceAnswer mlKem768 g t)) 0) (when (eqb (traceValue mlKem768 g t) v) 1)
-
--- how many choices of first shares and strip make the trace of step t hand back v, under the key dk split by import
-unfoldable pub traceChoices : List ℕ → List ℕ → ℕ → ℕ → ℕ
-traceChoices dk c t v =
-    tally (replicate 768 q) (λ a. tally (replicate 4 (2 ^ 64)) (λ w. strips 11750 7424 (λ ws cs. handsBack (imported dk a w c ws cs) t v)))
 
 module _ {dk c : List ℕ} (key : Key dk) (ct : Ciphertext c) where
   length-publicPart : length (publicPart mlKem768 dk) ≡ 1184
@@ -55,7 +48,7 @@ module _ {dk c : List ℕ} (key : Key dk) (ct : Ciphertext c) where
   module _ (t v : ℕ) (a w ws cs : List ℕ) (la : length a ≡ 768) (ra : Below q a) (lw : length w ≡ 4)
       (lws : length ws ≡ 11750) (lcs : length cs ≡ 7424) (rcs : Below q cs) where
     abbrev g : Input
-    g = imported dk a w c ws cs
+    g = imported mlKem768 dk a w c ws cs
 
     length-public : length (g .public) ≡ 1216
     length-public = length-append (publicPart mlKem768 dk) (hashPart mlKem768 dk) ∙ omega (arith, length-publicPart, length-hashPart)

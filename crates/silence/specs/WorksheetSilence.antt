@@ -17,9 +17,8 @@ use Rattle.masked_sampler.specs.PolynomialSilence.{Anything}
 use Rattle.masked_comparison.specs.SelectionSilence.{Operands, selects-stage}
 use Rattle.kpke.specs.Parameters.{Parameters, ctBytes}
 use Rattle.mlkem.specs.Fits.{Fits}
-use Rattle.mlkem.specs.Worksheet.{SplitKey, Noise, Reencrypted, Planes, planeWords, worksheet}
-use Rattle.mlkem.specs.Worksheet.{stage2, stage3, stage4, stage5, stage6, stage7, stage8, stage9, stage10}
-use Rattle.mlkem.specs.WorksheetUses.{hashEntries}
+use Rattle.mlkem.specs.Worksheet.{SplitKey, Noise, Reencrypted, Planes, planeWords, worksheet, stage2, stage3, stage4, stage5, stage6, stage7, stage8, stage9, stage10}
+use Rattle.mlkem.specs.StripLengths.{hashEntries}
 use Rattle.silence.specs.HashSilence.{hashShared-stage}
 use Rattle.silence.specs.DecryptionSilence.{passEntries, polyEntries, stage1-stage, stage2-stage}
 use Rattle.silence.specs.NoiseSilence.{noisesEntries, SameNoise, stage3-stage, stage4-stage, stage5-stage}

@@ -8,8 +8,14 @@ pub mod Part
 pub mod Fill
 pub mod Overwrite
 pub mod Table
+pub mod TableLaws
 pub mod Bounded
+pub mod BoundedLaws
 pub mod Numeral
+pub mod NumeralLaws
 pub mod Digit
+pub mod DigitLaws
 pub mod Plane
+pub mod PlaneLaws
 pub mod Residue
+pub mod ResidueLaws

@@ -10,7 +10,8 @@ use Rattle.worksheet.specs.declared.Shares.{Shares}
 use Rattle.worksheet.specs.Prog.{Prog}
 use Rattle.worksheet.specs.Couple.{Coupled, coupled-weaken}
 use Rattle.worksheet.specs.Turns.{Turns}
-use Rattle.worksheet.specs.Sharing.{joined, share, Sharing, sharing-joined, Apart, keep, keep-bits, share-keep}
+use Rattle.worksheet.specs.Sharing.{joined}
+use Rattle.worksheet.specs.SharingLaws.{share, Sharing, sharing-joined, Apart, keep, keep-bits, share-keep}
 use Rattle.worksheet.specs.SharedList.{SharedList, sharedAt, unzip}
 
 -- two sharings of words of n bits

@@ -4,9 +4,10 @@ use mathlib.Core.Path.{_≡_, sym, ap, ap₂, _∙_, subst}
 use mathlib.Core.Bool.{Bool, true, false}
 use native.Mathlib.Nat.{mod-lt, mod-eq-of-lt, mod-add-mod, add-mod-mod, add-mod-right, add-zero}
 use native.Mathlib.Omega.{arith}
-use Rattle.words.specs.Residue.{add-swap-mod, add-mod-cancel}
+use Rattle.words.specs.ResidueLaws.{add-swap-mod, add-mod-cancel}
 use Rattle.worksheet.specs.declared.Shares.{Shares}
-use Rattle.worksheet.specs.Sharing.{shares, share}
+use Rattle.worksheet.specs.Sharing.{shares}
+use Rattle.worksheet.specs.SharingLaws.{share}
 
 -- z is a sharing of X
 pub record CoeffSharing (m X : ℕ) (z : Shares) : Type 0 where

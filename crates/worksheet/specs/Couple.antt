@@ -5,8 +5,9 @@ use native.Mathlib.Nat.{zero-add, suc-add, add-zero}
 use lib.Dec.{eqb}
 use Rattle.worksheet.specs.Prog.{Mask, bound, Prog, ret, draw, enter, _>>=_}
 use Rattle.worksheet.specs.Gives.{Gives, ret-g, draw-g, enter-g}
-use Rattle.worksheet.specs.Sum.{Perm, sum-cong, sum-perm, when}
-use Rattle.worksheet.specs.Count.{total, hits}
+use Rattle.worksheet.specs.Sum.{when}
+use Rattle.worksheet.specs.SumLaws.{Perm, sum-cong, sum-perm}
+use Rattle.worksheet.specs.CountLaws.{total, hits}
 
 -- The draws can be matched so that the results are related by R; the permutation of each draw may depend on all that was
 -- drawn before. Both programs make n entries.

@@ -7,8 +7,7 @@ use native.Mathlib.Nat.{zero-mul, suc-mul}
 use native.Mathlib.Omega.{arith}
 use lib.ListN.{getD}
 use Rattle.worksheet.specs.Prog.{Prog, _>>=_, loop, snoc, times, chain}
-use Rattle.worksheet.specs.Couple.{Coupled, ret-c, Any, Like, Silent, SameAt}
-use Rattle.worksheet.specs.Couple.{coupled-bind, coupled-map, sameAt-left, sameAt-right, sameAt-map}
+use Rattle.worksheet.specs.Couple.{Coupled, ret-c, Any, Like, Silent, SameAt, coupled-bind, coupled-map, sameAt-left, sameAt-right, sameAt-map}
 use Rattle.worksheet.specs.Places.{turns}
 use Rattle.worksheet.specs.Turns.{Turns, turns-nil, turns-snoc}
 

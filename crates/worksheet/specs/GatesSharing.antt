@@ -5,7 +5,7 @@ use Rattle.words.specs.WordLaws.{low-bits}
 use Rattle.worksheet.specs.declared.Shares.{Shares}
 use Rattle.worksheet.specs.Prog.{_>>=_, mask, maskLow, entry}
 use Rattle.worksheet.specs.Gives.{Gives, ret-g, draw-g, enter-g, gives-bind}
-use Rattle.worksheet.specs.Sharing.{Sharing, sharing-xorShares, sharing-notShares}
+use Rattle.worksheet.specs.SharingLaws.{Sharing, sharing-xorShares, sharing-notShares}
 use Rattle.worksheet.specs.MaskedAnd.{maskedAnd}
 use Rattle.worksheet.specs.MaskedAndSilence.{sharing-result}
 use Rattle.worksheet.specs.Gates.{maskedNot, maskedXor, maskedOr}

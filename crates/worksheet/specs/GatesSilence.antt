@@ -8,11 +8,10 @@ use Rattle.words.specs.Word.{Bits, xor, and, complement, or}
 use Rattle.words.specs.WordLaws.{xor-bits, and-bits, zero-bits}
 use Rattle.worksheet.specs.declared.Shares.{Shares}
 use Rattle.worksheet.specs.Prog.{Prog, _>>=_, entry}
-use Rattle.worksheet.specs.Couple.{Coupled, ret-c, enter-c, Like, SameAt, here, there}
-use Rattle.worksheet.specs.Couple.{coupled-bind, sameAt-left, sameAt-right}
+use Rattle.worksheet.specs.Couple.{Coupled, ret-c, enter-c, Like, SameAt, here, there, coupled-bind, sameAt-left, sameAt-right}
 use Rattle.worksheet.specs.Places.{cut}
-use Rattle.worksheet.specs.Sharing.{share, Sharing, Apart, sharing-bits, apart-xor, share-keep, keep-bits}
-use Rattle.worksheet.specs.Sharing.{xorShares, apart-xorShares, apart-xor-add, sharing-notShares, apart-notShares, share-notShares}
+use Rattle.worksheet.specs.SharingLaws.{share, Sharing, Apart, sharing-bits, apart-xor, share-keep, keep-bits}
+use Rattle.worksheet.specs.SharingLaws.{xorShares, apart-xorShares, apart-xor-add, sharing-notShares, apart-notShares, share-notShares}
 use Rattle.worksheet.specs.MaskedAnd.{maskedAnd}
 use Rattle.worksheet.specs.MaskedAndSilence.{like-maskedAnd, coupled-maskedAnd, sameAt-maskedAnd, readsLeft, readsRight}
 use Rattle.worksheet.specs.Gates.{maskedNot, maskedXor, maskedOr}

@@ -3,7 +3,8 @@ use Prim.Native.Nat.{ℕ, zero, suc, _<_}
 use mathlib.Core.List.{List}
 use native.Mathlib.Omega.{arith}
 use lib.ListN.{getD}
-use Rattle.words.specs.Bounded.{Below, below-drop}
+use Rattle.words.specs.Bounded.{Below}
+use Rattle.words.specs.BoundedLaws.{below-drop}
 use Rattle.worksheet.specs.Prog.{Mask, word, coeff, bound, Prog, ret, draw, enter, _>>=_, loop, times, chain}
 use Rattle.worksheet.specs.Run.{run}
 use Rattle.worksheet.specs.Turns.{Each, each-nil, each-snoc}

@@ -4,8 +4,10 @@ use mathlib.Core.Path.{_≡_, refl, ap, _∙_}
 use mathlib.Core.Bool.{Bool, true, false}
 use mathlib.Core.List.{List, [], _∷_}
 use lib.ListN.{length, replicate}
-use Rattle.words.specs.Bounded.{Below, below-nil, below-cons}
-use Rattle.worksheet.specs.Sum.{sum-cong, sum-zero, when}
+use Rattle.words.specs.Bounded.{Below}
+use Rattle.words.specs.BoundedLaws.{below-nil, below-cons}
+use Rattle.worksheet.specs.Sum.{when}
+use Rattle.worksheet.specs.SumLaws.{sum-cong, sum-zero}
 use Rattle.worksheet.specs.Count.{tally}
 
 pub tally-below : (n b : ℕ) → 0 < b → {f g : List ℕ → ℕ} → ((xs : List ℕ) → length xs ≡ n → Below b xs → f xs ≡ g xs)

@@ -8,7 +8,9 @@ pub mod Uses
 pub mod Turns
 pub mod Gives
 pub mod Sum
+pub mod SumLaws
 pub mod Count
+pub mod CountLaws
 pub mod InRange
 pub mod Couple
 pub mod Places
@@ -17,12 +19,17 @@ pub mod Stage
 pub mod Matching
 pub mod Straight
 pub mod Sharing
+pub mod SharingLaws
 pub mod SharedList
+pub mod SharedListLaws
 pub mod Choice
 pub mod CoeffSharing
 pub mod Pass
+pub mod PassLaws
 pub mod MaskedAnd
+pub mod MaskedAndLaws
 pub mod Gates
+pub mod GatesLaws
 pub mod MaskedAndSilence
 pub mod GatesSharing
 pub mod GatesSilence

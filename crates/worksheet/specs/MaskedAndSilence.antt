@@ -14,8 +14,10 @@ use Rattle.worksheet.specs.Prog.{_>>=_, mask, maskLow, entry}
 use Rattle.worksheet.specs.Couple.{Coupled, ret-c, draw-c, Like, SameAt}
 use Rattle.worksheet.specs.Matching.{identity, coupled-maskLow, sameAt-maskLow}
 use Rattle.worksheet.specs.Straight.{coupled-enterAll, sameAt-enterAll}
-use Rattle.worksheet.specs.Sharing.{shares, share, Sharing, Apart}
-use Rattle.worksheet.specs.MaskedAnd.{maskedAnd, joined-and}
+use Rattle.worksheet.specs.Sharing.{shares}
+use Rattle.worksheet.specs.SharingLaws.{share, Sharing, Apart}
+use Rattle.worksheet.specs.MaskedAnd.{maskedAnd}
+use Rattle.worksheet.specs.MaskedAndLaws.{joined-and}
 
 -- its entries and its result with the mask r
 abbrev entries : ℕ → Shares → Shares → List ℕ

@@ -5,7 +5,7 @@ use native.Mathlib.Omega.{arith}
 use Rattle.words.specs.Word.{Bits, xor, low}
 use Rattle.words.specs.WordLaws.{xor-bits, bits-mono, low-bits, low-xor, low-of-bits, xor-xor-cancel}
 use Rattle.worksheet.specs.Prog.{word, coeff, bound, Prog, _>>=_, mask, maskLow}
-use Rattle.worksheet.specs.Sum.{Perm}
+use Rattle.worksheet.specs.SumLaws.{Perm}
 use Rattle.worksheet.specs.Couple.{Coupled, draw-c, SameAt, under}
 
 -- each mask with itself

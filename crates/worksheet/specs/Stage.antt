@@ -3,8 +3,7 @@ use Prim.Native.Nat.{ℕ, zero, suc, _+_, _*_, _<_}
 use native.Mathlib.Nat.{zero-mul, suc-mul}
 use native.Mathlib.Omega.{arith}
 use Rattle.worksheet.specs.Prog.{Prog, ret, _>>=_, loop, times, bind-assoc}
-use Rattle.worksheet.specs.Couple.{Coupled, ret-c, Any, Like, SameAt}
-use Rattle.worksheet.specs.Couple.{coupled-bind, coupled-map, sameAt-left, sameAt-right, sameAt-map}
+use Rattle.worksheet.specs.Couple.{Coupled, ret-c, Any, Like, SameAt, coupled-bind, coupled-map, sameAt-left, sameAt-right, sameAt-map}
 use Rattle.worksheet.specs.CoupleLoops.{coupled-times, like-times, sameAt-times}
 use Rattle.worksheet.specs.Places.{cut, turns}
 use Rattle.worksheet.specs.Turns.{Turns}

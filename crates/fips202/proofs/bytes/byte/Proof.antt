@@ -1,7 +1,7 @@
 use Prim.Native.Nat.{_*_, _^_}
 use borrow.Author.Needs.{needs}
 use lib.Dec.{eqb, eqb→eq}
-use Rattle.words.specs.Table.{every-at}
+use Rattle.words.specs.TableLaws.{every-at}
 use Rattle.fips202.proofs.bytes.byte.Statement.{statement}
 use Rattle.fips202.proofs.bytes.byte.Tie as tie
 

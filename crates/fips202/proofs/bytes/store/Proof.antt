@@ -6,7 +6,7 @@ use native.Mathlib.Omega.{arith}
 use lib.ListN.{length, length-set, drop-of-length-le}
 use lib.Seq.{sets, sets-eq}
 use Rattle.words.specs.Tab.{tab}
-use Rattle.words.specs.Numeral.{digits-tab}
+use Rattle.words.specs.NumeralLaws.{digits-tab}
 use Rattle.fips202.proofs.bytes.store.Statement.{statement}
 use Rattle.fips202.proofs.bytes.store.Tie as tie
 

@@ -5,7 +5,8 @@ use borrow.Author.Needs.{needs}
 use native.Mathlib.Omega.{arith}
 use lib.ListN.{getD}
 use Rattle.words.specs.Tab.{tab, tab-cong}
-use Rattle.words.specs.Numeral.{digits, digits-tab}
+use Rattle.words.specs.Numeral.{digits}
+use Rattle.words.specs.NumeralLaws.{digits-tab}
 use Rattle.words.specs.Fill.{Filled, filled-start, filled-turn, filled-part, filled-end}
 use Rattle.fips202.specs.Sponge.{byteOf}
 use Rattle.fips202.proofs.squeeze.extract.Statement.{statement}

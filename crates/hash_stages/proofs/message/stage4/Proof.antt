@@ -7,7 +7,8 @@ use Rattle.worksheet.specs.Prog.{times}
 use Rattle.worksheet.specs.Ran.{Ran, bind, over, next-coeff}
 use Rattle.worksheet.specs.RanLoops.{times-start, times-turn}
 use Rattle.worksheet.specs.Sharing.{none}
-use Rattle.worksheet.specs.SharedList.{sharedList, zip, zip-zero, zip-set, unzip-zip}
+use Rattle.worksheet.specs.SharedList.{sharedList, zip}
+use Rattle.worksheet.specs.SharedListLaws.{zip-zero, zip-set, unzip-zip}
 use Rattle.masked_sampler.specs.Coefficient.{bitToCoeff}
 use Rattle.mlkem.specs.Worksheet.{bitOf, stage4}
 use borrow.Author.Needs.{needs}

@@ -2,7 +2,8 @@ use native.Mathlib.Omega.{arith}
 use lib.ListN.{drop}
 use Rattle.worksheet.specs.Ran.{bind, over}
 use Rattle.worksheet.specs.Sharing.{none}
-use Rattle.worksheet.specs.SharedList.{sharedList, unzip-zip}
+use Rattle.worksheet.specs.SharedList.{sharedList}
+use Rattle.worksheet.specs.SharedListLaws.{unzip-zip}
 use Rattle.mlkem.specs.Worksheet.{noisePoly}
 use borrow.Author.Needs.{needs}
 use Rattle.hash_stages.proofs.noise.noise_poly.Statement.{statement}

@@ -2,7 +2,7 @@ use Prim.Native.Nat.{_+_, _-_, _*_, _≤_}
 use mathlib.Core.Path.{_≡_}
 use native.Mathlib.Omega.{arith}
 use lib.ListN.{length, length-append, length-take, length-drop, drop}
-use Rattle.words.specs.Bounded.{below-take, below-drop}
+use Rattle.words.specs.BoundedLaws.{below-take, below-drop}
 use Rattle.worksheet.specs.Prog.{times}
 use Rattle.worksheet.specs.Ran.{Ran, part-words, part-coeffs}
 use Rattle.worksheet.specs.RanLoops.{times-start, times-turn}

@@ -3,11 +3,12 @@ use mathlib.Core.Path.{_≡_}
 use mathlib.Core.List.{List}
 use native.Mathlib.Omega.{arith}
 use lib.ListN.{length, length-set, length-take, length-drop, drop}
-use Rattle.words.specs.Bounded.{below-take, below-drop}
+use Rattle.words.specs.BoundedLaws.{below-take, below-drop}
 use Rattle.worksheet.specs.Prog.{times}
 use Rattle.worksheet.specs.Ran.{Ran, part-coeffs}
 use Rattle.worksheet.specs.RanLoops.{times-start, times-turn}
-use Rattle.worksheet.specs.SharedList.{sharedList, zip, zip-zero, zip-set}
+use Rattle.worksheet.specs.SharedList.{sharedList, zip}
+use Rattle.worksheet.specs.SharedListLaws.{zip-zero, zip-set}
 use Rattle.masked_sampler.specs.Coefficient.{sampler}
 use Rattle.mlkem.specs.Worksheet.{bitOf}
 use Rattle.hash_stages.proofs.Sampled.{sampled}

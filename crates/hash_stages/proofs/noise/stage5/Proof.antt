@@ -3,7 +3,7 @@ use mathlib.Core.Path.{_≡_, ap}
 use native.Mathlib.Nat.{zero-add}
 use native.Mathlib.Omega.{arith}
 use lib.ListN.{length, length-take, length-drop}
-use Rattle.words.specs.Bounded.{below-take, below-drop}
+use Rattle.words.specs.BoundedLaws.{below-take, below-drop}
 use Rattle.worksheet.specs.Prog.{times, times-cong}
 use Rattle.worksheet.specs.Ran.{bind, over, part-words, part-coeffs}
 use Rattle.worksheet.specs.SharedList.{SharedList, sharedList}

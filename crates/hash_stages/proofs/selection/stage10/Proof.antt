@@ -7,7 +7,8 @@ use Rattle.worksheet.specs.Prog.{times}
 use Rattle.worksheet.specs.Ran.{Ran, bind, over, next-bits}
 use Rattle.worksheet.specs.RanLoops.{times-start, times-turn}
 use Rattle.worksheet.specs.Sharing.{none}
-use Rattle.worksheet.specs.SharedList.{sharedList, sharedAt, zip, zip-zero, zip-set, unzip-zip}
+use Rattle.worksheet.specs.SharedList.{sharedList, sharedAt, zip}
+use Rattle.worksheet.specs.SharedListLaws.{zip-zero, zip-set, unzip-zip}
 use Rattle.masked_comparison.specs.Comparison.{select}
 use Rattle.mlkem.specs.Worksheet.{stage10}
 use borrow.Author.Needs.{needs}

@@ -1,7 +1,7 @@
 use mathlib.Core.Path.{_≡_, refl, ap, _∙_}
 use Prim.Native.Nat.{_+_, _-_, _*_}
 use native.Mathlib.Omega.{arith}
-use Rattle.words.specs.Bounded.{below-take, below-drop}
+use Rattle.words.specs.BoundedLaws.{below-take, below-drop}
 use Rattle.codec.specs.Bytes.{byteEncode}
 use Rattle.kpke.specs.KPke.{parts}
 use Rattle.kpke.proofs.Joined.{Joined, part-span, length-span, joined-start, joined-fits, joined-turn, joined-end}

@@ -1,7 +1,7 @@
 use Prim.Native.Nat.{_-_, _/_, _^_}
 use lib.Dec.{eqb, leb, eqb→eq, leb→le}
 use borrow.Author.Needs.{needs}
-use Rattle.words.specs.Table.{every-at}
+use Rattle.words.specs.TableLaws.{every-at}
 use Rattle.masked_comparison.proofs.comparison.half_width.Statement.{statement}
 use Rattle.masked_comparison.proofs.comparison.half_width.Tie as tie
 

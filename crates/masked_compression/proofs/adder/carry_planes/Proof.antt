@@ -8,7 +8,8 @@ use Rattle.worksheet.specs.Ran.{Ran, next-bits}
 use Rattle.worksheet.specs.RanLoops.{chain-start, chain-turn}
 use Rattle.worksheet.specs.Sharing.{none}
 use Rattle.masked_compression.specs.Adder.{at, carryStep}
-use Rattle.worksheet.specs.SharedList.{sharedList, zip, zip-set, getD-zip, zip-one}
+use Rattle.worksheet.specs.SharedList.{sharedList, zip}
+use Rattle.worksheet.specs.SharedListLaws.{zip-set, getD-zip, zip-one}
 use borrow.Author.Needs.{needs}
 use Rattle.masked_compression.proofs.adder.carry_planes.Statement.{statement}
 use Rattle.masked_compression.proofs.adder.carry_planes.Tie as tie

@@ -6,7 +6,8 @@ use lib.ListN.{length, length-set, getD, drop}
 use Rattle.worksheet.specs.Ran.{Ran, bind, over, draws-word, next-word}
 use Rattle.worksheet.specs.RanLoops.{times-start, times-turn}
 use Rattle.masked_compression.specs.Adder.{maskPlane, maskPlanes}
-use Rattle.worksheet.specs.SharedList.{sharedList, zip, zip-zero, zip-set}
+use Rattle.worksheet.specs.SharedList.{sharedList, zip}
+use Rattle.worksheet.specs.SharedListLaws.{zip-zero, zip-set}
 use borrow.Author.Needs.{needs}
 use Rattle.masked_compression.proofs.adder.mask_planes.Statement.{statement}
 use Rattle.masked_compression.proofs.adder.mask_planes.Tie as tie

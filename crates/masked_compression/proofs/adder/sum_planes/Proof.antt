@@ -7,7 +7,8 @@ use Rattle.worksheet.specs.Ran.{Ran, bind, over}
 use Rattle.worksheet.specs.RanLoops.{times-start, times-turn}
 use Rattle.worksheet.specs.Prog.{times}
 use Rattle.masked_compression.specs.Adder.{at, sumPlane}
-use Rattle.worksheet.specs.SharedList.{sharedList, zip, zip-zero, zip-set, getD-zip}
+use Rattle.worksheet.specs.SharedList.{sharedList, zip}
+use Rattle.worksheet.specs.SharedListLaws.{zip-zero, zip-set, getD-zip}
 use borrow.Author.Needs.{needs}
 use Rattle.masked_compression.proofs.adder.sum_planes.Statement.{statement}
 use Rattle.masked_compression.proofs.adder.sum_planes.Tie as tie

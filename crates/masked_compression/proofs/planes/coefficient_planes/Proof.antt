@@ -6,7 +6,8 @@ use lib.ListN.{getD, length}
 use borrow.Author.Needs.{needs}
 use Rattle.words.specs.Digit.{digit}
 use Rattle.words.specs.Fill.{Filled, filled-start, filled-turn, filled-end, filled-at}
-use Rattle.words.specs.Plane.{plane, plane-cong}
+use Rattle.words.specs.Plane.{plane}
+use Rattle.words.specs.PlaneLaws.{plane-cong}
 use Rattle.words.specs.Tab.{getD-tab, length-tab}
 use Rattle.masked_compression.proofs.planes.coefficient_planes.Statement.{statement}
 use Rattle.masked_compression.proofs.planes.coefficient_planes.Tie as tie

@@ -1,6 +1,7 @@
 use mathlib.Core.Path.{refl}
 use borrow.Author.Needs.{needs}
-use Rattle.words.specs.Digit.{digit, digit-lt}
+use Rattle.words.specs.Digit.{digit}
+use Rattle.words.specs.DigitLaws.{digit-lt}
 use Rattle.masked_sampler.proofs.coefficient.bit_of.Statement.{statement}
 use Rattle.masked_sampler.proofs.coefficient.bit_of.Tie as tie
 

@@ -7,7 +7,8 @@ use Rattle.worksheet.specs.Prog.{times}
 use Rattle.worksheet.specs.Ran.{Ran, next-coeff}
 use Rattle.worksheet.specs.RanLoops.{times-start, times-turn}
 use Rattle.masked_sampler.specs.Coefficient.{bitOf, bitToCoeff, weight}
-use Rattle.worksheet.specs.SharedList.{sharedList, zip, zip-zero, zip-set}
+use Rattle.worksheet.specs.SharedList.{sharedList, zip}
+use Rattle.worksheet.specs.SharedListLaws.{zip-zero, zip-set}
 use borrow.Author.Needs.{needs}
 use Rattle.masked_sampler.proofs.sampler.convert_bits.Statement.{statement}
 use Rattle.masked_sampler.proofs.sampler.convert_bits.Tie as tie

@@ -1,7 +1,7 @@
 use Prim.Native.Nat.{_+_, _-_, _*_}
 use mathlib.Core.Path.{_≡_}
 use native.Mathlib.Omega.{arith}
-use Rattle.words.specs.Bounded.{below-take, below-drop}
+use Rattle.words.specs.BoundedLaws.{below-take, below-drop}
 use Rattle.worksheet.specs.SharedList.{sharedList, sharedAt, zip}
 use Rattle.masked_compression.specs.Compression.{maskedCompress}
 use Rattle.mlkem.specs.Worksheet.{compressPoly}

@@ -1,7 +1,7 @@
 use Prim.Native.Nat.{ℕ, _+_, _-_, _*_}
 use mathlib.Core.Path.{_≡_, ap}
 use native.Mathlib.Omega.{arith}
-use Rattle.words.specs.Bounded.{below-take, below-drop}
+use Rattle.words.specs.BoundedLaws.{below-take, below-drop}
 use Rattle.worksheet.specs.SharedList.{sharedList}
 use Rattle.mlkem.specs.Worksheet.{compressPoly}
 use Rattle.kpke.proofs.Joined.{part-span, length-span}

@@ -4,7 +4,8 @@ use native.Mathlib.Nat.{add-mod}
 use native.Mathlib.Omega.{arith}
 use lib.ListN.{getD, set}
 use borrow.Author.Needs.{needs}
-use Rattle.words.specs.Residue.{q, mul-mod-mod}
+use Rattle.words.specs.Residue.{q}
+use Rattle.words.specs.ResidueLaws.{mul-mod-mod}
 use Rattle.ring.specs.Polynomial.{minus}
 use Rattle.ring.specs.Transform.{inverseButterfly}
 use Rattle.ring.proofs.transform.inverse_butterfly_at.Statement.{statement}

@@ -1,4 +1,4 @@
--- Import: which keys it accepts, and that the shares it makes join to the key.
+-- Import answers done for accepted keys alone, and the shares that it makes join to the key.
 use mathlib.Core.Path.{_≡_, ap, _∙_}
 use mathlib.Core.Bool.{true}
 use mathlib.Core.List.{List, [], _++_}
@@ -8,26 +8,22 @@ use native.Mathlib.Omega.{arith}
 use lib.ListN.{length, getD, take}
 use Rattle.words.specs.Word.{xor}
 use Rattle.words.specs.WordLaws.{xor-comm, xor-xor-cancel}
-use Rattle.words.specs.Residue.{q, sub-add-mod}
+use Rattle.words.specs.Residue.{q}
+use Rattle.words.specs.ResidueLaws.{sub-add-mod}
 use Rattle.words.specs.Bounded.{Below}
 use Rattle.words.specs.Tab.{getD-tab}
 use Rattle.fips202.specs.Sponge.{laneOf}
 use Rattle.mlkem.specs.declared.Answer.the-variants.{Done, WrongLength, PublicKeyRange, WrongHash, SecretRange, MaskRange}
-use Rattle.kpke.specs.Parameters.{Parameters, vectorBytes, ekBytes, dkBytes}
+use Rattle.kpke.specs.Parameters.{Parameters, vectorBytes, ekBytes}
 use Rattle.kpke.specs.Functions.{H}
 use Rattle.mlkem.specs.MlKem.{same, secretPart, publicPart, hashPart, zPart}
 use Rattle.mlkem.specs.Refusals.{number, Row, answer, reduced}
 use Rattle.mlkem.specs.RefusalLaws.{passed, no-row, done-passed, sized-exact, exact-sized}
 use Rattle.mlkem.specs.TestLaws.{reduced-below}
 use Rattle.kpke.specs.KPke.{coefficients}
-use Rattle.mlkem.specs.Calls.{keyRows, importAnswer, secondCoeffs, secondWords}
+use Rattle.mlkem.specs.Calls.{keyRows, importAnswer, Accepted, secondCoeffs, secondWords}
 
 module _ (p : Parameters) where
-  -- a key that import does not refuse, its other arguments being in order
-  pub record Accepted (dk : List ℕ) : Type 0 where
-    pub long : length dk ≡ dkBytes p
-    pub rows : answer (keyRows p dk) ≡ Done
-
   -- the tests of rows 2 to 4
   record Tested (dk : List ℕ) : Type 0 where
     public : reduced (coefficients (p .k) (take (vectorBytes p) (publicPart p dk))) ≡ true
@@ -48,25 +44,25 @@ module _ (p : Parameters) where
   rows-passed rs t h = passed PublicKeyRange _ (t .public) (passed WrongHash _ (t .hash) (passed SecretRange rs (t .secret) h))
 
   module _ (dk a w s0 s1 z0 z1 h : List ℕ) where
-    pub import-accepted : importAnswer p dk a w s0 s1 z0 z1 h ≡ Done → Accepted dk
+    pub import-accepted : importAnswer p dk a w s0 s1 z0 z1 h ≡ Done → Accepted p dk
     unfolding importAnswer keyRows
     import-accepted e =
         let f = done-passed _ WrongLength _ (omega arith) e in
         record { long = sized-exact _ (f .0) .0; rows = rows-passed [] (tested dk _ (f .1)) no-row }
 
-    pub accepted-import : Accepted dk → length a ≡ 256 * p .k → length w ≡ 4 → length s0 ≡ 256 * p .k → length s1 ≡ 256 * p .k → length z0 ≡ 4
+    pub accepted-import : Accepted p dk → length a ≡ 256 * p .k → length w ≡ 4 → length s0 ≡ 256 * p .k → length s1 ≡ 256 * p .k → length z0 ≡ 4
         → length z1 ≡ 4 → length h ≡ ekBytes p + 32 → reduced a ≡ true → importAnswer p dk a w s0 s1 z0 z1 h ≡ Done
     unfolding importAnswer keyRows
     accepted-import x e₂ e₃ e₄ e₅ e₆ e₇ e₈ r =
         passed WrongLength _ (exact-sized _ (x .long, (e₂, (e₃, (e₄, (e₅, (e₆, (e₇, (e₈, tt)))))))))
         (rows-passed _ (tested dk [] (x .rows)) (passed MaskRange [] r no-row))
 
-  pub accepted-secret : {dk : List ℕ} → Accepted dk → Below q (coefficients (p .k) (secretPart p dk))
+  pub accepted-secret : {dk : List ℕ} → Accepted p dk → Below q (coefficients (p .k) (secretPart p dk))
   unfolding keyRows
   accepted-secret {dk} x = reduced-below (coefficients (p .k) (secretPart p dk)) (tested dk [] (x .rows) .secret)
 
   -- the split of an accepted key joins to it
-  pub join-coefficients : {dk : List ℕ} (a : List ℕ) (i : ℕ) → Accepted dk → Below q a → i < 256 * p .k
+  pub join-coefficients : {dk : List ℕ} (a : List ℕ) (i : ℕ) → Accepted p dk → Below q a → i < 256 * p .k
       → (getD a i 0 + getD (secondCoeffs p dk a) i 0) % q ≡ getD (coefficients (p .k) (secretPart p dk)) i 0
   unfolding secondCoeffs
   join-coefficients {dk} a i x b h =
