@@ -11,17 +11,7 @@ use mlkem::Answer;
 pub fn key_refusal(answer: Answer) -> u32
     ensures { λ r. ⌜ r ≡ number answer ⌝ }
 {
-    match answer {
-        Answer::Done => 0,
-        Answer::WrongLength => 1,
-        Answer::PublicKeyRange => 2,
-        Answer::WrongHash => 3,
-        Answer::SecretRange => 4,
-        Answer::MaskRange => 5,
-        Answer::ShareRange => 6,
-        Answer::ShortStream => 7,
-        Answer::NoSuchStep => 8,
-    }
+    mlkem::number(answer) as u32
 }
 
 #[no_mangle]

@@ -1,25 +1,8 @@
 // Refused calls.
-ghost use mathlib.Core.Path.{_≡_};
-ghost use Rattle.mlkem.specs.Refusals.{number as numberOf};
 use crate::messages::say;
 use libc::STDERR_FILENO;
 use mlkem::Answer;
-
-fn number(answer: Answer) -> u64
-    ensures { λ r. ⌜ r ≡ numberOf answer ⌝ }
-{
-    match answer {
-        Answer::Done => 0,
-        Answer::WrongLength => 1,
-        Answer::PublicKeyRange => 2,
-        Answer::WrongHash => 3,
-        Answer::SecretRange => 4,
-        Answer::MaskRange => 5,
-        Answer::ShareRange => 6,
-        Answer::ShortStream => 7,
-        Answer::NoSuchStep => 8,
-    }
-}
+use mlkem::number;
 
 // The condition in document 01's words.
 fn say_condition(answer: Answer) {

@@ -9,10 +9,10 @@ use crate::little_endian::get_words;
 pub fn unpack(b: &[u8], words: &mut [u64], coeffs: &mut [u16])
     requires { ⌜ (length (now b) ≡ 108848) × (length (now words) ≡ 11750) × (length (now coeffs) ≡ 7424) ⌝ }
     ensures { λ _. ⌜ now (words .exit) ≡ numbers 8 11750 (take 94000 (now (b .entry))) ⌝ }
-    ensures { λ _. ⌜ now (coeffs .exit) ≡ numbers 2 7424 (take 14848 (drop 94000 (now (b .entry)))) ⌝ }
+    ensures { λ _. ⌜ now (coeffs .exit) ≡ numbers 2 7424 (drop 94000 (now (b .entry))) ⌝ }
 {
     get_words(&b[0..94000], words);
-    get_coefficients(&b[94000..108848], coeffs);
+    get_coefficients(&b[94000..], coeffs);
 }
 
 fn zeros() -> [u8; 108848]

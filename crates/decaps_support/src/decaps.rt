@@ -3,7 +3,7 @@ ghost use mathlib.Core.Path.{_≡_};
 ghost use lib.ListN.{length};
 use crate::calls;
 use crate::prepare::prepare;
-use vector_support::answers::number;
+use mlkem::number;
 use vector_support::bytes::word_bytes;
 use vector_support::masks::Masks;
 

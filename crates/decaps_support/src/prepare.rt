@@ -1,7 +1,7 @@
 // What decapsulation gets: a split key and a strip, both under masks of a kind.
 ghost use mathlib.Core.Path.{_≡_};
 ghost use lib.ListN.{length};
-use vector_support::answers::number;
+use mlkem::number;
 use vector_support::masks;
 use vector_support::masks::Masks;
 

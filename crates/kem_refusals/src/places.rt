@@ -2,9 +2,9 @@
 ghost use mathlib.Core.Path.{_≡_};
 ghost use Prim.Native.Nat.{_+_, _<_, _≤_};
 ghost use lib.ListN.{length};
+use mlkem::number;
 use text::print;
 use text::print_decimal;
-use vector_support::answers::number;
 use vector_support::answers::print_number;
 use vector_support::bytes::copy;
 use vector_support::bytes::unchanged;
@@ -178,11 +178,9 @@ fn line(part: Part, dk: &[u8], n: usize, v: u16)
 }
 
 // Three values at each of n places.
-fn lines(name: &[u8], part: Part, dk: &[u8], n: usize, u: u16, v: u16, w: u16)
+fn lines(part: Part, dk: &[u8], n: usize, u: u16, v: u16, w: u16)
     requires { ⌜ (length (now dk) ≡ 2400) × (n ≤ 768) ⌝ }
 {
-    print(name);
-    print(b"\n");
     line(part, dk, n, u);
     line(part, dk, n, v);
     line(part, dk, n, w);
@@ -191,49 +189,14 @@ fn lines(name: &[u8], part: Part, dk: &[u8], n: usize, u: u16, v: u16, w: u16)
 pub fn run(dk: &[u8])
     requires { ⌜ length (now dk) ≡ 2400 ⌝ }
 {
-    lines(
-        b"encaps, each coefficient of the public key",
-        Part::EncapsPublicKey,
-        dk,
-        768,
-        3328,
-        3329,
-        4095,
-    );
-    lines(
-        b"import, each coefficient of the public key",
-        Part::ImportPublicKey,
-        dk,
-        768,
-        3328,
-        3329,
-        4095,
-    );
-    lines(
-        b"import, each byte of the hash xor",
-        Part::ImportHash,
-        dk,
-        32,
-        0,
-        1,
-        128,
-    );
-    lines(
-        b"import, each coefficient of the secret part",
-        Part::ImportSecret,
-        dk,
-        768,
-        3328,
-        3329,
-        4095,
-    );
-    lines(
-        b"import, each mask coefficient",
-        Part::ImportMask,
-        dk,
-        768,
-        3328,
-        3329,
-        65535,
-    );
+    print(b"encaps, each coefficient of the public key\n");
+    lines(Part::EncapsPublicKey, dk, 768, 3328, 3329, 4095);
+    print(b"import, each coefficient of the public key\n");
+    lines(Part::ImportPublicKey, dk, 768, 3328, 3329, 4095);
+    print(b"import, each byte of the hash xor\n");
+    lines(Part::ImportHash, dk, 32, 0, 1, 128);
+    print(b"import, each coefficient of the secret part\n");
+    lines(Part::ImportSecret, dk, 768, 3328, 3329, 4095);
+    print(b"import, each mask coefficient\n");
+    lines(Part::ImportMask, dk, 768, 3328, 3329, 65535);
 }

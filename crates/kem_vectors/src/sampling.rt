@@ -2,9 +2,9 @@
 ghost use mathlib.Core.Path.{_≡_};
 ghost use Prim.Native.Nat.{_≤_};
 ghost use lib.ListN.{length};
+use mlkem::number;
 use text::print;
 use text::print_hex;
-use vector_support::answers::number;
 use vector_support::answers::print_number;
 use vector_support::bytes::coefficient_bytes;
 use vector_support::bytes::fill;

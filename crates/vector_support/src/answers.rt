@@ -1,22 +1,8 @@
 // Answers of calls, printed.
 use mlkem::Answer;
+use mlkem::number;
 use text::print;
 use text::print_decimal;
-
-// Document 01's number of a refusal; 0 where the call is carried out.
-pub fn number(answer: Answer) -> u64 {
-    match answer {
-        Answer::Done => 0,
-        Answer::WrongLength => 1,
-        Answer::PublicKeyRange => 2,
-        Answer::WrongHash => 3,
-        Answer::SecretRange => 4,
-        Answer::MaskRange => 5,
-        Answer::ShareRange => 6,
-        Answer::ShortStream => 7,
-        Answer::NoSuchStep => 8,
-    }
-}
 
 pub fn print_number(n: u64) {
     if n == 0 {

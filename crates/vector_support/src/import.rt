@@ -1,11 +1,11 @@
 // Import, its buffers holding 238 in each byte before.
 ghost use mathlib.Core.Path.{_≡_};
 ghost use lib.ListN.{length};
-use crate::answers::number;
 use crate::bytes::coefficient_bytes;
 use crate::bytes::copy;
 use crate::bytes::unchanged;
 use crate::bytes::word_bytes;
+use mlkem::number;
 
 fn mask(i: usize) -> u16 {
     ((3328 + 1300 * (i % 3329)) % 3329) as u16
