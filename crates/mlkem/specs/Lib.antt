@@ -1,7 +1,7 @@
 pub mod MlKem
 pub mod Refusals
-pub mod RefusalLaws
 pub mod TestLaws
+pub mod RefusalLaws
 pub mod Calls
 pub mod Worksheet
 pub mod StripLengths

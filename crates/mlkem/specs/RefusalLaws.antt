@@ -1,8 +1,8 @@
 -- Laws of the rows, and of row 1's lengths.
 use mathlib.Core.Path.{_≡_, refl, ap, ap₂}
-use mathlib.Core.Bool.{Bool, true, false, not, cond, _&&_}
+use mathlib.Core.Bool.{Bool, true, false, not, _&&_}
 use mathlib.Core.List.{List, [], _∷_, _++_}
-use Prim.Native.Nat.{ℕ, _<_}
+use Prim.Native.Nat.{_<_}
 use native.Mathlib.Omega.{arith}
 use borrow.Author.Tests.{eqb-true, eq-eqb}
 use lib.Dec.{eqb}
@@ -10,6 +10,7 @@ use lib.ListN.{length}
 use Rattle.mlkem.specs.declared.Answer.{Answer}
 use Rattle.mlkem.specs.declared.Answer.the-variants.{Done}
 use Rattle.mlkem.specs.Refusals.{number, Row, row, answer, Lent, sized}
+use Rattle.mlkem.specs.TestLaws.{and-left, and-right}
 
 -- the answer is that of the first row whose test b fails
 module _ (a : Answer) (rs : List Row) {b : Bool} where
@@ -38,14 +39,12 @@ abbrev pub Exact : List Lent → Type 0
 Exact [] = Unit {0}
 Exact (b ∷ bs) = (length (b .list) ≡ b .size) × Exact bs
 
-both : (a : Bool) {b : Bool} → (a && b) ≡ true → (a ≡ true) × (b ≡ true)
-both true e = (refl, e)
-both false e = let z : _≡_ {A = ℕ} 0 1 = ap (λ (b : Bool). cond b 1 0) e in absurd (omega arith)
-
 pub sized-exact : (bs : List Lent) → sized bs ≡ true → Exact bs
 unfolding sized
 sized-exact [] e = tt
-sized-exact (b ∷ bs) e = let s = both (eqb (length (b .list)) (b .size)) e in (eqb-true (length (b .list)) (b .size) (s .0), sized-exact bs (s .1))
+sized-exact (b ∷ bs) e =
+    let c = eqb (length (b .list)) (b .size) in
+    (eqb-true (length (b .list)) (b .size) (and-left c (sized bs) e), sized-exact bs (and-right c (sized bs) e))
 
 pub exact-sized : (bs : List Lent) → Exact bs → sized bs ≡ true
 unfolding sized
@@ -62,4 +61,5 @@ pub sized-first : (bs cs : List Lent) → sized (bs ++ cs) ≡ true → sized bs
 unfolding sized
 sized-first [] cs e = refl
 sized-first (b ∷ bs) cs e =
-    let s = both (eqb (length (b .list)) (b .size)) e in ap₂ (λ (c d : Bool). c && d) (s .0) (sized-first bs cs (s .1))
+    let c = eqb (length (b .list)) (b .size) in
+    ap₂ (λ (x y : Bool). x && y) (and-left c (sized (bs ++ cs)) e) (sized-first bs cs (and-right c (sized (bs ++ cs)) e))

@@ -13,11 +13,11 @@ use Rattle.words.specs.BoundedLaws.{below-nil, below-cons, below-head, below-ta
 use Rattle.mlkem.specs.MlKem.{same}
 use Rattle.mlkem.specs.Refusals.{reduced}
 
-and-left : (a b : Bool) → (a && b) ≡ true → a ≡ true
+pub and-left : (a b : Bool) → (a && b) ≡ true → a ≡ true
 and-left true b h = refl
 and-left false b h = h
 
-and-right : (a b : Bool) → (a && b) ≡ true → b ≡ true
+pub and-right : (a b : Bool) → (a && b) ≡ true → b ≡ true
 and-right true b h = h
 and-right false b h = let z : _≡_ {A = Bool} false true = h in cc
 

@@ -1,4 +1,4 @@
--- The product in the transform's domain is linear in its second factor, for a first factor of any length up to 256.
+-- The coefficients of a product in the transform's domain; the product is linear in its second factor, for a first factor of any length up to 256.
 use mathlib.Core.Path.{_≡_, refl, sym, ap, ap₂, _∙_}
 use mathlib.Core.List.{List}
 use Prim.Native.Nat.{ℕ, zero, suc, _+_, _*_, _%_, _<_, _≤_}
@@ -50,30 +50,23 @@ module _ (f g s : List ℕ) where
       getD-set-other (set (turns m) (2 * m) (evenAt f g m)) (2 * m + 1) i (oddAt f g m) 0 (omega arith)
       ∙ getD-set-other (turns m) (2 * m) i (evenAt f g m) 0 (omega arith)
 
-  turns-even : (n m : ℕ) → m < n → 2 * m < length s → getD (turns n) (2 * m) 0 ≡ evenAt f g m
-  turns-even zero m h k = absurd (omega arith)
-  turns-even (suc n) m h k = go (decLt m n) (λ p. turns-even n m p k)
+  -- further turns keep them
+  turns-kept : (n m i : ℕ) → i < 2 * m → m ≤ n → getD (turns n) i 0 ≡ getD (turns m) i 0
+  turns-kept zero m i h l = absurd (omega arith)
+  turns-kept (suc n) m i h l = go (decLt n m) (turns-kept n m i h)
     where
-      go : Dec (m < n) → (m < n → getD (turns n) (2 * m) 0 ≡ evenAt f g m) → getD (turns (suc n)) (2 * m) 0 ≡ evenAt f g m
-      go (yes p) r = turn-before n (2 * m) (omega arith) ∙ r p
-      go (no p) r = let e : m ≡ n = omega arith in rw (← e) (turn-even m k)
-
-  turns-odd : (n m : ℕ) → m < n → 2 * m + 1 < length s → getD (turns n) (2 * m + 1) 0 ≡ oddAt f g m
-  turns-odd zero m h k = absurd (omega arith)
-  turns-odd (suc n) m h k = go (decLt m n) (λ p. turns-odd n m p k)
-    where
-      go : Dec (m < n) → (m < n → getD (turns n) (2 * m + 1) 0 ≡ oddAt f g m) → getD (turns (suc n)) (2 * m + 1) 0 ≡ oddAt f g m
-      go (yes p) r = turn-before n (2 * m + 1) (omega arith) ∙ r p
-      go (no p) r = let e : m ≡ n = omega arith in rw (← e) (turn-odd m k)
+      go : Dec (n < m) → (m ≤ n → getD (turns n) i 0 ≡ getD (turns m) i 0) → getD (turns (suc n)) i 0 ≡ getD (turns m) i 0
+      go (yes k) r = let e : m ≡ suc n = omega arith in rw e refl
+      go (no k) r = turn-before n i (omega arith) ∙ r (omega arith)
 
 module _ (f g : List ℕ) (m : ℕ) (h : m < 128) (l : length f ≡ 256) where
   pub getD-multiplyNtts-even : getD (multiplyNtts f g) (2 * m) 0 ≡ evenAt f g m
   unfolding multiplyNtts
-  getD-multiplyNtts-even = turns-even f g f 128 m h (omega arith)
+  getD-multiplyNtts-even = turns-kept f g f 128 (suc m) (2 * m) (omega arith) (omega arith) ∙ turn-even f g f m (omega arith)
 
   pub getD-multiplyNtts-odd : getD (multiplyNtts f g) (2 * m + 1) 0 ≡ oddAt f g m
   unfolding multiplyNtts
-  getD-multiplyNtts-odd = turns-odd f g f 128 m h (omega arith)
+  getD-multiplyNtts-odd = turns-kept f g f 128 (suc m) (2 * m + 1) (omega arith) (omega arith) ∙ turn-odd f g f m (omega arith)
 
 pub length-multiplyNtts : (f g : List ℕ) → length (multiplyNtts f g) ≡ length f
 unfolding multiplyNtts

@@ -1,5 +1,4 @@
 -- Bit planes: n values, of which plane j holds bit j of each.
-use mathlib.Core.List.{List, map}
 use Prim.Native.Nat.{ℕ}
 use Rattle.words.specs.Tab.{tab}
 use Rattle.words.specs.Numeral.{value}
@@ -8,7 +7,3 @@ use Rattle.words.specs.Digit.{digit}
 -- plane j of n values: its bit i is bit j of value i
 unfoldable pub plane : ℕ → (ℕ → ℕ) → ℕ → ℕ
 plane n v j = value 2 (tab n (λ i. digit j (v i)))
-
--- value i of a list of planes, the lowest first
-unfoldable pub number : ℕ → List ℕ → ℕ
-number i ps = value 2 (map (digit i) ps)

@@ -1,18 +1,18 @@
--- The bits of planes, and the values that planes hold.
+-- The bits of planes.
 use mathlib.Core.Path.{_≡_, sym, ap, _∙_}
 use mathlib.Core.List.{List, [], _∷_}
-use Prim.Native.Nat.{ℕ, zero, suc, _+_, _*_, _%_, _^_, _<_}
+use Prim.Native.Nat.{ℕ, zero, suc, _<_}
 use native.Mathlib.Omega.{arith}
 use lib.ListN.{getD}
 use Rattle.words.specs.Word.{Bits}
-use Rattle.words.specs.Tab.{tab, length-tab, getD-tab, map-tab, tab-cong}
+use Rattle.words.specs.Tab.{tab, length-tab, getD-tab, tab-cong}
 use Rattle.words.specs.Bounded.{Below}
 use Rattle.words.specs.BoundedLaws.{below-head, below-tail, below-tab}
-use Rattle.words.specs.Numeral.{value, digits}
-use Rattle.words.specs.NumeralLaws.{value-snoc, value-lt, value-head, value-tail, value-digits, digits-tab}
+use Rattle.words.specs.Numeral.{value}
+use Rattle.words.specs.NumeralLaws.{value-lt, value-head, value-tail}
 use Rattle.words.specs.Digit.{digit}
 use Rattle.words.specs.DigitLaws.{digit-lt, digit-zero, digit-low, digit-half}
-use Rattle.words.specs.Plane.{number, plane}
+use Rattle.words.specs.Plane.{plane}
 
 pub plane-cong : (n j k : ℕ) (v w : ℕ → ℕ) → ((i : ℕ) → i < n → digit j (v i) ≡ digit k (w i)) → plane n v j ≡ plane n w k
 unfolding plane
@@ -29,10 +29,6 @@ digit-value (x ∷ l) h (suc i) =
     ∙ ap (digit i) (value-tail (value 2 l) (below-head h))
     ∙ digit-value l (below-tail h) i
 
-bits-tab : (m x : ℕ) → digits 2 m x ≡ tab m (λ j. digit j x)
-unfolding digit
-bits-tab m x = digits-tab 2 m x
-
 module _ (n : ℕ) (v : ℕ → ℕ) where
   planes-below : (j : ℕ) → Below 2 (tab n (λ i. digit j (v i)))
   planes-below j = below-tab n (omega arith) (λ i h. digit-lt j (v i))
@@ -44,17 +40,3 @@ module _ (n : ℕ) (v : ℕ → ℕ) where
   pub digit-plane : (i j : ℕ) → i < n → digit i (plane n v j) ≡ digit j (v i)
   unfolding plane
   digit-plane i j h = digit-value (tab n (λ i. digit j (v i))) (planes-below j) i ∙ getD-tab n (λ i. digit j (v i)) i 0 h
-
-  -- one more value
-  pub plane-suc : (j : ℕ) → plane (suc n) v j ≡ plane n v j + digit j (v n) * 2 ^ n
-  unfolding plane tab
-  plane-suc j =
-      value-snoc 2 (tab n (λ i. digit j (v i))) (digit j (v n))
-      ∙ ap (λ (k : ℕ). plane n v j + digit j (v n) * 2 ^ k) (length-tab n (λ i. digit j (v i)))
-
-  -- m planes hold the values modulo 2^m
-  pub number-planes : (m i : ℕ) → i < n → number i (tab m (plane n v)) ≡ v i % 2 ^ m
-  unfolding number
-  number-planes m i h =
-      ap (value 2) (map-tab (digit i) m (plane n v) ∙ tab-cong m (λ j g. digit-plane i j h) ∙ sym (bits-tab m (v i)))
-      ∙ value-digits 2 m (v i) (omega arith)
