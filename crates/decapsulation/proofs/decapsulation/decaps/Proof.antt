@@ -5,15 +5,6 @@ use borrow.Author.Needs.{needs}
 use Rattle.decapsulation.proofs.decapsulation.decaps.Statement.{statement}
 use Rattle.decapsulation.proofs.decapsulation.decaps.Tie as tie
 
-decapsulate-requires : tie.Need-decapsulate-requires
-decapsulate-requires c κs = search needs
-
-same-length : tie.Need-same-length
-same-length c = search needs
-
-same-length-2 : tie.Need-same-length-2
-same-length-2 c = search needs
-
 returns : tie.Need-returns
 returns c =
     let a = c .before .before .before .before .before .before .before .before .before .before .before .before .before .before .before .before .before .before .args in
@@ -22,4 +13,4 @@ returns c =
     (d .ensures .0 ∙ told-decaps g (a .k0 .now) (a .k1 .now), (d .ensures .1 .0, d .ensures .1 .1 .0))
 
 pub decaps-spec : {M : Type 1} → statement M
-decaps-spec = tie.close (tie.spec decapsulate-requires same-length same-length-2 returns)
+decaps-spec = tie.close (tie.spec (λ c κs. search needs) (λ c. search needs) (λ c. search needs) returns)

@@ -6,18 +6,6 @@ use borrow.Author.Needs.{needs}
 use Rattle.decapsulation.proofs.decapsulation.trace.Statement.{statement}
 use Rattle.decapsulation.proofs.decapsulation.trace.Tie as tie
 
-left-of-requires : tie.Need-left-of-requires
-left-of-requires c κs = search needs
-
-slice-aggregate-decapsulate : tie.Need-slice-aggregate-decapsulate
-slice-aggregate-decapsulate c = search needs
-
-slice-aggregate-decapsulate-2 : tie.Need-slice-aggregate-decapsulate-2
-slice-aggregate-decapsulate-2 c = search needs
-
-decapsulate-requires : tie.Need-decapsulate-requires
-decapsulate-requires c κs = search needs
-
 returns : tie.Need-returns
 returns c =
     let a = c .before .before .before .before .before .before .before .before .before .before .before .before .before .before .before .args in
@@ -32,8 +20,8 @@ pub trace-spec : {M : Type 1} → statement M
 trace-spec =
     tie.close
     (tie.spec
-    left-of-requires
-    slice-aggregate-decapsulate
-    slice-aggregate-decapsulate-2
-    decapsulate-requires
+    (λ c κs. search needs)
+    (λ c. search needs)
+    (λ c. search needs)
+    (λ c κs. search needs)
     returns)

@@ -9,83 +9,11 @@ use borrow.Author.Needs.{needs}
 use Rattle.decapsulation.proofs.worksheet_run.run.Statement.{statement}
 use Rattle.decapsulation.proofs.worksheet_run.run.Tie as tie
 
-slice-aggregate-message : tie.Need-slice-aggregate-message
-slice-aggregate-message c = search needs
-
-slice-aggregate-message-2 : tie.Need-slice-aggregate-message-2
-slice-aggregate-message-2 c = search needs
-
-message-requires : tie.Need-message-requires
-message-requires c κs = search needs
-
-slice-aggregate-stage3 : tie.Need-slice-aggregate-stage3
-slice-aggregate-stage3 c = search needs
-
-slice-aggregate-stage3-2 : tie.Need-slice-aggregate-stage3-2
-slice-aggregate-stage3-2 c = search needs
-
-sub-stage3 : tie.Need-sub-stage3
-sub-stage3 c = search needs
-
-part-stage3-start : tie.Need-part-stage3-start
-part-stage3-start c = search needs
-
-part-stage3-end : tie.Need-part-stage3-end
-part-stage3-end c = search needs
-
-slice-aggregate-stage3-3 : tie.Need-slice-aggregate-stage3-3
-slice-aggregate-stage3-3 c = search needs
-
-slice-aggregate-stage3-4 : tie.Need-slice-aggregate-stage3-4
-slice-aggregate-stage3-4 c = search needs
-
-stage3-requires : tie.Need-stage3-requires
-stage3-requires c κs = search needs
-
-slice-aggregate-reencrypt : tie.Need-slice-aggregate-reencrypt
-slice-aggregate-reencrypt c = search needs
-
-slice-aggregate-reencrypt-2 : tie.Need-slice-aggregate-reencrypt-2
-slice-aggregate-reencrypt-2 c = search needs
-
-sub-reencrypt : tie.Need-sub-reencrypt
-sub-reencrypt c = search needs
-
-part-reencrypt-start : tie.Need-part-reencrypt-start
-part-reencrypt-start c = search needs
-
-part-reencrypt-end : tie.Need-part-reencrypt-end
-part-reencrypt-end c = search needs
-
-sub-reencrypt-2 : tie.Need-sub-reencrypt-2
-sub-reencrypt-2 c = search needs
-
-part-reencrypt-start-2 : tie.Need-part-reencrypt-start-2
-part-reencrypt-start-2 c = search needs
-
-part-reencrypt-end-2 : tie.Need-part-reencrypt-end-2
-part-reencrypt-end-2 c = search needs
-
 sub-reencrypt-3 : tie.Need-sub-reencrypt-3
 sub-reencrypt-3 c = omega (arith, c .before .before .before .before .before .before .before .before .before .before .before .before .before .before .before .before .before .before .before .before .before .before .before .before .before .before .before .before .before .before .before .pre .1 .1)
 
 part-reencrypt-start-3 : tie.Need-part-reencrypt-start-3
 part-reencrypt-start-3 c = omega (arith, c .before .before .before .before .before .before .before .before .before .before .before .before .before .before .before .before .before .before .before .before .before .before .before .before .before .before .before .before .before .before .before .pre .1 .1)
-
-part-reencrypt-end-3 : tie.Need-part-reencrypt-end-3
-part-reencrypt-end-3 c = search needs
-
-slice-aggregate-reencrypt-3 : tie.Need-slice-aggregate-reencrypt-3
-slice-aggregate-reencrypt-3 c = search needs
-
-slice-aggregate-reencrypt-4 : tie.Need-slice-aggregate-reencrypt-4
-slice-aggregate-reencrypt-4 c = search needs
-
-slice-aggregate-reencrypt-5 : tie.Need-slice-aggregate-reencrypt-5
-slice-aggregate-reencrypt-5 c = search needs
-
-slice-aggregate-reencrypt-6 : tie.Need-slice-aggregate-reencrypt-6
-slice-aggregate-reencrypt-6 c = search needs
 
 reencrypt-requires : tie.Need-reencrypt-requires
 reencrypt-requires c κs =
@@ -108,26 +36,11 @@ reencrypt-requires c κs =
       (omega arith, omega arith, omega arith, omega arith),
     )
 
-slice-aggregate-compare : tie.Need-slice-aggregate-compare
-slice-aggregate-compare c = search needs
-
-slice-aggregate-compare-2 : tie.Need-slice-aggregate-compare-2
-slice-aggregate-compare-2 c = search needs
-
-slice-aggregate-compare-3 : tie.Need-slice-aggregate-compare-3
-slice-aggregate-compare-3 c = search needs
-
-slice-aggregate-compare-4 : tie.Need-slice-aggregate-compare-4
-slice-aggregate-compare-4 c = search needs
-
 sub-compare : tie.Need-sub-compare
 sub-compare c = omega (arith, c .before .before .before .before .before .before .before .before .before .before .before .before .before .before .before .before .before .before .before .before .before .before .before .before .before .before .before .before .before .before .before .before .before .before .before .before .before .before .before .before .before .before .before .before .before .pre .1 .1)
 
 part-compare-start : tie.Need-part-compare-start
 part-compare-start c = omega (arith, c .before .before .before .before .before .before .before .before .before .before .before .before .before .before .before .before .before .before .before .before .before .before .before .before .before .before .before .before .before .before .before .before .before .before .before .before .before .before .before .before .before .before .before .before .before .pre .1 .1)
-
-part-compare-end : tie.Need-part-compare-end
-part-compare-end c = search needs
 
 compare-requires : tie.Need-compare-requires
 compare-requires c κs =
@@ -144,15 +57,6 @@ sub-stage9 c = omega (arith, c .before .before .before .before .before .before .
 part-stage9-start : tie.Need-part-stage9-start
 part-stage9-start c = omega (arith, c .before .before .before .before .before .before .before .before .before .before .before .before .before .before .before .before .before .before .before .before .before .before .before .before .before .before .before .before .before .before .before .before .before .before .before .before .before .before .before .before .before .before .before .before .before .before .before .pre .1 .1)
 
-part-stage9-end : tie.Need-part-stage9-end
-part-stage9-end c = search needs
-
-slice-aggregate-stage9 : tie.Need-slice-aggregate-stage9
-slice-aggregate-stage9 c = search needs
-
-slice-aggregate-stage9-2 : tie.Need-slice-aggregate-stage9-2
-slice-aggregate-stage9-2 c = search needs
-
 stage9-requires : tie.Need-stage9-requires
 stage9-requires c κs =
     let s = c .before .before .before .before .before .before .before .before .before .before .before .before .before .before .before .before .before .before .before .before .before .before .before .before .before .before .before .before .before .before .before .before .before .before .before .before .before .before .before .before .before .before .before .before .before .before .before .before .before .before in
@@ -164,20 +68,11 @@ slice-aggregate-stage10 c = omega (arith, c .before .before .before .before .bef
 slice-aggregate-stage10-2 : tie.Need-slice-aggregate-stage10-2
 slice-aggregate-stage10-2 c = omega (arith, c .before .before .before .before .before .before .before .before .before .before .before .before .before .before .before .before .before .before .before .before .before .before .before .before .before .before .before .before .before .before .before .before .stage3 .kept .1 .1 .1 .1 .1 .1 .0)
 
-slice-aggregate-stage10-3 : tie.Need-slice-aggregate-stage10-3
-slice-aggregate-stage10-3 c = search needs
-
-slice-aggregate-stage10-4 : tie.Need-slice-aggregate-stage10-4
-slice-aggregate-stage10-4 c = search needs
-
 sub-stage10 : tie.Need-sub-stage10
 sub-stage10 c = omega (arith, c .before .before .before .before .before .before .before .before .before .before .before .before .before .before .before .before .before .before .before .before .before .before .before .before .before .before .before .before .before .before .before .before .before .before .before .before .before .before .before .before .before .before .before .before .before .before .before .before .before .before .before .before .before .before .before .before .before .pre .1 .1)
 
 part-stage10-start : tie.Need-part-stage10-start
 part-stage10-start c = omega (arith, c .before .before .before .before .before .before .before .before .before .before .before .before .before .before .before .before .before .before .before .before .before .before .before .before .before .before .before .before .before .before .before .before .before .before .before .before .before .before .before .before .before .before .before .before .before .before .before .before .before .before .before .before .before .before .before .before .before .pre .1 .1)
-
-part-stage10-end : tie.Need-part-stage10-end
-part-stage10-end c = search needs
 
 stage10-requires : tie.Need-stage10-requires
 stage10-requires c κs =
@@ -197,12 +92,6 @@ stage10-requires c κs =
       s .pre .1 .4,
       s .pre .1 .5,
     )
-
-same-length : tie.Need-same-length
-same-length c = search needs
-
-same-length-2 : tie.Need-same-length-2
-same-length-2 c = search needs
 
 returns : tie.Need-returns
 returns c =
@@ -226,55 +115,55 @@ pub run-spec : {M : Type 1} → statement M
 run-spec =
     tie.close
     (tie.spec
-    slice-aggregate-message
-    slice-aggregate-message-2
-    message-requires
-    slice-aggregate-stage3
-    slice-aggregate-stage3-2
-    sub-stage3
-    part-stage3-start
-    part-stage3-end
-    slice-aggregate-stage3-3
-    slice-aggregate-stage3-4
-    stage3-requires
-    slice-aggregate-reencrypt
-    slice-aggregate-reencrypt-2
-    sub-reencrypt
-    part-reencrypt-start
-    part-reencrypt-end
-    sub-reencrypt-2
-    part-reencrypt-start-2
-    part-reencrypt-end-2
+    (λ c. search needs)
+    (λ c. search needs)
+    (λ c κs. search needs)
+    (λ c. search needs)
+    (λ c. search needs)
+    (λ c. search needs)
+    (λ c. search needs)
+    (λ c. search needs)
+    (λ c. search needs)
+    (λ c. search needs)
+    (λ c κs. search needs)
+    (λ c. search needs)
+    (λ c. search needs)
+    (λ c. search needs)
+    (λ c. search needs)
+    (λ c. search needs)
+    (λ c. search needs)
+    (λ c. search needs)
+    (λ c. search needs)
     sub-reencrypt-3
     part-reencrypt-start-3
-    part-reencrypt-end-3
-    slice-aggregate-reencrypt-3
-    slice-aggregate-reencrypt-4
-    slice-aggregate-reencrypt-5
-    slice-aggregate-reencrypt-6
+    (λ c. search needs)
+    (λ c. search needs)
+    (λ c. search needs)
+    (λ c. search needs)
+    (λ c. search needs)
     reencrypt-requires
-    slice-aggregate-compare
-    slice-aggregate-compare-2
-    slice-aggregate-compare-3
-    slice-aggregate-compare-4
+    (λ c. search needs)
+    (λ c. search needs)
+    (λ c. search needs)
+    (λ c. search needs)
     sub-compare
     part-compare-start
-    part-compare-end
+    (λ c. search needs)
     compare-requires
     sub-stage9
     part-stage9-start
-    part-stage9-end
-    slice-aggregate-stage9
-    slice-aggregate-stage9-2
+    (λ c. search needs)
+    (λ c. search needs)
+    (λ c. search needs)
     stage9-requires
     slice-aggregate-stage10
     slice-aggregate-stage10-2
-    slice-aggregate-stage10-3
-    slice-aggregate-stage10-4
+    (λ c. search needs)
+    (λ c. search needs)
     sub-stage10
     part-stage10-start
-    part-stage10-end
+    (λ c. search needs)
     stage10-requires
-    same-length
-    same-length-2
+    (λ c. search needs)
+    (λ c. search needs)
     returns)
