@@ -13,6 +13,8 @@ pub mod Bounded
 pub mod BoundedLaws
 pub mod Numeral
 pub mod NumeralLaws
+pub mod LittleEndian
+pub mod LittleEndianLaws
 pub mod Digit
 pub mod DigitLaws
 pub mod Plane

@@ -1,11 +1,17 @@
 -- Laws of numerals.
 use mathlib.Core.Path.{_≡_, refl, sym, ap, ap₂, _∙_, subst}
 use mathlib.Core.List.{List, [], _∷_, _++_}
-use Prim.Native.Nat.{ℕ, zero, suc, _+_, _*_, _/_, _%_, _^_, _<_}
-use native.Mathlib.Nat.{add-zero, zero-mul, mul-one, mul-assoc, add-mul, mod-one, div-one, mod-lt, zero-add, suc-add, pow-zero, pow-suc, pow-succ', one-le-pow, add-mul-div-right, mul-add-mod-self-right, mod-add-div', div-lt-iff-lt-mul, div-div-eq-div-mul}
+use Prim.Native.Nat.{ℕ, zero, suc, _+_, _-_, _*_, _/_, _%_, _^_, _<_, _≤_}
+use native.Mathlib.Decide.{decLt}
+use native.Mathlib.Nat.{add-zero, zero-add, suc-add, zero-mul, mul-one, mul-assoc, add-mul}
+use native.Mathlib.Nat.{div-one, div-eq-of-lt, div-eq-sub-div, div-div-eq-div-mul, div-lt-iff-lt-mul, add-mul-div-right}
+use native.Mathlib.Nat.{mod-one, mod-lt, mod-eq-of-lt, mod-eq-sub-mod, mod-add-div', mul-add-mod-self-right}
+use native.Mathlib.Nat.{pow-zero, pow-suc, pow-succ', one-le-pow}
+use native.Mathlib.Numerals.{add-one}
 use native.Mathlib.Omega.{arith}
 use lib.Arith.{digits-div, digits-mod, digits-lt, mod-mul}
-use lib.ListN.{length, getD, replicate, length-append, length-replicate}
+use lib.ListN.{length, getD, replicate, length-append, length-replicate, List·getD-append}
+use lib.Seq.{getD-append-add}
 use Rattle.words.specs.Tab.{tab, tab-of}
 use Rattle.words.specs.Bounded.{Below}
 use Rattle.words.specs.BoundedLaws.{below-positive, below-nil, below-cons, below-head, below-tail, below-append, below-zeros}
@@ -78,6 +84,27 @@ getD-digits b zero x i h = absurd (omega arith)
 getD-digits b (suc n) x zero h = rw (pow-zero, div-one)
 getD-digits b (suc n) x (suc i) h =
     getD-digits b n (x / b) i (omega arith) ∙ ap (λ (y : ℕ). y % b) (div-div-eq-div-mul x b (b ^ i) ∙ ap (λ (m : ℕ). x / m) (sym (pow-succ' b i)))
+
+-- digit i of the d digits of x and of a list m after them, where m's are the d digits of each number of l
+pub getD-digits-append : (b d x : ℕ) (l m : List ℕ) (i : ℕ) → 0 < d
+    → getD m (i - d) 0 ≡ getD l ((i - d) / d) 0 / b ^ ((i - d) % d) % b
+    → getD (digits b d x ++ m) i 0 ≡ getD (x ∷ l) (i / d) 0 / b ^ (i % d) % b
+getD-digits-append b d x l m i h r = go (decLt i d)
+  where
+    go : Dec (i < d) → getD (digits b d x ++ m) i 0 ≡ getD (x ∷ l) (i / d) 0 / b ^ (i % d) % b
+    go (yes p) =
+        List·getD-append (digits b d x) m 0 i (omega (arith, length-digits b d x))
+        ∙ getD-digits b d x i p
+        ∙ ap₂ (λ (k n : ℕ). getD (x ∷ l) n 0 / b ^ k % b) (sym (mod-eq-of-lt p)) (sym (div-eq-of-lt p))
+    go (no p) =
+        let n : d ≤ i = omega arith in
+        let e : i ≡ length (digits b d x) + (i - d) = omega (arith, length-digits b d x) in
+        ap (λ (k : ℕ). getD (digits b d x ++ m) k 0) e
+        ∙ getD-append-add (digits b d x) m (i - d) 0
+        ∙ r
+        ∙ ap₂ (λ (k n : ℕ). getD (x ∷ l) n 0 / b ^ k % b)
+        (sym (mod-eq-sub-mod n))
+        (sym (div-eq-sub-div h n ∙ add-one ((i - d) / d)))
 
 pub digits-tab : (b n x : ℕ) → digits b n x ≡ tab n (λ i. x / b ^ i % b)
 digits-tab b n x = tab-of 0 (digits b n x) n (length-digits b n x) (λ i h. getD-digits b n x i h)
