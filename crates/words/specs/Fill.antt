@@ -1,11 +1,18 @@
 -- A loop that fills a list of n elements from the front by those of tab n f, and one that replaces the elements of l₀ so.
+--
+-- How a proof cites it, where turn i of a loop stores f i at place i:
+--     the invariant    Filled n f i out; Replaced or Mapped where a turn also reads the old elements
+--     before the loop  filled-start LENGTH
+--     a turn           filled-turn INVARIANT (omega arith) VALUE, or filled-part for several places at once
+--     after the loop   filled-end INVARIANT (omega arith) says out ≡ tab n f; where f reads a list s of n elements,
+--                      filled-copy 0 says out ≡ s, and where f is constant, filled-constant says out ≡ replicate n x
 use mathlib.Core.Path.{_≡_, refl, sym, ap, _∙_}
 use mathlib.Core.List.{List, _++_, append-assoc, map}
 use Prim.Native.Nat.{ℕ, _+_, _-_, _<_, _≤_}
 use native.Mathlib.Decide.{decLt}
 use native.Mathlib.Numerals.{add-one}
 use native.Mathlib.Omega.{arith}
-use lib.ListN.{length, getD, take, drop, set, length-set, length-append, length-drop}
+use lib.ListN.{length, getD, take, drop, set, replicate, length-set, length-append, length-drop, length-replicate, getD-replicate}
 use lib.Seq.{take-suc-set, take-all, take-at, getD-take, getD-set-other}
 use Rattle.words.specs.Tab.{tab, length-tab, getD-tab, tab-add, tab-of, tab-getD}
 
@@ -48,6 +55,15 @@ module _ {A : Type 0} where
   filled-end {n} {i = i} {l} a h =
       let e : i ≡ n = omega arith in
       sym (take-all n l (omega arith)) ∙ (rw e at (a .front))
+
+  -- a copy of s
+  pub filled-copy : (d : A) {s : List A} {i : ℕ} {l : List A} → Filled (length s) (λ k. getD s k d) i l → length s ≤ i → l ≡ s
+  filled-copy d {s} a h = filled-end a h ∙ sym (tab-of d s (length s) refl (λ k g. refl))
+
+  -- one element everywhere
+  pub filled-constant : {n : ℕ} {x : A} {i : ℕ} {l : List A} → Filled n (λ k. x) i l → n ≤ i → l ≡ replicate n x
+  filled-constant {n} {x} a h =
+      filled-end a h ∙ sym (tab-of x (replicate n x) n (length-replicate n x) (λ k g. getD-replicate n k x x g))
 
   pub filled-at : {n : ℕ} {f : ℕ → A} {i : ℕ} {l : List A} → Filled n f i l → (d : A) (k : ℕ) → k < i → getD l k d ≡ f k
   filled-at {f = f} {i} {l} a d k h = sym (getD-take i l k d h) ∙ ap (λ m. getD m k d) (a .front) ∙ getD-tab i f k d h

@@ -11,6 +11,7 @@ pub mod Table
 pub mod TableLaws
 pub mod Bounded
 pub mod BoundedLaws
+pub mod Walk
 pub mod Numeral
 pub mod NumeralLaws
 pub mod LittleEndian
