@@ -3,28 +3,34 @@
 The ten stage functions are inlined into `decapsulate`. Four functions that aren't inlined, each called at known places, mark the borders. What little is inlined
 between a border and the next stage counts with that stage: the end of stage 3 with stage 4, the start of stage 9's state with stage 8, its end with stage 10.
 """
-import re, sys
+import os, re, sys
+
+sys.dont_write_bytecode = True
+sys.path.append(os.path.join(os.path.dirname(os.path.abspath(__file__)), "..", "tools"))
+from models.parameters import ML_KEM_768 as P
 
 EXPAND, COMPRESS, NOISE, ABSORB = (
     "kpke::matrix::expand",
-    "polynomial_stages::compression::compress_poly",
-    "hash_stages::noise::noise_poly",
+    "masked_kpke::compression::compress_poly",
+    "masked_kpke::noise::noise_poly",
     "masked_fips202::masked_absorb::masked_absorb",
 )
-# what ends at which event, the event's times, and its entries
-PARTS = [
-    ("refusals", "before", EXPAND, 1, 0),
-    ("matrix", "after", EXPAND, 1, 0),
-    ("stage 1", "before", COMPRESS, 1, 512),
-    ("stage 2", "after", COMPRESS, 1, 1464),
-    ("stage 3", "after", ABSORB, 1, 7842),
-    ("stage 4", "before", NOISE, 1, 1024),
-    ("stage 5", "after", NOISE, 7, 94430),
-    ("stage 6", "before", COMPRESS, 1, 2048),
-    ("stage 7", "after", COMPRESS, 4, 8016),
-    ("stage 8", "before", ABSORB, 1, 1688),
-    ("stage 9", "after", ABSORB, 1, 70722),
-    ("stage 10", "at", "end", 1, 48),
+# where each stage ends: at which event, the so-manieth
+ENDS = [
+    ("before", COMPRESS, 1),
+    ("after", COMPRESS, 1),
+    ("after", ABSORB, 1),
+    ("before", NOISE, 1),
+    ("after", NOISE, 2 * P.k + 1),
+    ("before", COMPRESS, 1),
+    ("after", COMPRESS, P.k + 1),
+    ("before", ABSORB, 1),
+    ("after", ABSORB, 1),
+    ("at", "end", 1),
+]
+# what ends there, and its entries
+PARTS = [("refusals", "before", EXPAND, 1, 0), ("matrix", "after", EXPAND, 1, 0)] + [
+    (f"stage {i}", *end, use.entries) for i, (end, use) in enumerate(zip(ENDS, P.stages), 1)
 ]
 
 

@@ -1,5 +1,6 @@
 """The accumulated test of ML-KEM-768: one hash over many turns, with the secrets from our masked decapsulation, held to the published values."""
 from hashlib import shake_128
+from models.parameters import ML_KEM_768 as P
 from outward_calls import Stream, decaps, encaps, joined, keygen, split_key, strip, u8
 
 # by the number of turns: without the decapsulation key, and with it after the public key
@@ -15,19 +16,20 @@ PUBLISHED = {
 def turn(number, draw):
     """ek, dk, and then ct, k and the secret of a random ciphertext, both secrets from our shares."""
     seed = b"turn" + number.to_bytes(8, "little")
-    draws = Stream(seed, 2 * 768 + 8 * 4)
+    draws = Stream(seed, 2 * P.coefficients + 8 * 4)
     ek, dk = keygen(draw[:32], draw[32:64])
     ct, k = encaps(ek, draw[64:96])
-    split = split_key(dk, draws.coefficients(768), draws.words(4))
+    split = split_key(dk, draws.coefficients(P.coefficients), draws.words(4))
     opened, rejected = (joined(*decaps(split, c, strip(seed + bytes([i])))) for i, c in enumerate((ct, u8(draw[96:]))))
     assert opened == bytes(k)
     return bytes(ek), bytes(dk), bytes(ct) + opened + rejected
 
 
 def accumulated(turns):
-    draws, without, with_dk = shake_128(b"").digest(1184 * turns), shake_128(), shake_128()
+    size = 3 * 32 + P.ct_bytes
+    draws, without, with_dk = shake_128(b"").digest(size * turns), shake_128(), shake_128()
     for i in range(turns):
-        ek, dk, rest = turn(i, draws[1184 * i:1184 * (i + 1)])
+        ek, dk, rest = turn(i, draws[size * i:size * (i + 1)])
         without.update(ek + rest)
         with_dk.update(ek + dk + rest)
     for name, hash, published in zip(("without dk", "with dk"), (without, with_dk), PUBLISHED.get(turns, (None, None))):

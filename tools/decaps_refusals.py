@@ -1,6 +1,7 @@
 """What masked decapsulation and its trace have to refuse, one fault and several at once; nothing that is lent changes."""
 import ctypes
-from outward_calls import COEFFS, Q, STEPS, call, trace, u64
+from models.parameters import Q, ML_KEM_768 as P
+from outward_calls import call, trace, u64
 
 
 def resized(buffer, n):
@@ -35,7 +36,7 @@ def refuse_lengths(case):
 
 
 def refuse_steps(case):
-    for step in (STEPS, STEPS + 1, 2**32, 2**64 - 2, 2**64 - 1):
+    for step in (P.steps, P.steps + 1, 2**32, 2**64 - 2, 2**64 - 1):
         case.refused(8, step, calls=("trace",))
 
 
@@ -43,7 +44,7 @@ def refuse_ranges(case, draws):
     for at, number in ((7, 5), (0, 6), (1, 6)):
         buffer, place = case.lent[at], draws.words(1)[0] % len(case.lent[at])
         right = buffer[place]
-        for wrong, step in ((Q, 0), (65535, STEPS)):
+        for wrong, step in ((Q, 0), (65535, P.steps)):
             buffer[place] = wrong
             case.refused(number, step)
         buffer[place] = right
@@ -55,7 +56,7 @@ def refuse_decaps(split, ct, masks, draws):
     refuse_steps(case)
     refuse_ranges(case, draws)
     # several faults: the first row answers
-    case.lent[1][0], case.lent[7][COEFFS - 1] = Q, Q
-    case.refused(5, STEPS)
-    case.lent[5] = resized(case.lent[5], 1089)
-    case.refused(1, STEPS)
+    case.lent[1][0], case.lent[7][P.strip_coeffs - 1] = Q, Q
+    case.refused(5, P.steps)
+    case.lent[5] = resized(case.lent[5], P.ct_bytes + 1)
+    case.refused(1, P.steps)

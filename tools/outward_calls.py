@@ -2,11 +2,12 @@
 import ctypes, os, subprocess
 from array import array
 from hashlib import shake_256
+from models.numbers import mask_coefficients
+from models.parameters import ML_KEM_768 as P
 
 os.chdir(os.path.join(os.path.dirname(os.path.abspath(__file__)), ".."))
 subprocess.run(["tools/sharedlib"], check=True)
 LIB = ctypes.CDLL("target/sharedlib/libcapi.so")
-Q, WORDS, COEFFS, STEPS = 3329, 11750, 7424, 187794
 
 
 def u8(data):
@@ -40,29 +41,29 @@ class Stream:
         return u64(array("Q", self.bytes(8 * n)))
 
     def coefficients(self, n):
-        return u16([x % Q for x in array("H", self.bytes(2 * n))])
+        return u16(mask_coefficients(self.bytes(2 * n)))
 
 
 def strip(seed):
-    draws = Stream(seed, 8 * WORDS + 2 * COEFFS)
-    return draws.words(WORDS), draws.coefficients(COEFFS)
+    draws = Stream(seed, 8 * P.strip_words + 2 * P.strip_coeffs)
+    return draws.words(P.strip_words), draws.coefficients(P.strip_coeffs)
 
 
 def keygen(d, z):
-    ek, dk = u8(bytes(1184)), u8(bytes(2400))
+    ek, dk = u8(bytes(P.ek_bytes)), u8(bytes(P.dk_bytes))
     assert call("tifo_keygen", u8(d), u8(z), ek, dk) == 0
     return ek, dk
 
 
 def encaps(ek, m):
-    ct, k = u8(bytes(1088)), u8(bytes(32))
+    ct, k = u8(bytes(P.ct_bytes)), u8(bytes(32))
     assert call("tifo_encaps", ek, u8(m), ct, k) == 0
     return ct, k
 
 
 def split_key(dk, masks, words):
     """s0, s1, z0, z1 and the public part."""
-    split = u16([0] * 768), u16([0] * 768), u64([0] * 4), u64([0] * 4), u8(bytes(1216))
+    split = *(u16([0] * P.coefficients) for _ in (0, 1)), *(u64([0] * 4) for _ in (0, 1)), u8(bytes(P.public_bytes))
     assert call("tifo_import", dk, masks, words, *split) == 0
     return split
 

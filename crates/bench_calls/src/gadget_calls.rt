@@ -1,9 +1,10 @@
-// Gadgets for bench/gadgets. Each hands back the entry that is `left` entries ahead, mixed with its result, so that no work is left out.
-ghost use mathlib.Core.Path.{_≡_};
+// Gadgets for bench/gadgets. Each hands back the entry that is `left` entries ahead, mixed with its result, so that no
+// work is left out.
 ghost use Prim.Native.Nat.{_≤_};
 ghost use lib.ListN.{length};
 ghost use Rattle.words.specs.Bounded.{Below};
 ghost use Rattle.words.specs.Residue.{q};
+ghost use Rattle.bench_calls.specs.Group.{Group};
 use worksheet::Recorder;
 use worksheet::Shares;
 
@@ -23,7 +24,7 @@ pub extern "C" fn bench_adder(x: &[u64; 24], y: &[u64; 24], masks: &[u64], left:
 // Masked compression of 64 coefficients at depth 10.
 #[no_mangle]
 pub extern "C" fn bench_compress10(x0: &[u16], x1: &[u16], masks: &[u64], left: u64) -> u64
-    requires { ⌜ (length (now x0) ≡ 64) × (length (now x1) ≡ 64) × Below q (now x0) × Below q (now x1) × (68 ≤ length (now masks)) ⌝ }
+    requires { ⌜ Group (now x0) (now x1) (now masks) 68 ⌝ }
 {
     let o = masked_compression::compression::masked_compress(
         Recorder { left, value: 0 },
@@ -39,7 +40,7 @@ pub extern "C" fn bench_compress10(x0: &[u16], x1: &[u16], masks: &[u64], left: 
 // The same at depth 4.
 #[no_mangle]
 pub extern "C" fn bench_compress4(x0: &[u16], x1: &[u16], masks: &[u64], left: u64) -> u64
-    requires { ⌜ (length (now x0) ≡ 64) × (length (now x1) ≡ 64) × Below q (now x0) × Below q (now x1) × (50 ≤ length (now masks)) ⌝ }
+    requires { ⌜ Group (now x0) (now x1) (now masks) 50 ⌝ }
 {
     let o = masked_compression::compression::masked_compress(
         Recorder { left, value: 0 },

@@ -30,7 +30,11 @@ pub extern "C" fn bench_masked_keccak_p(
     masks: &[u64],
     left: u64,
 ) -> u64
-    ensures { λ _. ⌜ (600 ≤ length (now (masks .entry)) → sharedList (now (s .exit)) (now (t .exit)) ≡ run (maskedKeccakP (sharedList (now (s .entry)) (now (t .entry)))) (now (masks .entry)) [] .value) ⌝ }
+    ensures { λ _. ⌜
+        (600 ≤ length (now (masks .entry))
+        → sharedList (now (s .exit)) (now (t .exit))
+        ≡ run (maskedKeccakP (sharedList (now (s .entry)) (now (t .entry)))) (now (masks .entry)) [] .value)
+        ⌝ }
 {
     if masks.len() < 600 {
         return 0;

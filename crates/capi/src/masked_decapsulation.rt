@@ -1,9 +1,7 @@
 // Masked decapsulation and its trace for C.
-ghost use mathlib.Core.Path.{_≡_};
 ghost use Rattle.kpke.specs.Parameters.{mlKem768};
-ghost use Rattle.mlkem.specs.Refusals.{number, after};
-ghost use Rattle.decapsulation.specs.Calls.{input, decapsAnswer, decapsShares, traceAnswer, traceValue};
-use crate::keys::key_refusal;
+ghost use Rattle.decapsulation.specs.Calls.{input, Decapsulated, Traced};
+use crate::refusal;
 
 #[no_mangle]
 pub extern "C" fn tifo_decaps(
@@ -18,11 +16,13 @@ pub extern "C" fn tifo_decaps(
     k0: &mut [u64],
     k1: &mut [u64],
 ) -> u32
-    ensures { λ r. ⌜ r ≡ number (decapsAnswer mlKem768 (input (now (s0 .entry)) (now (s1 .entry)) (now (z0 .entry)) (now (z1 .entry)) (now (public .entry)) (now (ct .entry)) (now (words .entry)) (now (coeffs .entry))) (now (k0 .entry)) (now (k1 .entry))) ⌝ }
-    ensures { λ _. ⌜ now (k0 .exit) ≡ after (decapsAnswer mlKem768 (input (now (s0 .entry)) (now (s1 .entry)) (now (z0 .entry)) (now (z1 .entry)) (now (public .entry)) (now (ct .entry)) (now (words .entry)) (now (coeffs .entry))) (now (k0 .entry)) (now (k1 .entry))) (decapsShares mlKem768 (input (now (s0 .entry)) (now (s1 .entry)) (now (z0 .entry)) (now (z1 .entry)) (now (public .entry)) (now (ct .entry)) (now (words .entry)) (now (coeffs .entry))) .s0) (now (k0 .entry)) ⌝ }
-    ensures { λ _. ⌜ now (k1 .exit) ≡ after (decapsAnswer mlKem768 (input (now (s0 .entry)) (now (s1 .entry)) (now (z0 .entry)) (now (z1 .entry)) (now (public .entry)) (now (ct .entry)) (now (words .entry)) (now (coeffs .entry))) (now (k0 .entry)) (now (k1 .entry))) (decapsShares mlKem768 (input (now (s0 .entry)) (now (s1 .entry)) (now (z0 .entry)) (now (z1 .entry)) (now (public .entry)) (now (ct .entry)) (now (words .entry)) (now (coeffs .entry))) .s1) (now (k1 .entry)) ⌝ }
+    ensures { λ r. ⌜
+        Decapsulated mlKem768
+        (input (now (s0 .entry)) (now (s1 .entry)) (now (z0 .entry)) (now (z1 .entry)) (now (public .entry))
+        (now (ct .entry)) (now (words .entry)) (now (coeffs .entry)))
+        (now (k0 .entry)) (now (k1 .entry)) r (now (k0 .exit)) (now (k1 .exit)) ⌝ }
 {
-    key_refusal(decapsulation::decaps(s0, s1, z0, z1, public, ct, words, coeffs, k0, k1))
+    refusal(decapsulation::decaps(s0, s1, z0, z1, public, ct, words, coeffs, k0, k1))
 }
 
 #[no_mangle]
@@ -38,8 +38,11 @@ pub extern "C" fn tifo_trace(
     step: u64,
     value: &mut u64,
 ) -> u32
-    ensures { λ r. ⌜ r ≡ number (traceAnswer mlKem768 (input (now (s0 .entry)) (now (s1 .entry)) (now (z0 .entry)) (now (z1 .entry)) (now (public .entry)) (now (ct .entry)) (now (words .entry)) (now (coeffs .entry))) step) ⌝ }
-    ensures { λ _. ⌜ now (value .exit) ≡ after (traceAnswer mlKem768 (input (now (s0 .entry)) (now (s1 .entry)) (now (z0 .entry)) (now (z1 .entry)) (now (public .entry)) (now (ct .entry)) (now (words .entry)) (now (coeffs .entry))) step) (traceValue mlKem768 (input (now (s0 .entry)) (now (s1 .entry)) (now (z0 .entry)) (now (z1 .entry)) (now (public .entry)) (now (ct .entry)) (now (words .entry)) (now (coeffs .entry))) step) (now (value .entry)) ⌝ }
+    ensures { λ r. ⌜
+        Traced mlKem768
+        (input (now (s0 .entry)) (now (s1 .entry)) (now (z0 .entry)) (now (z1 .entry)) (now (public .entry))
+        (now (ct .entry)) (now (words .entry)) (now (coeffs .entry)))
+        step (now (value .entry)) r (now (value .exit)) ⌝ }
 {
-    key_refusal(decapsulation::trace(s0, s1, z0, z1, public, ct, words, coeffs, step, value))
+    refusal(decapsulation::trace(s0, s1, z0, z1, public, ct, words, coeffs, step, value))
 }

@@ -1,7 +1,7 @@
 // Key making and encapsulation on files.
+use cli_support::answers::is_refused;
 use cli_support::inputs::read_exact;
 use cli_support::outputs::write_pair;
-use cli_support::refusals::is_refused;
 
 // mlkem keygen D Z EK DK
 pub fn keygen() {

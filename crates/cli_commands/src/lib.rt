@@ -1,4 +1,4 @@
-// The commands of the program mlkem: their names and forms, and those that hash, make keys, encapsulate, import and sample.
+// The commands of the program mlkem: their names and forms, and those that need no decapsulation.
 pub mod commands; // the commands, their forms and the number of their arguments
 pub mod hashes; // sha3-256, sha3-512, shake128, shake256
 pub mod keys; // keygen, encaps

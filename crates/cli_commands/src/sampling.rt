@@ -1,8 +1,8 @@
 // Sampling on files.
+use buffers::little_endian::put_coefficients;
+use cli_support::answers::is_refused;
 use cli_support::inputs::read_exact;
-use cli_support::little_endian::put_coefficients;
 use cli_support::outputs::write_public;
-use cli_support::refusals::is_refused;
 
 // mlkem sample STREAM OUT
 pub fn sample() {

@@ -1,10 +1,10 @@
 // Import on files.
 ghost use mathlib.Core.Path.{_≡_};
 ghost use lib.ListN.{length};
+use buffers::little_endian::get_coefficients;
+use buffers::little_endian::get_words;
+use cli_support::answers::is_refused;
 use cli_support::inputs::read_exact;
-use cli_support::little_endian::get_coefficients;
-use cli_support::little_endian::get_words;
-use cli_support::refusals::is_refused;
 use cli_support::split_file::write_split;
 
 // The masks' file: 768 coefficients, then 4 words.

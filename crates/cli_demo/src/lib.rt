@@ -4,20 +4,19 @@ ghost use lib.ListN.{length};
 use crate::lines::print_bytes;
 use crate::lines::print_start;
 use crate::lines::print_step;
-use crate::values::join;
-use crate::values::reduce;
+use buffers::little_endian::get_coefficients;
+use buffers::little_endian::get_words;
+use buffers::little_endian::put_words;
+use buffers::values::reduce;
+use buffers::values::xor_words;
+use cli_support::answers::is_refused;
 use cli_support::arguments::same;
-use cli_support::little_endian::get_coefficients;
-use cli_support::little_endian::get_words;
-use cli_support::little_endian::put_words;
 use cli_support::messages;
-use cli_support::refusals::is_refused;
 use cli_support::strip_file;
 use libc::STDOUT_FILENO;
 use text::print;
 
 mod lines; // lines on standard output
-mod values; // masks and shares
 
 // The functions that make calls answer whether every one was carried out; a refused one has its line on standard error.
 
@@ -31,7 +30,7 @@ fn print_secret(k0: &[u64], k1: &[u64], secret: &[u8])
     print_bytes(b"  share 0 of K: ", &bytes);
     put_words(k1, &mut bytes);
     print_bytes(b"  share 1 of K: ", &bytes);
-    join(k0, k1, &mut k);
+    xor_words(k0, k1, &mut k);
     put_words(&k, &mut bytes);
     print_bytes(b"  their xor:    ", &bytes);
     if same(&bytes, secret) {

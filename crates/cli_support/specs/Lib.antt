@@ -1,3 +1,1 @@
-pub mod LittleEndian
 pub mod Numbers
-pub mod Split

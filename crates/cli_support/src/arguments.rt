@@ -1,6 +1,6 @@
 // The words of the command line.
 ghost use mathlib.Core.Path.{_≡_};
-ghost use Rattle.mlkem.specs.MlKem.{same as sameOf};
+ghost use Rattle.refusals.specs.Same.{same as sameOf};
 ghost use Rattle.cli_support.specs.Numbers.{AtMost};
 use crate::messages;
 
@@ -16,12 +16,7 @@ pub fn same(a: &[u8], b: &[u8]) -> bool
     if a.len() != b.len() {
         return false;
     }
-    for i in 0..a.len() {
-        if a[i] != b[i] {
-            return false;
-        }
-    }
-    true
+    mlkem::conditions::same(a, b)
 }
 
 // The number n with one more digit, where b is one and the number is at most most.

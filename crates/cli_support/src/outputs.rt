@@ -1,7 +1,7 @@
 // Files, written whole. A file is named by the number of its argument. Where writing fails a line says why.
 //
-// Both of two outputs are opened before one is emptied: where one can't be opened the other stays as it was. A new file of secrets is its
-// owner's alone.
+// Both of two outputs are opened before one is emptied: where one can't be opened the other stays as it was.
+// A new file of secrets is its owner's alone.
 use crate::arguments::same;
 use crate::messages;
 

@@ -1,10 +1,10 @@
 // The file of a strip: 11,750 words, then 7,424 coefficients.
 ghost use mathlib.Core.Path.{_≡_};
 ghost use lib.ListN.{length, take, drop};
-ghost use Rattle.cli_support.specs.LittleEndian.{numbers};
+ghost use Rattle.buffers.specs.LittleEndian.{numbers};
 use crate::inputs::read_exact;
-use crate::little_endian::get_coefficients;
-use crate::little_endian::get_words;
+use buffers::little_endian::get_coefficients;
+use buffers::little_endian::get_words;
 
 pub fn unpack(b: &[u8], words: &mut [u64], coeffs: &mut [u16])
     requires { ⌜ (length (now b) ≡ 108848) × (length (now words) ≡ 11750) × (length (now coeffs) ≡ 7424) ⌝ }

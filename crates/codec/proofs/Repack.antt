@@ -2,7 +2,8 @@
 use mathlib.Core.Path.{_≡_, refl, sym, ap, ap₂, _∙_}
 use mathlib.Core.List.{List, [], _∷_, _++_, append-assoc, append-nil}
 use Prim.Native.Nat.{ℕ, _+_, _*_, _-_, _/_, _%_, _^_, _<_, _≤_}
-use native.Mathlib.Nat.{mod-lt, mul-le-mul-left, mul-le-mul-right, le-of-eq, lt-of-mul-lt-mul-left, eq-of-mul-eq-mul-left}
+use native.Mathlib.Nat.{mod-lt, mul-le-mul-left, mul-le-mul-right, le-of-eq}
+use native.Mathlib.Nat.{lt-of-mul-lt-mul-left, eq-of-mul-eq-mul-left}
 use native.Mathlib.Numerals.{add-one}
 use native.Mathlib.Omega.{arith}
 use lib.Pow.{pow-pos, pow-add, shr-lt}
@@ -58,10 +59,12 @@ repacked-store {a} {b} {i} {k} {n} {acc} {s} {t} r h l =
           (below-append (take k t) (r .below) (below-cons (mod-lt acc (pow-pos b)) (below-nil (pow-pos b))));
       same = rw (add-one, take-suc-set t k v l)
           (r .same
-          ∙ ap (λ (l : List ℕ). bitsOf b (take k t) ++ l) (ap (λ (m : ℕ). digits 2 m acc) (sym e′) ∙ digits-split 2 b (n - b) acc (omega arith))
+          ∙ ap (λ (l : List ℕ). bitsOf b (take k t) ++ l)
+          (ap (λ (m : ℕ). digits 2 m acc) (sym e′) ∙ digits-split 2 b (n - b) acc (omega arith))
           ∙ sym (append-assoc (bitsOf b (take k t)) (digits 2 b v) (digits 2 (n - b) (acc / 2 ^ b)))
           ∙ ap (λ (l : List ℕ). l ++ digits 2 (n - b) (acc / 2 ^ b))
-          (ap (λ (l : List ℕ). bitsOf b (take k t) ++ l) (sym (bitsOf-one b v)) ∙ sym (bitsOf-append b (take k t) (v ∷ []))));
+          (ap (λ (l : List ℕ). bitsOf b (take k t) ++ l) (sym (bitsOf-one b v))
+          ∙ sym (bitsOf-append b (take k t) (v ∷ []))));
     }
 
 module _ {a b i k n acc : ℕ} {s t : List ℕ} (r : Repacked a b s t i k n acc) (whole : b * length t ≡ a * length s) where
@@ -73,7 +76,8 @@ module _ {a b i k n acc : ℕ} {s t : List ℕ} (r : Repacked a b s t i k n acc)
   unfolding digits
   repacked-end h g e =
       let none : n ≡ 0 = omega (arith, r .count, mul-le-mul-left a g, ap (λ (m : ℕ). b * m) e) in
-      let all : i ≡ length s = eq-of-mul-eq-mul-left a h i (length s) (omega (arith, r .count, ap (λ (m : ℕ). b * m) e)) in
+      let all : i ≡ length s =
+      eq-of-mul-eq-mul-left a h i (length s) (omega (arith, r .count, ap (λ (m : ℕ). b * m) e)) in
       let t-all = take-all k t (le-of-eq (sym e)) in
       sym
       (ap (numbersOf b (length t))

@@ -2,14 +2,14 @@
 use mathlib.Core.Path.{_≡_, refl, sym, ap, ap₂, _∙_}
 use mathlib.Core.List.{List, [], _∷_, _++_, append-assoc, map}
 use Prim.Native.Nat.{ℕ, zero, suc, _+_, _*_, _%_, _^_, _<_}
-use native.Mathlib.Nat.{mod-eq-of-lt, mod-lt}
+use native.Mathlib.Nat.{mod-eq-of-lt}
 use native.Mathlib.Omega.{arith}
 use lib.Pow.{pow-pos}
 use lib.ListN.{length, getD, take, drop, length-append, length-take, length-drop, take-append-drop, length-map}
 use lib.Seq.{take-at, drop-at, drop-drop}
 use Rattle.words.specs.Residue.{q}
 use Rattle.words.specs.Bounded.{Below}
-use Rattle.words.specs.BoundedLaws.{below-nil, below-cons, below-head, below-tail, below-append, below-take, below-drop, below-map}
+use Rattle.words.specs.BoundedLaws.{below-nil, below-cons, below-head, below-tail, below-append, below-take, below-drop}
 use Rattle.words.specs.Numeral.{value, digits}
 use Rattle.words.specs.NumeralLaws.{length-digits, below-digits, value-digits, digits-value, value-lt}
 use Rattle.codec.specs.Bytes.{bitsOf, numbersOf, byteEncode, byteDecode, byteDecode12}
@@ -17,7 +17,8 @@ use Rattle.codec.specs.Bytes.{bitsOf, numbersOf, byteEncode, byteDecode,
 pub length-bitsOf : (d : ℕ) (l : List ℕ) → length (bitsOf d l) ≡ d * length l
 unfolding bitsOf
 length-bitsOf d [] = omega arith
-length-bitsOf d (x ∷ l) = length-append (digits 2 d x) (bitsOf d l) ∙ omega (arith, length-digits 2 d x, length-bitsOf d l)
+length-bitsOf d (x ∷ l) =
+    length-append (digits 2 d x) (bitsOf d l) ∙ omega (arith, length-digits 2 d x, length-bitsOf d l)
 
 pub below-bitsOf : (d : ℕ) (l : List ℕ) → Below 2 (bitsOf d l)
 unfolding bitsOf
@@ -28,20 +29,23 @@ pub bitsOf-append : (d : ℕ) (l m : List ℕ) → bitsOf d (l ++ m) ≡ bitsOf 
 unfolding bitsOf
 bitsOf-append d [] m = refl
 bitsOf-append d (x ∷ l) m =
-    ap (λ (k : List ℕ). digits 2 d x ++ k) (bitsOf-append d l m) ∙ sym (append-assoc (digits 2 d x) (bitsOf d l) (bitsOf d m))
+    ap (λ (k : List ℕ). digits 2 d x ++ k) (bitsOf-append d l m)
+    ∙ sym (append-assoc (digits 2 d x) (bitsOf d l) (bitsOf d m))
 
 pub length-numbersOf : (d n : ℕ) (b : List ℕ) → length (numbersOf d n b) ≡ n
 unfolding numbersOf
 length-numbersOf d zero b = refl
 length-numbersOf d (suc n) b = ap suc (length-numbersOf d n (drop d b))
 
-pub getD-numbersOf : (d n : ℕ) (b : List ℕ) (i : ℕ) → i < n → getD (numbersOf d n b) i 0 ≡ value 2 (take d (drop (d * i) b))
+pub getD-numbersOf : (d n : ℕ) (b : List ℕ) (i : ℕ) → i < n
+    → getD (numbersOf d n b) i 0 ≡ value 2 (take d (drop (d * i) b))
 unfolding numbersOf
 getD-numbersOf d zero b i h = absurd (omega arith)
 getD-numbersOf d (suc n) b zero h = let e : d * 0 ≡ 0 = omega arith in rw e
 getD-numbersOf d (suc n) b (suc i) h =
     let e : d + d * i ≡ d * suc i = omega arith in
-    getD-numbersOf d n (drop d b) i (omega arith) ∙ ap (λ (l : List ℕ). value 2 (take d l)) (drop-drop (d * i) d b ∙ ap (λ (k : ℕ). drop k b) e)
+    getD-numbersOf d n (drop d b) i (omega arith)
+    ∙ ap (λ (l : List ℕ). value 2 (take d l)) (drop-drop (d * i) d b ∙ ap (λ (k : ℕ). drop k b) e)
 
 pub below-numbersOf : (d n : ℕ) {b : List ℕ} → length b ≡ d * n → Below 2 b → Below (2 ^ d) (numbersOf d n b)
 unfolding numbersOf
@@ -55,7 +59,8 @@ pub numbersOf-bitsOf : (d : ℕ) (l : List ℕ) → Below (2 ^ d) l → numbersO
 unfolding numbersOf bitsOf
 numbersOf-bitsOf d [] h = refl
 numbersOf-bitsOf d (x ∷ l) h =
-    rw (take-at (digits 2 d x) (bitsOf d l) d (length-digits 2 d x), drop-at (digits 2 d x) (bitsOf d l) d (length-digits 2 d x))
+    let e = length-digits 2 d x in
+    rw (take-at (digits 2 d x) (bitsOf d l) d e, drop-at (digits 2 d x) (bitsOf d l) d e)
     (ap₂ (λ (y : ℕ) (m : List ℕ). y ∷ m)
     (value-digits 2 d x (omega arith) ∙ mod-eq-of-lt (below-head h))
     (numbersOf-bitsOf d l (below-tail h)))
@@ -83,7 +88,8 @@ length-byteDecode d b = length-numbersOf d 256 (bitsOf 8 b)
 
 pub below-byteEncode : (d : ℕ) (f : List ℕ) → length f ≡ 256 → Below 256 (byteEncode d f)
 unfolding byteEncode
-below-byteEncode d f e = below-numbersOf 8 (32 * d) (length-bitsOf d f ∙ omega (arith, ap (λ (n : ℕ). d * n) e)) (below-bitsOf d f)
+below-byteEncode d f e =
+    below-numbersOf 8 (32 * d) (length-bitsOf d f ∙ omega (arith, ap (λ (n : ℕ). d * n) e)) (below-bitsOf d f)
 
 pub below-byteDecode : (d : ℕ) (b : List ℕ) → length b ≡ 32 * d → Below (2 ^ d) (byteDecode d b)
 unfolding byteDecode
@@ -92,7 +98,9 @@ below-byteDecode d b e = below-numbersOf d 256 (length-bitsOf 8 b ∙ omega arit
 pub byteDecode-byteEncode : (d : ℕ) (f : List ℕ) → length f ≡ 256 → Below (2 ^ d) f → byteDecode d (byteEncode d f) ≡ f
 unfolding byteDecode byteEncode
 byteDecode-byteEncode d f e h =
-    ap (numbersOf d 256) (bitsOf-numbersOf 8 (32 * d) (bitsOf d f) (length-bitsOf d f ∙ omega (arith, ap (λ (n : ℕ). d * n) e)) (below-bitsOf d f))
+    ap (numbersOf d 256)
+    (bitsOf-numbersOf 8 (32 * d) (bitsOf d f)
+    (length-bitsOf d f ∙ omega (arith, ap (λ (n : ℕ). d * n) e)) (below-bitsOf d f))
     ∙ ap (λ (n : ℕ). numbersOf d n (bitsOf d f)) (sym e)
     ∙ numbersOf-bitsOf d f h
 
@@ -109,21 +117,14 @@ pub length-byteDecode12 : (b : List ℕ) → length (byteDecode12 b) ≡ 256
 unfolding byteDecode12
 length-byteDecode12 b = length-map (byteDecode 12 b) (λ x. x % q) ∙ length-byteDecode 12 b
 
-pub below-byteDecode12 : (b : List ℕ) → length b ≡ 384 → Below q (byteDecode12 b)
-unfolding byteDecode12
-below-byteDecode12 b e =
-    below-map (λ x. x % q) (omega arith) (λ x l. mod-lt x (omega arith)) (byteDecode 12 b) (below-byteDecode 12 b e)
-
 -- numbers below q are left as they are
 mod-of-below : (l : List ℕ) → Below q l → map (λ x. x % q) l ≡ l
 mod-of-below [] h = refl
-mod-of-below (x ∷ l) h = ap₂ (λ (y : ℕ) (m : List ℕ). y ∷ m) (mod-eq-of-lt (below-head h)) (mod-of-below l (below-tail h))
+mod-of-below (x ∷ l) h =
+    ap₂ (λ (y : ℕ) (m : List ℕ). y ∷ m) (mod-eq-of-lt (below-head h)) (mod-of-below l (below-tail h))
 
 pub byteDecode12-byteEncode : (f : List ℕ) → length f ≡ 256 → Below q f → byteDecode12 (byteEncode 12 f) ≡ f
 unfolding byteDecode12
 byteDecode12-byteEncode f e h =
-    ap (map (λ x. x % q)) (byteDecode-byteEncode 12 f e (record { at = λ k. omega (arith, h .at k) })) ∙ mod-of-below f h
-
-pub byteEncode-byteDecode12 : (b : List ℕ) → length b ≡ 384 → Below 256 b → Below q (byteDecode 12 b) → byteEncode 12 (byteDecode12 b) ≡ b
-unfolding byteDecode12
-byteEncode-byteDecode12 b e h k = ap (byteEncode 12) (mod-of-below (byteDecode 12 b) k) ∙ byteEncode-byteDecode 12 b e h
+    ap (map (λ x. x % q)) (byteDecode-byteEncode 12 f e (record { at = λ k. omega (arith, h .at k) }))
+    ∙ mod-of-below f h

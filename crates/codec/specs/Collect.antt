@@ -56,4 +56,5 @@ module _ {l f : List ℕ} {k : ℕ} (c : Collected l f k) where
     where
       go : Dec (256 ≤ length l) → eqb k 256 ≡ leb 256 (length l)
       go (yes h) = rw (eq-eqb k 256 (c .count ∙ length-take 256 l ∙ omega arith), le-leb 256 (length l) h)
-      go (no h) = rw (ne-eqb k 256 (λ e. h (omega (arith, c .count, length-take 256 l))), lt-leb 256 (length l) (omega arith))
+      go (no h) =
+          rw (ne-eqb k 256 (λ e. h (omega (arith, c .count, length-take 256 l))), lt-leb 256 (length l) (omega arith))

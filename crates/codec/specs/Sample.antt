@@ -1,4 +1,4 @@
--- FIPS 203, section 4.2.2: sampling.
+-- FIPS 203, section 4.2.2: SampleNTT and SamplePolyCBD.
 use mathlib.Core.List.{List, [], _∷_, _++_}
 use mathlib.Core.Bool.{Bool, true, false, cond}
 use Prim.Native.Nat.{ℕ, zero, suc, _+_, _*_, _/_, _%_}
@@ -14,20 +14,20 @@ use Rattle.ring.specs.Polynomial.{minus}
 -- ---- Algorithm 7, SampleNTT, on a stream of n groups of three bytes
 
 -- lines 6, 7: the two numbers of group i
-abbrev pub first : List ℕ → ℕ → ℕ
-first s i = getD s (3 * i) 0 + 256 * (getD s (3 * i + 1) 0 % 16)
+abbrev pub d₁ : List ℕ → ℕ → ℕ
+d₁ s i = getD s (3 * i) 0 + 256 * (getD s (3 * i + 1) 0 % 16)
 
-abbrev pub second : List ℕ → ℕ → ℕ
-second s i = getD s (3 * i + 1) 0 / 16 + 16 * getD s (3 * i + 2) 0
+abbrev pub d₂ : List ℕ → ℕ → ℕ
+d₂ s i = getD s (3 * i + 1) 0 / 16 + 16 * getD s (3 * i + 2) 0
 
--- x where it is below q
+-- lines 8, 12: x where it is below q
 abbrev pub kept : ℕ → List ℕ
 kept x = cond (ltb x q) (x ∷ []) []
 
 -- lines 8 to 15: the numbers below q of the first n groups, in order
 unfoldable pub accepted : ℕ → List ℕ → List ℕ
 accepted zero s = []
-accepted (suc n) s = accepted n s ++ (kept (first s n) ++ kept (second s n))
+accepted (suc n) s = accepted n s ++ (kept (d₁ s n) ++ kept (d₂ s n))
 
 -- 256 coefficients; document 01 lends 840 bytes, 280 groups, and refuses a stream that yields fewer
 unfoldable pub sampleNtt : List ℕ → List ℕ
@@ -43,6 +43,7 @@ answerOf false = Short
 
 -- ---- Algorithm 8, SamplePolyCBD_eta
 
+-- lines 3, 4: the sum of some bits
 unfoldable pub sum : List ℕ → ℕ
 sum [] = 0
 sum (b ∷ l) = b + sum l

@@ -1,48 +1,29 @@
--- Sampling: what it yields is below q, and the binomial coefficients are made of decoded numbers one by one.
+-- Sampling: how far SampleNTT has come after each group, and SamplePolyCBD made of decoded numbers one by one.
 use mathlib.Core.Path.{_≡_, sym, ap, ap₂, _∙_}
-use mathlib.Core.List.{List, [], _∷_, _++_, append-assoc, map}
-use mathlib.Core.Bool.{Bool, true, false, cond}
-use Prim.Native.Nat.{ℕ, zero, suc, _+_, _*_, _/_, _%_, _^_, _<_, _≤_}
+use mathlib.Core.List.{List, _++_, append-assoc, map}
+use Prim.Native.Nat.{ℕ, _+_, _*_, _/_, _%_, _^_, _<_, _≤_}
 use native.Mathlib.Nat.{mod-lt, mul-le-mul-right}
 use native.Mathlib.Numerals.{add-one}
 use native.Mathlib.Omega.{arith}
-use lib.Dec.{T, ltb, ltb→lt}
 use lib.ListN.{length, take, drop, length-take, length-drop, length-append, length-map, List·getD-map}
 use lib.Seq.{take-at, drop-at, take-add, drop-drop}
 use Rattle.words.specs.Residue.{q}
 use Rattle.words.specs.Tab.{length-tab, tab-of}
 use Rattle.words.specs.Bounded.{Below}
-use Rattle.words.specs.BoundedLaws.{below-nil, below-cons, below-append, below-take, below-drop, below-tab}
+use Rattle.words.specs.BoundedLaws.{below-append, below-take, below-drop, below-tab}
 use Rattle.words.specs.Numeral.{value, digits}
 use Rattle.words.specs.NumeralLaws.{length-digits, digits-split, digits-value}
 use Rattle.ring.specs.Polynomial.{minus}
 use Rattle.codec.specs.Bytes.{bitsOf, byteDecode}
 use Rattle.codec.specs.BytesLaws.{length-bitsOf, below-bitsOf, getD-numbersOf, length-byteDecode}
-use Rattle.codec.specs.Sample.{first, second, kept, accepted, sampleNtt, sum, samplePolyCbd}
+use Rattle.codec.specs.Sample.{d₁, d₂, kept, accepted, sampleNtt, sum, samplePolyCbd}
 
 -- ---- SampleNTT
 
-below-kept : (x : ℕ) → Below q (kept x)
-below-kept x = go (ltb x q) (ltb→lt x q)
-  where
-    go : (b : Bool) → (T b → x < q) → Below q (cond b (x ∷ []) [])
-    go true h = below-cons (h tt) (below-nil (omega arith))
-    go false h = below-nil (omega arith)
-
 -- one group more
-pub accepted-turn : (n : ℕ) (s : List ℕ) → accepted (n + 1) s ≡ (accepted n s ++ kept (first s n)) ++ kept (second s n)
+pub accepted-turn : (n : ℕ) (s : List ℕ) → accepted (n + 1) s ≡ (accepted n s ++ kept (d₁ s n)) ++ kept (d₂ s n)
 unfolding accepted
-accepted-turn n s = rw (add-one n) (sym (append-assoc (accepted n s) (kept (first s n)) (kept (second s n))))
-
-pub below-accepted : (n : ℕ) (s : List ℕ) → Below q (accepted n s)
-unfolding accepted
-below-accepted zero s = below-nil (omega arith)
-below-accepted (suc n) s =
-    below-append (accepted n s) (below-accepted n s) (below-append (kept (first s n)) (below-kept (first s n)) (below-kept (second s n)))
-
-pub below-sampleNtt : (s : List ℕ) → Below q (sampleNtt s)
-unfolding sampleNtt
-below-sampleNtt s = below-take 256 (below-accepted 280 s)
+accepted-turn n s = rw (add-one n) (sym (append-assoc (accepted n s) (kept (d₁ s n)) (kept (d₂ s n))))
 
 pub length-sampleNtt : (s : List ℕ) → 256 ≤ length (accepted 280 s) → length (sampleNtt s) ≡ 256
 unfolding sampleNtt
@@ -58,7 +39,7 @@ pub below-samplePolyCbd : (eta : ℕ) (bytes : List ℕ) → Below q (samplePoly
 unfolding samplePolyCbd
 below-samplePolyCbd eta bytes = below-tab 256 (omega arith) (λ i h. mod-lt _ (omega arith))
 
--- of the 2 eta bits of v: the sum of the lowest eta less that of the others
+-- Algorithm 8, lines 3 to 5, on the 2 eta bits of v: the sum of the lowest eta less that of the others
 unfoldable pub centred : ℕ → ℕ → ℕ
 centred eta v = minus (sum (digits 2 eta (v % 2 ^ eta))) (sum (digits 2 eta (v / 2 ^ eta)))
 
@@ -93,10 +74,14 @@ module _ (eta : ℕ) (bytes : List ℕ) (e : length bytes ≡ 64 * eta) where
       sym
       (tab-of (centred eta 0) (map (centred eta) (byteDecode (2 * eta) bytes)) 256
       (length-map (byteDecode (2 * eta) bytes) (centred eta) ∙ length-byteDecode (2 * eta) bytes)
-      (λ i h. List·getD-map (centred eta) (byteDecode (2 * eta) bytes) i 0 ∙ ap (centred eta) (getD-numbersOf (2 * eta) 256 (bitsOf 8 bytes) i h) ∙ at i h))
+      (λ i h.
+      List·getD-map (centred eta) (byteDecode (2 * eta) bytes) i 0
+      ∙ ap (centred eta) (getD-numbersOf (2 * eta) 256 (bitsOf 8 bytes) i h)
+      ∙ at i h))
     where
       at : (i : ℕ) → i < 256 → centred eta (value 2 (take (2 * eta) (drop (2 * eta * i) (bitsOf 8 bytes))))
-          ≡ minus (sum (take eta (drop (2 * i * eta) (bitsOf 8 bytes)))) (sum (take eta (drop (2 * i * eta + eta) (bitsOf 8 bytes))))
+          ≡ minus (sum (take eta (drop (2 * i * eta) (bitsOf 8 bytes))))
+          (sum (take eta (drop (2 * i * eta + eta) (bitsOf 8 bytes))))
       at i h =
           let b = bitsOf 8 bytes in
           let n = 2 * i * eta in
@@ -108,4 +93,5 @@ module _ (eta : ℕ) (bytes : List ℕ) (e : length bytes ≡ 64 * eta) where
           (take-add eta eta (drop n b) ∙ ap (λ (m : List ℕ). take eta (drop n b) ++ take eta m) (drop-drop eta n b))
           ∙ centred-value eta (take eta (drop n b)) (take eta (drop (n + eta) b))
           (part-long n (omega arith)) (part-long (n + eta) (omega arith))
-          (below-take eta (below-drop n (below-bitsOf 8 bytes))) (below-take eta (below-drop (n + eta) (below-bitsOf 8 bytes)))
+          (below-take eta (below-drop n (below-bitsOf 8 bytes)))
+          (below-take eta (below-drop (n + eta) (below-bitsOf 8 bytes)))

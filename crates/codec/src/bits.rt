@@ -1,4 +1,4 @@
-// Numbers by their bits.
+// Numbers by their bits, for the functions of FIPS 203's section 4.2.
 ghost use mathlib.Core.Path.{_≡_};
 ghost use Prim.Native.Nat.{_+_, _*_, _/_, _%_, _^_, _<_, _≤_};
 
@@ -15,7 +15,7 @@ pub fn wide8(x: u8) -> u32
 }
 
 // x above the n bits of acc
-pub fn join(acc: u32, x: u32, n: u32) -> u32
+pub fn put_above(acc: u32, x: u32, n: u32) -> u32
     requires { ⌜ (n < 16) × (acc < 2 ^ n) × (x < 2 ^ 12) ⌝ }
     ensures { λ r. ⌜ r ≡ acc + x * 2 ^ n ⌝ }
 {

@@ -1,4 +1,4 @@
-// Compress and Decompress at each depth from 1 to 11, without division.
+// Compress_d and Decompress_d (FIPS 203, section 4.2.1) at each depth d from 1 to 11, without division.
 use crate::bits::high;
 use crate::bits::low;
 use crate::bits::shifted;
@@ -10,7 +10,7 @@ ghost use Prim.Native.Nat.{_+_, _*_, _^_, _<_, _≤_};
 ghost use Rattle.words.specs.Bounded.{Below};
 ghost use Rattle.codec.specs.Compress.{compress, decompress};
 
-// (2 a + q) / (2 q) is (a + 1664) / q.
+// Compress_d, (4.7): (2 a + q) / (2 q) is (a + 1664) / q.
 pub fn compress(x: u16, d: u32) -> u16
     requires { ⌜ d ≤ 11 ⌝ }
     ensures { λ r. ⌜ r ≡ compress d x ⌝ }
@@ -18,6 +18,7 @@ pub fn compress(x: u16, d: u32) -> u16
     low(quotient(shifted(x, d) + 1664), d)
 }
 
+// Decompress_d, (4.8)
 pub fn decompress(y: u16, d: u32) -> u16
     requires { ⌜ (d ≤ 11) × (y < 2 ^ d) ⌝ }
     ensures { λ r. ⌜ r ≡ decompress d y ⌝ }
@@ -25,6 +26,7 @@ pub fn decompress(y: u16, d: u32) -> u16
     high(6658 * wide16(y) + shifted(1, d), d + 1) as u16
 }
 
+// Compress_d of every coefficient
 pub fn compress_all(f: &mut [u16], d: u32)
     requires { ⌜ d ≤ 11 ⌝ }
     ensures { λ _. ⌜ now (f .exit) ≡ map (compress d) (now (f .entry)) ⌝ }
@@ -34,6 +36,7 @@ pub fn compress_all(f: &mut [u16], d: u32)
     }
 }
 
+// Decompress_d of every coefficient
 pub fn decompress_all(f: &mut [u16], d: u32)
     requires { ⌜ (d ≤ 11) × Below (2 ^ d) (now f) ⌝ }
     ensures { λ _. ⌜ now (f .exit) ≡ map (decompress d) (now (f .entry)) ⌝ }

@@ -1,8 +1,8 @@
-// ByteEncode and ByteDecode at each number of bits from 1 to 12.
+// ByteEncode_d and ByteDecode_d (FIPS 203, section 4.2.1) at each number of bits d from 1 to 12.
 use crate::bits::high;
-use crate::bits::join;
 use crate::bits::low;
 use crate::bits::low_byte;
+use crate::bits::put_above;
 use crate::bits::wide8;
 use crate::bits::wide16;
 use ring::reduce;
@@ -14,9 +14,13 @@ ghost use Rattle.words.specs.Residue.{q};
 ghost use Rattle.words.specs.Bounded.{Below};
 ghost use Rattle.codec.specs.Bytes.{byteEncode, byteDecode, byteDecode12};
 
-// Each turn loads a coefficient or stores a byte.
+// Algorithm 5, ByteEncode_d: each turn loads a coefficient or stores a byte.
 pub fn byte_encode(f: &[u16], d: u32, out: &mut [u8])
-    requires { ⌜ (length (now f) ≡ 256) × (length (now out) ≡ 32 * d) × (0 < d) × (d ≤ 12) × Below (2 ^ d) (now f) ⌝ }
+    requires { ⌜ (length (now f) ≡ 256)
+        × (length (now out) ≡ 32 * d)
+        × (0 < d)
+        × (d ≤ 12)
+        × Below (2 ^ d) (now f) ⌝ }
     ensures { λ _. ⌜ now (out .exit) ≡ byteEncode d (now (f .entry)) ⌝ }
 {
     let mut acc: u32 = 0;
@@ -25,7 +29,7 @@ pub fn byte_encode(f: &[u16], d: u32, out: &mut [u8])
     let mut k = 0;
     while k < out.len() {
         if n < 8 {
-            acc = join(acc, wide16(f[i]), n);
+            acc = put_above(acc, wide16(f[i]), n);
             n += d;
             i += 1;
         } else {
@@ -37,7 +41,7 @@ pub fn byte_encode(f: &[u16], d: u32, out: &mut [u8])
     }
 }
 
-// Each turn loads a byte or stores a coefficient.
+// Algorithm 6, ByteDecode_d, its numbers not yet reduced at d = 12: each turn loads a byte or stores a coefficient.
 pub fn byte_decode(b: &[u8], d: u32, f: &mut [u16])
     requires { ⌜ (length (now b) ≡ 32 * d) × (length (now f) ≡ 256) × (0 < d) × (d ≤ 12) ⌝ }
     ensures { λ _. ⌜ now (f .exit) ≡ byteDecode d (now (b .entry)) ⌝ }
@@ -48,7 +52,7 @@ pub fn byte_decode(b: &[u8], d: u32, f: &mut [u16])
     let mut k = 0;
     while k < f.len() {
         if n < d {
-            acc = join(acc, wide8(b[i]), n);
+            acc = put_above(acc, wide8(b[i]), n);
             n += 8;
             i += 1;
         } else {
@@ -60,6 +64,7 @@ pub fn byte_decode(b: &[u8], d: u32, f: &mut [u16])
     }
 }
 
+// every number modulo q
 fn reduce_all(f: &mut [u16])
     ensures { λ _. ⌜ now (f .exit) ≡ map (λ x. x % q) (now (f .entry)) ⌝ }
 {
@@ -68,6 +73,7 @@ fn reduce_all(f: &mut [u16])
     }
 }
 
+// Algorithm 6 at d = 12
 pub fn byte_decode12(b: &[u8], f: &mut [u16])
     requires { ⌜ (length (now b) ≡ 384) × (length (now f) ≡ 256) ⌝ }
     ensures { λ _. ⌜ now (f .exit) ≡ byteDecode12 (now (b .entry)) ⌝ }

@@ -1,2 +1,4 @@
-pub mod Coins
+pub mod Compared
+pub mod Hashed
+pub mod LentParts
 pub mod Outcome

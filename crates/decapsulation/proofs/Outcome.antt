@@ -1,92 +1,177 @@
--- What the one function leaves in the lent buffers.
-use mathlib.Core.Path.{_≡_, refl, sym, ap, _∙_, subst}
-use mathlib.Core.Bool.{Bool, true}
-use mathlib.Core.List.{List}
-use Prim.Native.Nat.{ℕ, _+_, _-_, _≤_, _<_}
-use native.Mathlib.Decide.{decLt}
-use native.Mathlib.Numerals.{add-one}
+-- What the one function leaves in the lent buffers, and how the two calls read it.
+use mathlib.Core.Path.{_≡_, sym, ap, _∙_, subst}
+use mathlib.Core.Bool.{Bool, true, false, _&&_}
+use mathlib.Core.List.{List, [], _∷_, _++_}
+use Prim.Native.Nat.{ℕ, _<_, _≤_}
 use native.Mathlib.Omega.{arith}
+use lib.Dec.{eqb}
 use lib.ListN.{length, take, drop, length-take, length-drop}
 use lib.Seq.{take-all}
-use Rattle.words.specs.Part.{part-take, part-rest}
+use Rattle.words.specs.Part.{part-take}
 use Rattle.worksheet.specs.declared.Recorder.{Recorder}
-use Rattle.worksheet.specs.Recording.{noted}
 use Rattle.worksheet.specs.Ran.{Ran}
 use Rattle.worksheet.specs.SharedList.{SharedList, sharedList}
-use Rattle.mlkem.specs.declared.Answer.{Answer}
-use Rattle.mlkem.specs.declared.Answer.the-variants.{Done, WrongLength, PublicKeyRange, WrongHash, SecretRange, MaskRange, ShareRange, ShortStream, NoSuchStep}
-use Rattle.kpke.specs.Parameters.{mlKem768}
+use Rattle.refusals.specs.declared.Answer.{Answer}
+use Rattle.refusals.specs.declared.Answer.the-variants.{Done, WrongLength, MaskRange, ShareRange, ShortStream}
+use Rattle.refusals.specs.declared.Answer.the-variants.{NoSuchStep}
+use Rattle.refusals.specs.Refusals.{number, answer, after, Row, Lent, lent, sized}
+use Rattle.refusals.specs.Same.{same}
+use Rattle.refusals.specs.SameLaws.{and-right}
+use Rattle.refusals.specs.RefusalLaws.{refused, passed, no-row, after-refused, sized-exact, sized-more, sized-first}
+use Rattle.tracing.specs.Told.{toldAnswer, toldValue, leftOf}
+use Rattle.tracing.specs.Told as told
+use Rattle.tracing.specs.ToldLaws.{told-none, told-refused, told-over, told-done, ran-value, left-answer, left-value}
+use Rattle.kpke.specs.Parameters.{Parameters, mlKem768}
 use Rattle.kpke.specs.KPke.{concat, matrix, matrixFull}
-use Rattle.mlkem.specs.Refusals.{after}
 use Rattle.kpke.specs.Expanded.{Expanded, expanded-concat}
-use Rattle.mlkem.specs.Worksheet.{worksheet}
-use Rattle.decapsulation.specs.Calls.{Input, keyOf, sheet, decapsShares, traceAnswer, traceValue}
-use Rattle.decapsulation.specs.Told.{toldAnswer, toldValue}
-use Rattle.decapsulation.specs.AnswerLaws.{told-trace, told-past, told-past-refused}
+use Rattle.mlkem.specs.Reduced.{reduced}
+use Rattle.stages.specs.Counts.{steps}
+use Rattle.stages.specs.Counts768.{counts768}
+use Rattle.stages.specs.Worksheet.{worksheet}
+use Rattle.masked_kpke.specs.Slices.{Long}
+use Rattle.decapsulation.specs.Calls.{Input, sheet, lengths, rows}
+use Rattle.decapsulation.specs.Calls.{decapsRows, decapsAnswer, decapsShares, Decapsulated}
+use Rattle.decapsulation.specs.Calls.{traceAnswer, traceValue, Traced, Told}
+use Rattle.decapsulation.specs.Sized.{Sized}
+use Rattle.decapsulation.specs.AnswerLaws.{sized-lengths, lengths-sized}
+use Rattle.decapsulation.specs.AnswerLaws.{rows-passed, rows-refusing, rows-shares, rows-steps}
 
--- rho, as a part of the public part
+-- ---- row 1 as the code tests it
+
+-- all that is lent to decapsulation
+abbrev pub all : Parameters → Input → List ℕ → List ℕ → List Lent
+all p g k0 k1 = lengths p g ++ lent k0 4 ∷ lent k1 4 ∷ []
+
+module _ (g : Input) (k0 k1 : List ℕ) where
+  pub sized-same : sized (all mlKem768 g k0 k1)
+      ≡ same (length (g .key .s .s0) ∷ length (g .key .s .s1) ∷ length (g .key .z .s0) ∷ length (g .key .z .s1)
+      ∷ length (g .key .public) ∷ length (g .ct) ∷ length (g .words) ∷ length (g .coeffs) ∷ length k0 ∷ length k1 ∷ [])
+      (768 ∷ 768 ∷ 4 ∷ 4 ∷ 1216 ∷ 1088 ∷ 11750 ∷ 7424 ∷ 4 ∷ 4 ∷ [])
+  unfolding sized same
+  sized-same = rw (counts768 .stripWords, counts768 .stripCoeffs)
+
+sized-last : (bs cs : List Lent) → sized (bs ++ cs) ≡ true → sized cs ≡ true
+unfolding sized
+sized-last [] cs e = e
+sized-last (b ∷ bs) cs e = sized-last bs cs (and-right (eqb (length (b .list)) (b .size)) (sized (bs ++ cs)) e)
+
+module _ (g : Input) (k0 k1 : List ℕ) where
+  pub all-sized : sized (all mlKem768 g k0 k1) ≡ true → Sized mlKem768 g
+  all-sized e = sized-lengths mlKem768 g (sized-first (lengths mlKem768 g) _ e)
+
+  pub shares-long : sized (all mlKem768 g k0 k1) ≡ true → Long 4 (sharedList k0 k1)
+  shares-long e =
+      let x = sized-exact (lent k0 4 ∷ lent k1 4 ∷ []) (sized-last (lengths mlKem768 g) _ e) in
+      record { long0 = x .0; long1 = x .1 .0 }
+
+-- ---- where row 1 is passed, by the outcomes of the other tests
+
+module _ {g : Input} {k0 k1 : List ℕ} (l : Sized mlKem768 g) (k : Long 4 (sharedList k0 k1)) where
+  sized-all : sized (all mlKem768 g k0 k1) ≡ true
+  sized-all = sized-more (lengths mlKem768 g) _ (k .long0, (k .long1, tt)) ∙ lengths-sized mlKem768 g l
+
+  pub masks-refused : reduced (g .coeffs) ≡ false → answer (decapsRows mlKem768 g k0 k1) ≡ MaskRange
+  masks-refused e = passed WrongLength _ sized-all (refused MaskRange _ e)
+
+  module _ (masks : reduced (g .coeffs) ≡ true) where
+    pub shares-refused : (reduced (g .key .s .s0) && reduced (g .key .s .s1)) ≡ false
+        → answer (decapsRows mlKem768 g k0 k1) ≡ ShareRange
+    shares-refused e = passed WrongLength _ sized-all (passed MaskRange _ masks (refused ShareRange _ e))
+
+    module _ (shares : (reduced (g .key .s .s0) && reduced (g .key .s .s1)) ≡ true) where
+      pub stream-refused : matrixFull 3 (drop 1152 (take 1184 (g .key .public))) ≡ false
+          → answer (decapsRows mlKem768 g k0 k1) ≡ ShortStream
+      stream-refused e = rows-passed mlKem768 g (all mlKem768 g k0 k1) sized-all masks shares (refused ShortStream _ e)
+
+      pub all-passed : matrixFull 3 (drop 1152 (take 1184 (g .key .public))) ≡ true
+          → answer (decapsRows mlKem768 g k0 k1) ≡ Done
+      all-passed e =
+          rows-passed mlKem768 g (all mlKem768 g k0 k1) sized-all masks shares (passed ShortStream _ e no-row)
+
+-- ---- the one function
+
+module _ {p : Parameters} {left : ℕ} {g : Input} {k0 k1 : List ℕ} {v : ℕ} where
+  -- a refusal leaves everything
+  kept : (a : Answer) → 0 < number a → toldAnswer (decapsRows p g k0 k1) (length (sheet p g .entries)) left ≡ a
+      → Told p left g k0 k1 v (number a) k0 k1 v
+  kept a h e =
+      let r : number a ≡ 0 → ⊥ = λ z. omega arith in
+      record {
+        answer = ap number (sym e);
+        share0 = sym (after-refused (number a) _ k0 r);
+        share1 = sym (after-refused (number a) _ k1 r);
+        value = sym (after-refused (number a) _ v r);
+      }
+
+  -- by a row
+  pub told-row : (a : Answer) → 0 < number a → answer (decapsRows p g k0 k1) ≡ a
+      → Told p left g k0 k1 v (number a) k0 k1 v
+  told-row a h e = kept a h (told-refused (decapsRows p g k0 k1) (length (sheet p g .entries)) left e h)
+
+  -- no row refuses, and the step is past the end
+  pub told-past : answer (decapsRows p g k0 k1) ≡ Done → length (sheet p g .entries) < left
+      → Told p left g k0 k1 v (number NoSuchStep) k0 k1 v
+  told-past d h =
+      kept NoSuchStep (omega arith)
+      (told-over (decapsRows p g k0 k1) (length (sheet p g .entries)) (rows-refusing p g (all p g k0 k1)) d left h)
+
+  -- or not
+  pub told-ran : {x y ws cs : List ℕ} {rec : Recorder} → answer (decapsRows p g k0 k1) ≡ Done
+      → left ≤ length (sheet p g .entries)
+      → Ran (worksheet p (g .key) (g .ct)) (record { left = left; value = 0 }) (g .words) (g .coeffs) (sharedList x y)
+      rec ws cs
+      → Told p left g k0 k1 v (number Done) x y (rec .value)
+  unfolding decapsShares
+  told-ran d h r =
+      let f = rows-refusing p g (all p g k0 k1) in
+      record {
+        answer = ap number (sym (told-done (decapsRows p g k0 k1) (length (sheet p g .entries)) f d left h));
+        share0 = sym (ap (λ (z : SharedList). z .s0) (r .value));
+        share1 = sym (ap (λ (z : SharedList). z .s1) (r .value));
+        value = ran-value r;
+      }
+
+-- ---- the two calls
+
+module _ {p : Parameters} {g : Input} {k0 k1 : List ℕ} {v n : ℕ} {k0′ k1′ : List ℕ} {v′ : ℕ} where
+  pub told-decapsulated : Told p 0 g k0 k1 v n k0′ k1′ v′ → Decapsulated p g k0 k1 n k0′ k1′
+  unfolding decapsAnswer
+  told-decapsulated t =
+      record { answer = t .answer ∙ ap number (told-none _ _); share0 = t .share0; share1 = t .share1 }
+
+  pub told-traced : (t m : ℕ) {left : ℕ} → steps p ≡ m → left ≡ leftOf t m → Long 4 (sharedList k0 k1)
+      → Told p left g k0 k1 v n k0′ k1′ v′ → Traced p g t v n v′
+  unfolding traceAnswer traceValue
+  told-traced t m {left} s e k o =
+      let rs = rows p (lengths p g) g in
+      let entries = sheet p g .entries in
+      let a : n ≡ number (told.traceAnswer rs (length entries) t) =
+      o .answer
+      ∙ ap (λ (r : List Row). number (toldAnswer r (length entries) left)) (rows-shares p g k)
+      ∙ ap (λ (l : ℕ). number (toldAnswer rs (length entries) l)) e
+      ∙ ap number (left-answer rs (length entries) m t (rows-refusing p g (lengths p g)) (λ d. rows-steps p g d ∙ s)) in
+      record {
+        answer = a;
+        value =
+            o .value
+            ∙ ap (λ (l : ℕ). after n (toldValue l entries) v) e
+            ∙ ap (λ (x : ℕ). after x (toldValue (leftOf t m) entries) v) a
+            ∙ left-value rs (length entries) m t (rows-refusing p g (lengths p g)) (λ d. rows-steps p g d ∙ s) entries v
+            ∙ sym (ap (λ (x : ℕ). after x (told.traceValue entries t) v) a);
+      }
+
+-- ---- rho, as a part of the public part, and the matrix that the code expands from it
+
 pub rho-part : (l : List ℕ) → length l ≡ 1216 → take 32 (drop 1152 l) ≡ drop 1152 (take 1184 l)
 rho-part l e =
     sym (part-take 1152 32 1184 l (omega arith))
     ∙ take-all 32 (drop 1152 (take 1184 l)) (omega (arith, length-drop 1152 (take 1184 l), length-take 1184 l))
 
-pub expanded-public : (public a : List ℕ) (r : Bool) → length public ≡ 1216 → r ≡ matrixFull 3 (take 32 (drop 1152 public)) → r ≡ true
-    → (r ≡ true → a ≡ concat 3 (λ i. concat 3 (matrix (take 32 (drop 1152 public)) i))) → Expanded 3 (drop 1152 (take 1184 public)) a
+pub expanded-public : (public a : List ℕ) (r : Bool) → length public ≡ 1216
+    → r ≡ matrixFull 3 (take 32 (drop 1152 public)) → r ≡ true
+    → (r ≡ true → a ≡ concat 3 (λ i. concat 3 (matrix (take 32 (drop 1152 public)) i)))
+    → Expanded 3 (drop 1152 (take 1184 public)) a
 expanded-public public a r n e t f =
     subst (λ (rho : List ℕ). Expanded 3 rho a) (rho-part public n)
-    (subst (Expanded 3 (take 32 (drop 1152 public))) (sym (f t)) (expanded-concat 3 (take 32 (drop 1152 public)) (sym e ∙ t)))
-
--- h is lent as the part behind the public key
-pub ran-key : (s z : SharedList) (public c : List ℕ) {rec rec′ : Recorder} {ws cs ws′ cs′ : List ℕ} {k : SharedList}
-    → Ran (worksheet mlKem768 (record { s = s; z = z; ek = take 1184 public; h = take (length public - 1184) (drop 1184 public) }) c) rec ws cs k rec′ ws′ cs′
-    → Ran (worksheet mlKem768 (record { s = s; z = z; ek = take 1184 public; h = drop 1184 public }) c) rec ws cs k rec′ ws′ cs′
-ran-key s z public c r = rw (part-rest 1184 public) at r
-
-module _ (g : Input) {left : ℕ} {x y : List ℕ} {rec : Recorder} {ws cs : List ℕ}
-    (r : Ran (worksheet mlKem768 (keyOf mlKem768 g) (g .ct)) (record { left = left; value = 0 }) (g .words) (g .coeffs) (sharedList x y) rec ws cs) where
-  pub ran-share0 : x ≡ decapsShares mlKem768 g .s0
-  unfolding decapsShares
-  ran-share0 = sym (ap (λ (z : SharedList). z .s0) (r .value))
-
-  pub ran-share1 : y ≡ decapsShares mlKem768 g .s1
-  unfolding decapsShares
-  ran-share1 = sym (ap (λ (z : SharedList). z .s1) (r .value))
-
-  pub ran-value : rec .value ≡ toldValue mlKem768 left g
-  unfolding toldValue
-  ran-value = sym (ap (λ (t : Recorder). t .value) (r .seen))
-
--- ---- the trace
-
-after-refused : {A : Type 0} (r : Answer) (x v : A) → (r ≡ Done → ⊥) → after r x v ≡ v
-after-refused Done x v h = absurd (h refl)
-after-refused WrongLength x v h = refl
-after-refused PublicKeyRange x v h = refl
-after-refused WrongHash x v h = refl
-after-refused SecretRange x v h = refl
-after-refused MaskRange x v h = refl
-after-refused ShareRange x v h = refl
-after-refused ShortStream x v h = refl
-after-refused NoSuchStep x v h = refl
-
-told-step : (g : Input) (t : ℕ) → toldValue mlKem768 (t + 1) g ≡ traceValue mlKem768 g t
-unfolding toldValue traceValue
-told-step g t = rw (add-one t) (noted (sheet mlKem768 g .entries) t 0)
-
-module _ (g : Input) (t left : ℕ) (k0 k1 : List ℕ) (e : length k0 ≡ 4) (f : length k1 ≡ 4)
-    (within : t < 187794 → left ≡ t + 1) (past : 187794 ≤ t → left ≡ 187795) where
-  pub trace-answer : toldAnswer mlKem768 left g k0 k1 ≡ traceAnswer mlKem768 g t
-  trace-answer = go (decLt t 187794)
-    where
-      go : Dec (t < 187794) → toldAnswer mlKem768 left g k0 k1 ≡ traceAnswer mlKem768 g t
-      go (yes h) = rw (within h) (told-trace g k0 k1 e f t)
-      go (no h) = rw (past (omega arith)) (told-past g k0 k1 e f t (omega arith))
-
-  pub trace-after : (r : Answer) (v : ℕ) → r ≡ toldAnswer mlKem768 left g k0 k1 → after r (toldValue mlKem768 left g) v ≡ after r (traceValue mlKem768 g t) v
-  trace-after r v q = go (decLt t 187794)
-    where
-      go : Dec (t < 187794) → after r (toldValue mlKem768 left g) v ≡ after r (traceValue mlKem768 g t) v
-      go (yes h) = ap (λ (x : ℕ). after r x v) (ap (λ (l : ℕ). toldValue mlKem768 l g) (within h) ∙ told-step g t)
-      go (no h) =
-          let w : r ≡ Done → ⊥ = λ d. told-past-refused g k0 k1 (ap (λ (l : ℕ). toldAnswer mlKem768 l g k0 k1) (sym (past (omega arith))) ∙ sym q ∙ d) in
-          after-refused r (toldValue mlKem768 left g) v w ∙ sym (after-refused r (traceValue mlKem768 g t) v w)
+    (subst (Expanded 3 (take 32 (drop 1152 public))) (sym (f t))
+    (expanded-concat 3 (take 32 (drop 1152 public)) (sym e ∙ t)))

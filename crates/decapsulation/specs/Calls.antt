@@ -1,92 +1,108 @@
--- What decapsulation and trace answer and leave in the lent buffers, for a parameter set.
+-- What decapsulation and trace answer and hand back, for a parameter set.
+use mathlib.Core.Path.{_≡_}
 use mathlib.Core.Bool.{not, _&&_}
 use mathlib.Core.List.{List, [], _∷_, _++_}
 use Prim.Native.Nat.{ℕ, _+_, _*_, _^_}
-use lib.Dec.{ltb}
-use lib.ListN.{length, getD, take, drop}
+use lib.ListN.{length}
 use Rattle.words.specs.Bounded.{Below}
 use Rattle.worksheet.specs.Run.{Run, run}
 use Rattle.worksheet.specs.SharedList.{SharedList, sharedList}
-use Rattle.mlkem.specs.declared.Answer.{Answer}
-use Rattle.mlkem.specs.declared.Answer.the-variants.{WrongLength, MaskRange, ShareRange, ShortStream, NoSuchStep}
+use Rattle.refusals.specs.declared.Answer.{Answer}
+use Rattle.refusals.specs.declared.Answer.the-variants.{WrongLength, MaskRange, ShareRange, ShortStream}
+use Rattle.refusals.specs.Refusals.{number, after, Row, row, answer, Lent, lent, sized}
+use Rattle.tracing.specs.Told as told
 use Rattle.kpke.specs.Parameters.{Parameters, ekBytes, ctBytes}
-use Rattle.mlkem.specs.Refusals.{Row, row, answer, Lent, lent, sized, reduced}
 use Rattle.kpke.specs.KPke.{matrixFull}
-use Rattle.mlkem.specs.MlKem.{publicPart, hashPart}
-use Rattle.mlkem.specs.Calls.{rhoOf, secondCoeffs, secondWords}
-use Rattle.mlkem.specs.Worksheet.{SplitKey, worksheet}
-use Rattle.mlkem.specs.StripLengths.{stripWords, stripCoeffs}
+use Rattle.mlkem.specs.Reduced.{reduced}
+use Rattle.mlkem.specs.Calls.{rhoOf}
+use Rattle.mlkem.specs.SplitKey.{SplitKey, ekOf, split}
+use Rattle.stages.specs.Worksheet.{worksheet}
+use Rattle.stages.specs.Counts.{stripWords, stripCoeffs}
 
--- what is lent to be read: a split key (its public part is the public key, then h), a ciphertext and a strip
+-- what is lent to be read: a split key, a ciphertext and a strip
 pub record Input : Type 0 where
-  pub s0 : List ℕ
-  pub s1 : List ℕ
-  pub z0 : List ℕ
-  pub z1 : List ℕ
-  pub public : List ℕ
+  pub key : SplitKey
   pub ct : List ℕ
   pub words : List ℕ
   pub coeffs : List ℕ
 
+-- by the slices that are lent
 abbrev pub input : List ℕ → List ℕ → List ℕ → List ℕ → List ℕ → List ℕ → List ℕ → List ℕ → Input
 input s0 s1 z0 z1 public ct words coeffs =
-    record { s0 = s0; s1 = s1; z0 = z0; z1 = z1; public = public; ct = ct; words = words; coeffs = coeffs }
+    record {
+      key = record { s = sharedList s0 s1; z = sharedList z0 z1; public = public };
+      ct = ct;
+      words = words;
+      coeffs = coeffs;
+    }
 
 -- what the types of the lent buffers say: bytes are below 256, words below 2^64
 pub record Typed (g : Input) : Type 0 where
-  pub z0 : Below (2 ^ 64) (g .z0)
-  pub z1 : Below (2 ^ 64) (g .z1)
-  pub public : Below 256 (g .public)
+  pub z0 : Below (2 ^ 64) (g .key .z .s0)
+  pub z1 : Below (2 ^ 64) (g .key .z .s1)
+  pub public : Below 256 (g .key .public)
   pub ct : Below 256 (g .ct)
   pub words : Below (2 ^ 64) (g .words)
 
 module _ (p : Parameters) where
-  -- the split key
-  abbrev pub keyOf : Input → SplitKey
-  keyOf g =
-      record {
-        s = sharedList (g .s0) (g .s1);
-        z = sharedList (g .z0) (g .z1);
-        ek = take (ekBytes p) (g .public);
-        h = drop (ekBytes p) (g .public);
-      }
-
   -- what the worksheet does for this key, ciphertext and strip
   abbrev pub sheet : Input → Run SharedList
-  sheet g = run (worksheet p (keyOf g) (g .ct)) (g .words) (g .coeffs)
+  sheet g = run (worksheet p (g .key) (g .ct)) (g .words) (g .coeffs)
 
   -- the lengths that the buffers to be read must have
   abbrev pub lengths : Input → List Lent
   lengths g =
-      lent (g .s0) (256 * p .k) ∷ lent (g .s1) (256 * p .k) ∷ lent (g .z0) 4 ∷ lent (g .z1) 4 ∷ lent (g .public) (ekBytes p + 32)
+      lent (g .key .s .s0) (256 * p .k) ∷ lent (g .key .s .s1) (256 * p .k)
+      ∷ lent (g .key .z .s0) 4 ∷ lent (g .key .z .s1) 4 ∷ lent (g .key .public) (ekBytes p + 32)
       ∷ lent (g .ct) (ctBytes p) ∷ lent (g .words) (stripWords p) ∷ lent (g .coeffs) (stripCoeffs p) ∷ []
 
-  -- rows 5, 6 and 7
-  abbrev pub rangeRows : Input → List Row
-  rangeRows g =
-      row (not (reduced (g .coeffs))) MaskRange
-      ∷ row (not (reduced (g .s0) && reduced (g .s1))) ShareRange
-      ∷ row (not (matrixFull (p .k) (rhoOf p (keyOf g .ek)))) ShortStream
+  -- rows 1, 5, 6 and 7, where the buffers bs are lent
+  abbrev pub rows : List Lent → Input → List Row
+  rows bs g =
+      row (not (sized bs)) WrongLength
+      ∷ row (not (reduced (g .coeffs))) MaskRange
+      ∷ row (not (reduced (g .key .s .s0) && reduced (g .key .s .s1))) ShareRange
+      ∷ row (not (matrixFull (p .k) (rhoOf p (ekOf p (g .key))))) ShortStream
       ∷ []
 
-  -- decapsulation, which is lent k0 and k1 for the shares of K
+  -- ---- decapsulation, which is lent k0 and k1 for the shares of K
+
+  abbrev pub decapsRows : Input → List ℕ → List ℕ → List Row
+  decapsRows g k0 k1 = rows (lengths g ++ lent k0 4 ∷ lent k1 4 ∷ []) g
+
   unfoldable pub decapsAnswer : Input → List ℕ → List ℕ → Answer
-  decapsAnswer g k0 k1 = answer (row (not (sized (lengths g ++ lent k0 4 ∷ lent k1 4 ∷ []))) WrongLength ∷ rangeRows g)
+  decapsAnswer g k0 k1 = answer (decapsRows g k0 k1)
 
   unfoldable pub decapsShares : Input → SharedList
   decapsShares g = sheet g .value
 
-  -- trace of the step t
+  -- it answers the number n and leaves k0′ and k1′
+  pub record Decapsulated (g : Input) (k0 k1 : List ℕ) (n : ℕ) (k0′ k1′ : List ℕ) : Type 0 where
+    pub answer : n ≡ number (decapsAnswer g k0 k1)
+    pub share0 : k0′ ≡ after n (decapsShares g .s0) k0
+    pub share1 : k1′ ≡ after n (decapsShares g .s1) k1
+
+  -- ---- trace of the step t
+
   unfoldable pub traceAnswer : Input → ℕ → Answer
-  traceAnswer g t =
-      answer
-      (row (not (sized (lengths g))) WrongLength
-      ∷ (rangeRows g ++ row (not (ltb t (length (sheet g .entries)))) NoSuchStep ∷ []))
+  traceAnswer g t = told.traceAnswer (rows (lengths g) g) (length (sheet g .entries)) t
 
   unfoldable pub traceValue : Input → ℕ → ℕ
-  traceValue g t = getD (sheet g .entries) t 0
+  traceValue g t = told.traceValue (sheet g .entries) t
 
-  -- what import hands over for the key dk and the first shares a and w, with a ciphertext and a strip
+  -- it answers the number n, and v becomes v′
+  pub record Traced (g : Input) (t v n v′ : ℕ) : Type 0 where
+    pub answer : n ≡ number (traceAnswer g t)
+    pub value : v′ ≡ after n (traceValue g t) v
+
+  -- ---- the one function behind both, which is told `left`
+
+  pub record Told (left : ℕ) (g : Input) (k0 k1 : List ℕ) (v n : ℕ) (k0′ k1′ : List ℕ) (v′ : ℕ) : Type 0 where
+    pub answer : n ≡ number (told.toldAnswer (decapsRows g k0 k1) (length (sheet g .entries)) left)
+    pub share0 : k0′ ≡ after n (decapsShares g .s0) k0
+    pub share1 : k1′ ≡ after n (decapsShares g .s1) k1
+    pub value : v′ ≡ after n (told.toldValue left (sheet g .entries)) v
+
+  -- ---- what import hands over for the key dk and the first shares a and w, with a ciphertext and a strip
   abbrev pub imported : List ℕ → List ℕ → List ℕ → List ℕ → List ℕ → List ℕ → Input
-  imported dk a w c words coeffs =
-      input a (secondCoeffs p dk a) w (secondWords p dk w) (publicPart p dk ++ hashPart p dk) c words coeffs
+  imported dk a w c words coeffs = record { key = split p dk a w; ct = c; words = words; coeffs = coeffs }

@@ -1,5 +1,5 @@
-pub mod Groups
+pub mod StageSized
 pub mod Calls
-pub mod Told
+pub mod Sized
 pub mod AnswerLaws
 pub mod Demand2

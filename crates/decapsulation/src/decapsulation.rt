@@ -1,17 +1,18 @@
 // Masked decapsulation and its trace: one function runs the worksheet, told a step number or none.
 ghost use mathlib.Core.Bool.{_&&_};
 ghost use mathlib.Core.Path.{_≡_};
-ghost use Prim.Native.Nat.{_+_, _<_, _≤_};
-ghost use lib.ListN.{length};
+ghost use Rattle.worksheet.specs.SharedList.{sharedList};
+ghost use Rattle.refusals.specs.Refusals.{number};
 ghost use Rattle.kpke.specs.Parameters.{mlKem768};
-ghost use Rattle.mlkem.specs.Refusals.{after, reduced as reducedOf};
-ghost use Rattle.decapsulation.specs.Calls.{input, decapsAnswer, decapsShares, traceAnswer, traceValue};
-ghost use Rattle.decapsulation.specs.Told.{toldAnswer, toldValue};
+ghost use Rattle.mlkem.specs.Reduced.{reduced as reducedOf};
+ghost use Rattle.decapsulation.specs.Calls.{input, Told, Decapsulated, Traced};
+ghost use Rattle.decapsulation.specs.Sized.{CallSized};
 use crate::worksheet_run::run;
 use kpke::matrix::expand;
-use mlkem::Answer;
-use mlkem::tests::exact;
-use mlkem::tests::reduced;
+use mlkem::conditions::reduced;
+use refusals::Answer;
+use refusals::exact;
+use tracing::left_of;
 use worksheet::Recorder;
 
 fn both_reduced(f: &[u16], g: &[u16]) -> bool
@@ -38,11 +39,16 @@ fn decapsulate_sized(
     k1: &mut [u64],
     value: &mut u64,
 ) -> Answer
-    requires { ⌜ (length (now s0) ≡ 768) × (length (now s1) ≡ 768) × (length (now z0) ≡ 4) × (length (now z1) ≡ 4) × (length (now public) ≡ 1216) × (length (now ct) ≡ 1088) × (length (now words) ≡ 11750) × (length (now coeffs) ≡ 7424) × (length (now k0) ≡ 4) × (length (now k1) ≡ 4) ⌝ }
-    ensures { λ r. ⌜ r ≡ toldAnswer mlKem768 left (input (now (s0 .entry)) (now (s1 .entry)) (now (z0 .entry)) (now (z1 .entry)) (now (public .entry)) (now (ct .entry)) (now (words .entry)) (now (coeffs .entry))) (now (k0 .entry)) (now (k1 .entry)) ⌝ }
-    ensures { λ r. ⌜ now (k0 .exit) ≡ after r (decapsShares mlKem768 (input (now (s0 .entry)) (now (s1 .entry)) (now (z0 .entry)) (now (z1 .entry)) (now (public .entry)) (now (ct .entry)) (now (words .entry)) (now (coeffs .entry))) .s0) (now (k0 .entry)) ⌝ }
-    ensures { λ r. ⌜ now (k1 .exit) ≡ after r (decapsShares mlKem768 (input (now (s0 .entry)) (now (s1 .entry)) (now (z0 .entry)) (now (z1 .entry)) (now (public .entry)) (now (ct .entry)) (now (words .entry)) (now (coeffs .entry))) .s1) (now (k1 .entry)) ⌝ }
-    ensures { λ r. ⌜ now (value .exit) ≡ after r (toldValue mlKem768 left (input (now (s0 .entry)) (now (s1 .entry)) (now (z0 .entry)) (now (z1 .entry)) (now (public .entry)) (now (ct .entry)) (now (words .entry)) (now (coeffs .entry)))) (now (value .entry)) ⌝ }
+    requires { ⌜
+        CallSized mlKem768
+        (input (now s0) (now s1) (now z0) (now z1) (now public) (now ct) (now words) (now coeffs))
+        (sharedList (now k0) (now k1)) ⌝ }
+    ensures { λ r. ⌜
+        Told mlKem768 left
+        (input (now (s0 .entry)) (now (s1 .entry)) (now (z0 .entry)) (now (z1 .entry)) (now (public .entry))
+        (now (ct .entry)) (now (words .entry)) (now (coeffs .entry)))
+        (now (k0 .entry)) (now (k1 .entry)) (now (value .entry)) (number r)
+        (now (k0 .exit)) (now (k1 .exit)) (now (value .exit)) ⌝ }
 {
     let mut a = [0u16; 2304];
     if !reduced(coeffs) {
@@ -58,21 +64,7 @@ fn decapsulate_sized(
         return Answer::NoSuchStep;
     }
     let rec = Recorder { left, value: 0 };
-    let last = run(
-        rec,
-        &a,
-        s0,
-        s1,
-        z0,
-        z1,
-        &public[0..1184],
-        &public[1184..],
-        ct,
-        words,
-        coeffs,
-        k0,
-        k1,
-    );
+    let last = run(rec, &a, s0, s1, z0, z1, public, ct, words, coeffs, k0, k1);
     *value = last.value;
     Answer::Done
 }
@@ -92,10 +84,12 @@ fn decapsulate(
     k1: &mut [u64],
     value: &mut u64,
 ) -> Answer
-    ensures { λ r. ⌜ r ≡ toldAnswer mlKem768 left (input (now (s0 .entry)) (now (s1 .entry)) (now (z0 .entry)) (now (z1 .entry)) (now (public .entry)) (now (ct .entry)) (now (words .entry)) (now (coeffs .entry))) (now (k0 .entry)) (now (k1 .entry)) ⌝ }
-    ensures { λ r. ⌜ now (k0 .exit) ≡ after r (decapsShares mlKem768 (input (now (s0 .entry)) (now (s1 .entry)) (now (z0 .entry)) (now (z1 .entry)) (now (public .entry)) (now (ct .entry)) (now (words .entry)) (now (coeffs .entry))) .s0) (now (k0 .entry)) ⌝ }
-    ensures { λ r. ⌜ now (k1 .exit) ≡ after r (decapsShares mlKem768 (input (now (s0 .entry)) (now (s1 .entry)) (now (z0 .entry)) (now (z1 .entry)) (now (public .entry)) (now (ct .entry)) (now (words .entry)) (now (coeffs .entry))) .s1) (now (k1 .entry)) ⌝ }
-    ensures { λ r. ⌜ now (value .exit) ≡ after r (toldValue mlKem768 left (input (now (s0 .entry)) (now (s1 .entry)) (now (z0 .entry)) (now (z1 .entry)) (now (public .entry)) (now (ct .entry)) (now (words .entry)) (now (coeffs .entry)))) (now (value .entry)) ⌝ }
+    ensures { λ r. ⌜
+        Told mlKem768 left
+        (input (now (s0 .entry)) (now (s1 .entry)) (now (z0 .entry)) (now (z1 .entry)) (now (public .entry))
+        (now (ct .entry)) (now (words .entry)) (now (coeffs .entry)))
+        (now (k0 .entry)) (now (k1 .entry)) (now (value .entry)) (number r)
+        (now (k0 .exit)) (now (k1 .exit)) (now (value .exit)) ⌝ }
 {
     let has = [
         s0.len(),
@@ -140,9 +134,11 @@ pub fn decaps(
     k0: &mut [u64],
     k1: &mut [u64],
 ) -> Answer
-    ensures { λ r. ⌜ r ≡ decapsAnswer mlKem768 (input (now (s0 .entry)) (now (s1 .entry)) (now (z0 .entry)) (now (z1 .entry)) (now (public .entry)) (now (ct .entry)) (now (words .entry)) (now (coeffs .entry))) (now (k0 .entry)) (now (k1 .entry)) ⌝ }
-    ensures { λ r. ⌜ now (k0 .exit) ≡ after r (decapsShares mlKem768 (input (now (s0 .entry)) (now (s1 .entry)) (now (z0 .entry)) (now (z1 .entry)) (now (public .entry)) (now (ct .entry)) (now (words .entry)) (now (coeffs .entry))) .s0) (now (k0 .entry)) ⌝ }
-    ensures { λ r. ⌜ now (k1 .exit) ≡ after r (decapsShares mlKem768 (input (now (s0 .entry)) (now (s1 .entry)) (now (z0 .entry)) (now (z1 .entry)) (now (public .entry)) (now (ct .entry)) (now (words .entry)) (now (coeffs .entry))) .s1) (now (k1 .entry)) ⌝ }
+    ensures { λ r. ⌜
+        Decapsulated mlKem768
+        (input (now (s0 .entry)) (now (s1 .entry)) (now (z0 .entry)) (now (z1 .entry)) (now (public .entry))
+        (now (ct .entry)) (now (words .entry)) (now (coeffs .entry)))
+        (now (k0 .entry)) (now (k1 .entry)) (number r) (now (k0 .exit)) (now (k1 .exit)) ⌝ }
 {
     let mut value: u64 = 0;
     decapsulate(
@@ -161,16 +157,6 @@ pub fn decaps(
     )
 }
 
-// What a recorder is told for a step: a step past the worksheet's end is told as one past it.
-fn left_of(step: u64) -> u64
-    ensures { λ r. ⌜ (step < 187794 → r ≡ step + 1) × (187794 ≤ step → r ≡ 187795) ⌝ }
-{
-    if step < 187794 {
-        return step + 1;
-    }
-    187795
-}
-
 pub fn trace(
     s0: &[u16],
     s1: &[u16],
@@ -183,12 +169,15 @@ pub fn trace(
     step: u64,
     value: &mut u64,
 ) -> Answer
-    ensures { λ r. ⌜ r ≡ traceAnswer mlKem768 (input (now (s0 .entry)) (now (s1 .entry)) (now (z0 .entry)) (now (z1 .entry)) (now (public .entry)) (now (ct .entry)) (now (words .entry)) (now (coeffs .entry))) step ⌝ }
-    ensures { λ r. ⌜ now (value .exit) ≡ after r (traceValue mlKem768 (input (now (s0 .entry)) (now (s1 .entry)) (now (z0 .entry)) (now (z1 .entry)) (now (public .entry)) (now (ct .entry)) (now (words .entry)) (now (coeffs .entry))) step) (now (value .entry)) ⌝ }
+    ensures { λ r. ⌜
+        Traced mlKem768
+        (input (now (s0 .entry)) (now (s1 .entry)) (now (z0 .entry)) (now (z1 .entry)) (now (public .entry))
+        (now (ct .entry)) (now (words .entry)) (now (coeffs .entry)))
+        step (now (value .entry)) (number r) (now (value .exit)) ⌝ }
 {
     let mut k0 = [0u64; 4];
     let mut k1 = [0u64; 4];
-    let left = left_of(step);
+    let left = left_of(step, 187794);
     decapsulate(
         left,
         s0,

@@ -17,7 +17,7 @@ use Rattle.worksheet.specs.MaskedAnd.{maskedAnd}
 use Rattle.worksheet.specs.Gates.{maskedXor}
 use Rattle.codec.specs.Bytes.{bitsOf}
 use Rattle.codec.specs.Compress.{compress, decompress}
-use Rattle.codec.specs.Sample.{first, second, accepted, sum, samplePolyCbd}
+use Rattle.codec.specs.Sample.{d₁, d₂, accepted, sum, samplePolyCbd}
 use Rattle.ring.specs.Transform.{bitRev7, zeta}
 use Rattle.masked_compression.specs.Adder.{maskPlane, carryStep, sumPlane, adder}
 use Rattle.masked_compression.specs.Compression.{fixedPoint, maskedCompress}
@@ -55,7 +55,8 @@ pair z = z .s0 ∷ z .s1 ∷ []
 abbrev pub group : List ℕ
 group = 0 ∷ 29 ∷ 208 ∷ []
 
--- 64 coefficients with these shares, at depth 1, on 41 mask words: the first value of either share, and the adder's top plane
+-- 64 coefficients with these shares, at depth 1, on 41 mask words: the first value of either share, and the adder's
+-- top plane
 abbrev pub compressed : ℕ → ℕ → List ℕ
 compressed x₀ x₁ =
     let o = run (maskedCompress 1 (λ i. shares x₀ x₁)) (tab 41 (λ j. 17 ^ (j + 16) % 2 ^ 64)) [] in
@@ -75,14 +76,14 @@ table =
     ∷ (map maskedSampled samplerBits gives 2 ∷ 3327 ∷ [])
     ∷ (run (bitToCoeff 1665 (shares 1 0)) [] (3000 ∷ []) .entries gives 3000 ∷ 1336 ∷ 1336 ∷ 329 ∷ [])
     ∷ (pair (run (maskedAnd 1 (shares 1 0) (shares 0 1)) (1 ∷ []) [] .value) gives 0 ∷ 1 ∷ [])
-    ∷ (first group 0 ∷ second group 0 ∷ [] gives 3328 ∷ 3329 ∷ [])
+    ∷ (d₁ group 0 ∷ d₂ group 0 ∷ [] gives 3328 ∷ 3329 ∷ [])
     ∷ (accepted 1 group gives 3328 ∷ [])
     ∷ (compressed 2 2495 gives 9 ∷ 16375 ∷ 0 ∷ [])
     ∷ []
 
 -- all rows hold: the column of what is given is the column of results
 pub all-rows-hold : map (λ r. r .given) table ≡ map (λ r. r .result) table
-unfolding table compress decompress zeta bitRev7 value digits digit tab bitsOf sum samplePolyCbd accepted xor and low plane
-    run _>>=_ mask maskLow entry loop times chain maskedAnd maskedXor bitToCoeff sums sampler maskPlane carryStep sumPlane
-    adder fixedPoint maskedCompress
+unfolding table compress decompress zeta bitRev7 value digits digit tab bitsOf sum samplePolyCbd accepted xor and
+    low plane run _>>=_ mask maskLow entry loop times chain maskedAnd maskedXor bitToCoeff sums sampler maskPlane
+    carryStep sumPlane adder fixedPoint maskedCompress
 all-rows-hold = refl

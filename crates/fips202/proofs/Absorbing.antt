@@ -12,7 +12,8 @@ use Rattle.fips202.specs.Sponge.{padding, padded, laneOf, mixed, absorbe
 use Rattle.fips202.specs.Blocks.{taken, absorbed-padded}
 
 -- eight bytes of p are a lane of its first block
-pub lane-part : (rate : ℕ) (p : List ℕ) (j : ℕ) {w : ℕ} → j < rate / 8 → w ≡ value 256 (take (8 * j + 8 - 8 * j) (drop (8 * j) p)) → w ≡ laneOf (take rate p) j
+pub lane-part : (rate : ℕ) (p : List ℕ) (j : ℕ) {w : ℕ} → j < rate / 8
+    → w ≡ value 256 (take (8 * j + 8 - 8 * j) (drop (8 * j) p)) → w ≡ laneOf (take rate p) j
 lane-part rate p j h e =
     let d : 8 * j + 8 - 8 * j ≡ 8 = omega arith in
     e ∙ ap (value 256) (rw d (sym (part-take (8 * j) 8 rate p (omega arith))))
@@ -32,8 +33,9 @@ absorbing-turn {rate} {m} {a} i h e =
     let r = i .reached in
     record { within = omega arith; reached = reached-by-turn r (rw (part-rest a m, r .at) at e) }
 
-pub absorbing-end : {rate : ℕ} {m : List ℕ} {a : ℕ} {t u p : List ℕ} (suffix : ℕ) → Absorbing rate m a t → length m - a < rate
-    → p ≡ take (length m - a) (drop a m) ++ padding suffix (rate - length (take (length m - a) (drop a m)))
+pub absorbing-end : {rate : ℕ} {m : List ℕ} {a : ℕ} {t u p : List ℕ} (suffix : ℕ) → Absorbing rate m a t
+    → length m - a < rate
+    → p ≡ take (length m - a) (drop a m) ++ padding suffix (rate - 1 - length (take (length m - a) (drop a m)))
     → u ≡ keccak-p (mixed p t) → u ≡ absorbed rate (padded rate suffix m)
 absorbing-end {rate} {m} {a} suffix i h e q =
     let w = i .within in

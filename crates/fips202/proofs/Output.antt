@@ -28,14 +28,17 @@ pub output-start : {rate n : ℕ} {s : ℕ → List ℕ} {out : List ℕ} → le
 output-start e = record { filled = filled-start e }
 
 -- the next, up to e, are those of block q's state t
-pub output-part : {rate n a e : ℕ} {s : ℕ → List ℕ} {t out p : List ℕ} (q : ℕ) → Output rate n s a out → a ≡ q * rate → t ≡ s q
+pub output-part : {rate n a e : ℕ} {s : ℕ → List ℕ} {t out p : List ℕ} (q : ℕ) → Output rate n s a out → a ≡ q * rate
+    → t ≡ s q
     → a ≤ e → e ≤ n → e - a ≤ rate → p ≡ tab (length (take (e - a) (drop a out))) (byteOf t)
     → Output rate n s e (take a out ++ (p ++ drop (e - a) (drop a out)))
 output-part {a = a} {e = e} {s = s} {out = out} q f b r h g k w =
     let l = f .filled in
     record {
-      filled = filled-part l h g (w ∙ rw (length-part a (e - a) out (omega (arith, l .long))) (block-output s q (e - a) b r k));
+      filled = filled-part l h g
+          (w ∙ rw (length-part a (e - a) out (omega (arith, l .long))) (block-output s q (e - a) b r k));
     }
 
-pub output-end : {rate n a : ℕ} {s : ℕ → List ℕ} {out : List ℕ} → Output rate n s a out → n ≤ a → out ≡ tab n (outputOf rate s)
+pub output-end : {rate n a : ℕ} {s : ℕ → List ℕ} {out : List ℕ} → Output rate n s a out → n ≤ a
+    → out ≡ tab n (outputOf rate s)
 output-end f h = filled-end (f .filled) h

@@ -6,7 +6,8 @@ use native.Mathlib.Decide.{decLt}
 use native.Mathlib.Nat.{add-zero, zero-mul, mul-assoc, mod-lt, div-add-mod', div-lt-iff-lt-mul, lt-div-mul-add, suc-mul}
 use native.Mathlib.Omega.{arith}
 use lib.Arith.{digits-div, digits-mod}
-use lib.ListN.{length, getD, take, drop, replicate, length-append, length-take, length-replicate, List·getD-eq-default, drop-of-length-le}
+use lib.ListN.{length, getD, take, drop, replicate, length-append, length-take, length-replicate, List·getD-eq-default}
+use lib.ListN.{drop-of-length-le}
 use lib.Seq.{getD-take, getD-drop}
 use Rattle.words.specs.Tab.{tab, tab-cong, tab-of}
 use Rattle.words.specs.Numeral.{value}
@@ -72,7 +73,8 @@ byte-place rate x h d =
     let r = x % rate in
     let w : l * 8 ≡ rate = omega arith in
     let s : r < rate = mod-lt x h in
-    let e : q * l * 8 + r ≡ x = ap (λ (k : ℕ). k + r) (mul-assoc q l 8 ∙ ap (λ (k : ℕ). q * k) w) ∙ div-add-mod' x rate in
+    let e : q * l * 8 + r ≡ x =
+    ap (λ (k : ℕ). k + r) (mul-assoc q l 8 ∙ ap (λ (k : ℕ). q * k) w) ∙ div-add-mod' x rate in
     let t : x / 8 ≡ q * l + r / 8 = omega (arith, e) in
     let u : r / 8 < l = omega arith in
     (rw t (digits-div q u), rw t (digits-mod q u), omega (arith, e))
@@ -80,4 +82,5 @@ byte-place rate x h d =
 -- n bytes lie in the first block and (n - 1) / rate others
 pub block-lt : (rate n x : ℕ) → 0 < rate → x < n → x / rate < suc ((n - 1) / rate)
 block-lt rate n x h g =
-    div-lt-iff-lt-mul {k = rate} h .1 (omega (arith, suc-mul ((n - 1) / rate) rate, lt-div-mul-add {a = n - 1} {b = rate} h))
+    div-lt-iff-lt-mul {k = rate} h .1
+    (omega (arith, suc-mul ((n - 1) / rate) rate, lt-div-mul-add {a = n - 1} {b = rate} h))

@@ -49,20 +49,25 @@ value-one n = value-append 2 (zeros n) (1 ∷ []) ∙ rw (value-zeros 2 n, lengt
 
 -- j after n bytes and k bits
 zeros-count : (rate n k : ℕ) → 0 < rate → k ≤ 6
-    → (8 * rate - (8 * n + k + 2) % (8 * rate)) % (8 * rate) ≡ 8 * (rate - n % rate) - (k + 2)
+    → (8 * rate - (8 * n + k + 2) % (8 * rate)) % (8 * rate) ≡ 8 * suc (rate - 1 - n % rate) - (k + 2)
 zeros-count rate n k h g =
     let r = n % rate in
     let l = mod-lt n h in
-    let w : 8 * n + k + 2 ≡ n / rate * (8 * rate) + (8 * r + k + 2) = omega (arith, mul-left-comm (n / rate) 8 rate, div-add-mod' n rate) in
+    let w : 8 * n + k + 2 ≡ n / rate * (8 * rate) + (8 * r + k + 2) =
+    omega (arith, mul-left-comm (n / rate) 8 rate, div-add-mod' n rate) in
     rw w (go r l (decLt (8 * r + k + 2) (8 * rate)))
   where
     go : (r : ℕ) → r < rate → Dec (8 * r + k + 2 < 8 * rate)
-        → (8 * rate - (n / rate * (8 * rate) + (8 * r + k + 2)) % (8 * rate)) % (8 * rate) ≡ 8 * (rate - r) - (k + 2)
+        → (8 * rate - (n / rate * (8 * rate) + (8 * r + k + 2)) % (8 * rate)) % (8 * rate)
+        ≡ 8 * suc (rate - 1 - r) - (k + 2)
     go r l (yes p) =
-        rw (digits-mod (n / rate) p, mod-eq-of-lt {n = 8 * rate - (8 * r + k + 2)} {m = 8 * rate} (omega arith)) (omega arith)
+        rw (digits-mod (n / rate) p, mod-eq-of-lt {n = 8 * rate - (8 * r + k + 2)} {m = 8 * rate} (omega arith))
+        (omega arith)
     go r l (no p) =
         let e : 8 * r + k + 2 ≡ 8 * rate = omega arith in
-        rw (e, mul-add-mod-self-right (n / rate) (8 * rate) (8 * rate), mod-self (8 * rate), sub-zero (8 * rate), mod-self (8 * rate)) (omega arith)
+        let m = 8 * rate in
+        rw (e, mul-add-mod-self-right (n / rate) m m, mod-self m, sub-zero m, mod-self m)
+        (omega arith)
 
 zeros-append : (m n : ℕ) (l : List ℕ) → zeros m ++ (zeros n ++ l) ≡ zeros (m + n) ++ l
 zeros-append m n l =
@@ -89,9 +94,11 @@ module _ (d : List ℕ) (b : Below 2 d) (h : length d ≤ 6) where
       length-append start t ∙ omega (arith, length-start, length-append (zeros k) (1 ∷ []), length-zeros k) in
       let v : value 2 (start ++ t) ≡ value 2 start + 0x80 =
       value-append 2 start t
-      ∙ rw (value-one k, length-start) (ap (λ (x : ℕ). value 2 start + x) (sym (pow-add 2 k (length d + 1)) ∙ ap (λ (x : ℕ). 2 ^ x) w)) in
+      ∙ rw (value-one k, length-start)
+      (ap (λ (x : ℕ). value 2 start + x) (sym (pow-add 2 k (length d + 1)) ∙ ap (λ (x : ℕ). 2 ^ x) w)) in
       ap₂ (digits 2) (sym e) (sym v)
-      ∙ digits-value 2 (start ++ t) (below-append start (below-append d b one) (below-append (zeros k) (below-zeros k (omega arith)) one))
+      ∙ digits-value 2 (start ++ t)
+      (below-append start (below-append d b one) (below-append (zeros k) (below-zeros k (omega arith)) one))
 
   -- the first of several
   first-byte : digits 2 8 (value 2 start) ≡ start ++ zeros (7 - length d)
@@ -99,18 +106,19 @@ module _ (d : List ℕ) (b : Below 2 d) (h : length d ≤ 6) where
       let e : length start + (7 - length d) ≡ 8 = omega (arith, length-start) in
       rw e at (digits-value-zeros 2 start (7 - length d) (below-append d b one))
 
-  padding-bits : (q : ℕ) → 0 < q → bits (padding (value 2 start) q) ≡ d ++ 1 ∷ (zeros (8 * q - (length d + 2)) ++ 1 ∷ [])
+  padding-bits : (z : ℕ) → bits (padding (value 2 start) z) ≡ d ++ 1 ∷ (zeros (8 * suc z - (length d + 2)) ++ 1 ∷ [])
   unfolding bits digits
-  padding-bits zero g = absurd (omega arith)
-  padding-bits (suc zero) g =
+  padding-bits zero =
       let w : 6 - length d ≡ 8 * 1 - (length d + 2) = omega arith in
       append-nil (digits 2 8 (value 2 start + 0x80)) ∙ one-byte ∙ rw w (append-snoc d 1 _)
-  padding-bits (suc (suc z)) g =
+  padding-bits (suc z) =
       let w : 7 - length d + (8 * z + 7) ≡ 8 * suc (suc z) - (length d + 2) = omega arith in
-      ap₂ (λ (l m : List ℕ). l ++ m) first-byte (bits-append (zeros z) (0x80 ∷ []) ∙ ap (λ (l : List ℕ). l ++ (zeros 7 ++ 1 ∷ [])) (bits-zeros z))
+      ap₂ (λ (l m : List ℕ). l ++ m) first-byte
+      (bits-append (zeros z) (0x80 ∷ []) ∙ ap (λ (l : List ℕ). l ++ (zeros 7 ++ 1 ∷ [])) (bits-zeros z))
       ∙ append-assoc start (zeros (7 - length d)) _
       ∙ ap (λ (l : List ℕ). start ++ l)
-      (ap (λ (l : List ℕ). zeros (7 - length d) ++ l) (zeros-append (8 * z) 7 (1 ∷ [])) ∙ zeros-append (7 - length d) (8 * z + 7) (1 ∷ []))
+      (ap (λ (l : List ℕ). zeros (7 - length d) ++ l) (zeros-append (8 * z) 7 (1 ∷ []))
+      ∙ zeros-append (7 - length d) (8 * z + 7) (1 ∷ []))
       ∙ rw w (append-snoc d 1 _)
 
   -- the suffix byte is d and pad10*1's first bit
@@ -118,9 +126,9 @@ module _ (d : List ℕ) (b : Below 2 d) (h : length d ≤ 6) where
       → bits (padded rate (value 2 start) m) ≡ bits m ++ (d ++ pad10*1 (8 * rate) (8 * length m + length d))
   unfolding padded pad10*1
   padded-bits rate m p =
-      bits-append m (padding (value 2 start) (rate - length m % rate))
+      bits-append m (padding (value 2 start) (rate - 1 - length m % rate))
       ∙ rw (zeros-count rate (length m) (length d) p h)
-      (ap (λ (l : List ℕ). bits m ++ l) (padding-bits (rate - length m % rate) (omega (arith, mod-lt (length m) p))))
+      (ap (λ (l : List ℕ). bits m ++ l) (padding-bits (rate - 1 - length m % rate)))
 
 -- ---- section 6.1: M || 01
 pub sha3-padded : (rate : ℕ) (m : List ℕ) → 0 < rate

@@ -1,4 +1,5 @@
--- FIPS 202, sections 4 to 6, on bytes. A byte's lowest bit comes first (appendix B.1), so byte j of the state is byte j % 8 of lane j / 8.
+-- FIPS 202, sections 4 to 6, on bytes. A byte's lowest bit comes first (appendix B.1), so byte j of the state is byte
+-- j % 8 of lane j / 8.
 use mathlib.Core.List.{List, [], _∷_, _++_}
 use Prim.Native.Nat.{ℕ, zero, suc, _+_, _-_, _*_, _/_, _%_, _^_}
 use lib.ListN.{getD, length, take, drop, replicate}
@@ -8,14 +9,14 @@ use Rattle.words.specs.Iterate.{iterate}
 use Rattle.words.specs.Numeral.{value}
 use Rattle.keccak.specs.KeccakP.{keccak-p}
 
--- ---- Algorithm 9, pad10*1, in q whole bytes, of which the first begins with the suffix (appendix B.2, table 6)
+-- ---- Algorithm 9, pad10*1, in whole bytes: one, which begins with the suffix, and so many more (appendix B.2)
 abbrev pub padding : ℕ → ℕ → List ℕ
-padding suffix zero = []
-padding suffix (suc zero) = (suffix + 0x80) ∷ []
-padding suffix (suc (suc z)) = suffix ∷ (replicate z 0 ++ 0x80 ∷ [])
+padding suffix zero = (suffix + 0x80) ∷ []
+padding suffix (suc z) = suffix ∷ (replicate z 0 ++ 0x80 ∷ [])
 
+-- up to the end of a block
 unfoldable pub padded : ℕ → ℕ → List ℕ → List ℕ
-padded rate suffix m = m ++ padding suffix (rate - length m % rate)
+padded rate suffix m = m ++ padding suffix (rate - 1 - length m % rate)
 
 -- ---- Algorithm 8, SPONGE: rate bytes are taken in or given out with each permutation
 

@@ -40,7 +40,7 @@ pub fn zero_filled(p: &[u8]) -> [u8; 200]
 // The message's rest p, which is shorter than a block, and its padding.
 pub fn last_block(p: &[u8], rate: usize, suffix: u8) -> [u8; 200]
     requires { ⌜ (length (now p) < rate) × (rate ≤ 200) × (suffix < 128) ⌝ }
-    ensures { λ r. ⌜ take rate r ≡ now (p .entry) ++ padding suffix (rate - length (now (p .entry))) ⌝ }
+    ensures { λ r. ⌜ take rate r ≡ now (p .entry) ++ padding suffix (rate - 1 - length (now (p .entry))) ⌝ }
 {
     let mut b = zero_filled(p);
     let n = p.len();

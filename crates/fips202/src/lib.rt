@@ -2,20 +2,16 @@
 ghost use mathlib.Core.Path.{_≡_};
 ghost use Prim.Native.Nat.{_-_, _*_, _%_, _<_, _≤_};
 ghost use lib.ListN.{length};
-ghost use Rattle.fips202.specs.Calls.{sizedAnswer, sizedOutput};
-ghost use Rattle.fips202.specs.Sponge.{sponge as spongeOf, sha3-256, sha3-512, shake128 as shake128Of, shake256 as shake256Of};
+ghost use Rattle.refusals.specs.Refusals.{number};
+ghost use Rattle.fips202.specs.Calls.{sizedAnswer, Hashed, sha3-256Call, sha3-512Call};
+ghost use Rattle.fips202.specs.Sponge.{sponge as spongeOf, shake128 as shake128Of, shake256 as shake256Of};
 use crate::absorb::absorb;
 use crate::squeeze::squeeze;
+use refusals::Answer;
 
 pub mod absorb; // a message taken in
 pub mod bytes; // a lane and its bytes
 pub mod squeeze; // output given out
-
-// A call's answer; specs/Calls.antt gives document 01's number for each.
-pub enum Answer {
-    Done,
-    WrongLength,
-}
 
 // Algorithm 8 with pad10*1: out is filled.
 fn sponge(rate: usize, suffix: u8, m: &[u8], out: &mut [u8])
@@ -29,8 +25,8 @@ fn sponge(rate: usize, suffix: u8, m: &[u8], out: &mut [u8])
 // Section 6.1 for a digest of n bytes, whose capacity is 2 n bytes.
 fn sha3(n: usize, m: &[u8], out: &mut [u8]) -> Answer
     requires { ⌜ (n < 100) × (n % 4 ≡ 0) ⌝ }
-    ensures { λ r. ⌜ r ≡ sizedAnswer n (now (out .entry)) ⌝ }
-    ensures { λ _. ⌜ now (out .exit) ≡ sizedOutput n (spongeOf (200 - 2 * n) 0x06 (now (m .entry)) n) (now (out .entry)) ⌝ }
+    ensures { λ r. ⌜ Hashed (sizedAnswer n (now (out .entry))) (spongeOf (200 - 2 * n) 0x06 (now (m .entry)) n)
+        (now (out .entry)) (number r) (now (out .exit)) ⌝ }
 {
     if out.len() != n {
         return Answer::WrongLength;
@@ -40,15 +36,13 @@ fn sha3(n: usize, m: &[u8], out: &mut [u8]) -> Answer
 }
 
 pub fn sha3_256(m: &[u8], out: &mut [u8]) -> Answer
-    ensures { λ r. ⌜ r ≡ sizedAnswer 32 (now (out .entry)) ⌝ }
-    ensures { λ _. ⌜ now (out .exit) ≡ sizedOutput 32 (sha3-256 (now (m .entry))) (now (out .entry)) ⌝ }
+    ensures { λ r. ⌜ sha3-256Call (now (m .entry)) (now (out .entry)) (number r) (now (out .exit)) ⌝ }
 {
     sha3(32, m, out)
 }
 
 pub fn sha3_512(m: &[u8], out: &mut [u8]) -> Answer
-    ensures { λ r. ⌜ r ≡ sizedAnswer 64 (now (out .entry)) ⌝ }
-    ensures { λ _. ⌜ now (out .exit) ≡ sizedOutput 64 (sha3-512 (now (m .entry))) (now (out .entry)) ⌝ }
+    ensures { λ r. ⌜ sha3-512Call (now (m .entry)) (now (out .entry)) (number r) (now (out .exit)) ⌝ }
 {
     sha3(64, m, out)
 }

@@ -1,4 +1,5 @@
--- The loop over the bits of a round constant.
+-- The loop over the seven bits of a round constant: it goes by the definition's own turns, withBit, and the register
+-- goes along.
 use mathlib.Core.Path.{_≡_, refl}
 use Prim.Native.Nat.{ℕ, _+_, _-_, _*_, _%_, _^_, _<_, _≤_}
 use native.Mathlib.Nat.{mod-lt, mod-eq-of-lt, zero-add, add-right-comm, pow-le-pow-right, pow-suc}
@@ -33,7 +34,9 @@ module _ {i j w r p : ℕ} (c : Clocking i j w r p) where
       let m : j + 7 * i < 255 = omega arith in
       let q : 2 ^ j - 1 ≡ p = omega (arith, c .place-at) in
       record {
-        word-at = reached-turn (c .word-at) h (rw (shl-exact 1 p 64 (mod-lt r (lit< tt)) (omega (arith, place-lt h)), mod-eq-of-lt m, q, c .reg-at));
+        word-at =
+            let whole = shl-exact 1 p 64 (mod-lt r (lit< tt)) (omega (arith, place-lt h)) in
+            reached-turn (c .word-at) h (rw (whole, mod-eq-of-lt m, q, c .reg-at));
         reg-at = rw (add-right-comm j 1 (7 * i), add-one (j + 7 * i), e, c .reg-at);
         place-at = rw (add-one j, pow-suc 2 j) (omega (arith, c .place-at));
       }

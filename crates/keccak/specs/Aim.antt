@@ -10,7 +10,7 @@ use Rattle.words.specs.Rotation.{rotl-bits, rotl-rotl, rotl-zero}
 use Rattle.words.specs.Table.{every}
 use Rattle.words.specs.TableLaws.{every-at}
 use Rattle.keccak.specs.KeccakP.{along}
-use Rattle.keccak.specs.Pass.{passAt, LaneBits, source, turn, turn-le, sum5, pass-even, pass-xor}
+use Rattle.keccak.specs.LinearPass.{passAt, LaneBits, source, turn, turn-le, sum5, pass-even, pass-xor}
 
 -- lane k is the source of lane l, or the next lane of that column
 abbrev aims : ℕ → ℕ → Bool
@@ -61,7 +61,8 @@ unfolding aimAt source differs
 aim-even l a x h g =
     let even : ℕ → ℕ → Bool = λ l x. not (odd5 (λ y. aims l (x + 5 * y))) in
     sum5-cond _ (λ y. aims l (x + 5 * y))
-    ∙ cond-false (odd5 (λ y. aims l (x + 5 * y))) _ (every-at 5 (even l) (every-at 25 (λ l. every 5 (even l)) tt l h) x g)
+    ∙ cond-false (odd5 (λ y. aims l (x + 5 * y))) _
+    (every-at 5 (even l) (every-at 25 (λ l. every 5 (even l)) tt l h) x g)
 
 -- ---- what comes to lane l, and to a lane that is not aimed at
 
@@ -98,7 +99,8 @@ module _ (i : ℕ) {a b : ℕ} (h : i < 25) (v : Bits 64 a) (w : Bits 64 b) wher
   aimed-1 =
       pass-xor (aim-bits (along 1 i) v) (aim-bits (along 2 i) w) (along 1 i) (omega arith)
       ∙ ap₂ xor (aim-on (along 1 i) (omega arith) v)
-      (aim-off (along 2 i) (along 1 i) b (omega arith) (omega arith) (every-at 25 (λ i. not (aims (along 2 i) (source (along 1 i)))) tt i h))
+      (aim-off (along 2 i) (along 1 i) b (omega arith) (omega arith)
+      (every-at 25 (λ i. not (aims (along 2 i) (source (along 1 i)))) tt i h))
       ∙ xor-zero a
 
   pub aimed-2 : passAt (aimed i a b) (along 2 i) ≡ b
@@ -106,6 +108,7 @@ module _ (i : ℕ) {a b : ℕ} (h : i < 25) (v : Bits 64 a) (w : Bits 64 b) wher
   aimed-2 =
       pass-xor (aim-bits (along 1 i) v) (aim-bits (along 2 i) w) (along 2 i) (omega arith)
       ∙ ap₂ xor
-      (aim-off (along 1 i) (along 2 i) a (omega arith) (omega arith) (every-at 25 (λ i. not (aims (along 1 i) (source (along 2 i)))) tt i h))
+      (aim-off (along 1 i) (along 2 i) a (omega arith) (omega arith)
+      (every-at 25 (λ i. not (aims (along 1 i) (source (along 2 i)))) tt i h))
       (aim-on (along 2 i) (omega arith) w)
       ∙ zero-xor b

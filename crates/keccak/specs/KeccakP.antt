@@ -1,4 +1,5 @@
--- FIPS 202, section 3: the permutation Keccak-p[1600, 24]. A state is a list of 25 lanes of 64 bits; lane (x, y) stands at x + 5 y.
+-- FIPS 202, section 3: the permutation Keccak-p[1600, 24]. A state is a list of 25 lanes of 64 bits; lane (x, y) stands
+-- at x + 5 y.
 use mathlib.Core.List.{List}
 use Prim.Native.Nat.{ℕ, _+_, _-_, _*_, _/_, _%_, _^_}
 use lib.Dec.{eqb}

@@ -1,5 +1,5 @@
 pub mod KeccakP
 pub mod Rows
-pub mod Pass
+pub mod LinearPass
 pub mod Aim
 pub mod Constant

@@ -1,13 +1,21 @@
--- The code's form of a state, five rows of five lanes, and of what it does to a row. Nothing here need be believed: the steps promise KeccakP's.
+-- The code's form of a state, five rows of five lanes, and of what it does to a row. Nothing here need be believed: the
+-- steps promise KeccakP's.
 use mathlib.Core.List.{List, [], _∷_}
-use Prim.Native.Nat.{ℕ, _+_}
+use Prim.Native.Nat.{ℕ, _+_, _<_}
 use lib.ListN.{getD}
 use Rattle.words.specs.Word.{xor, and, complement, rotl}
 use Rattle.keccak.specs.declared.row.Row.{Row}
 
 -- the five lanes from i on
 abbrev pub rowOf : List ℕ → ℕ → Row
-rowOf l i = record { a = getD l i 0; b = getD l (i + 1) 0; c = getD l (i + 2) 0; d = getD l (i + 3) 0; e = getD l (i + 4) 0 }
+rowOf l i =
+    record {
+      a = getD l i 0;
+      b = getD l (i + 1) 0;
+      c = getD l (i + 2) 0;
+      d = getD l (i + 3) 0;
+      e = getD l (i + 4) 0;
+    }
 
 abbrev pub fromRows : Row → Row → Row → Row → Row → List ℕ
 fromRows p q r s t =
@@ -18,7 +26,14 @@ fromRows p q r s t =
     ∷ t .a ∷ t .b ∷ t .c ∷ t .d ∷ t .e ∷ []
 
 abbrev pub xorRow : Row → Row → Row
-xorRow p q = record { a = xor (p .a) (q .a); b = xor (p .b) (q .b); c = xor (p .c) (q .c); d = xor (p .d) (q .d); e = xor (p .e) (q .e) }
+xorRow p q =
+    record {
+      a = xor (p .a) (q .a);
+      b = xor (p .b) (q .b);
+      c = xor (p .c) (q .c);
+      d = xor (p .d) (q .d);
+      e = xor (p .e) (q .e);
+    }
 
 -- theta's D from its C
 abbrev pub effectRow : Row → Row
@@ -31,8 +46,23 @@ effectRow p =
       e = xor (p .d) (rotl 64 (p .a) 1);
     }
 
+-- five offsets of rho, each less than a lane's width
+pub record Offsets (a b c d e : ℕ) : Type 0 where
+  pub first : a < 64
+  pub second : b < 64
+  pub third : c < 64
+  pub fourth : d < 64
+  pub fifth : e < 64
+
 abbrev pub rotlRow : Row → ℕ → ℕ → ℕ → ℕ → ℕ → Row
-rotlRow p i j k l m = record { a = rotl 64 (p .a) i; b = rotl 64 (p .b) j; c = rotl 64 (p .c) k; d = rotl 64 (p .d) l; e = rotl 64 (p .e) m }
+rotlRow p i j k l m =
+    record {
+      a = rotl 64 (p .a) i;
+      b = rotl 64 (p .b) j;
+      c = rotl 64 (p .c) k;
+      d = rotl 64 (p .d) l;
+      e = rotl 64 (p .e) m;
+    }
 
 abbrev pub chiRow : Row → Row
 chiRow p =

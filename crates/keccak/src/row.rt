@@ -2,7 +2,7 @@
 ghost use mathlib.Core.Path.{_≡_};
 ghost use Prim.Native.Nat.{_<_};
 ghost use Rattle.words.specs.Word.{rotl as rotlOf};
-ghost use Rattle.keccak.specs.Rows.{xorRow, effectRow, rotlRow, chiRow};
+ghost use Rattle.keccak.specs.Rows.{Offsets, xorRow, effectRow, rotlRow, chiRow};
 
 // The lanes x = 0, 1, 2, 3, 4.
 pub struct Row {
@@ -48,7 +48,7 @@ pub(crate) fn effect_row(c: Row) -> Row
 
 // Algorithm 2 on a row: each lane rotated by its offset.
 pub(crate) fn rotl_row(r: Row, a: u32, b: u32, c: u32, d: u32, e: u32) -> Row
-    requires { ⌜ (a < 64) × (b < 64) × (c < 64) × (d < 64) × (e < 64) ⌝ }
+    requires { ⌜ Offsets a b c d e ⌝ }
     ensures { λ o. ⌜ o ≡ rotlRow r a b c d e ⌝ }
 {
     Row {

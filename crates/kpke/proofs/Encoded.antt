@@ -9,18 +9,22 @@ use lib.Pow.{pow-pos}
 use Rattle.words.specs.Bounded.{Below}
 use Rattle.words.specs.BoundedLaws.{below-nil, below-cons}
 use Rattle.words.specs.Residue.{q}
-use Rattle.words.specs.Tab.{length-tab}
-use Rattle.fips202.specs.Sponge.{sha3-256, sponge, squeezed}
+use Rattle.fips202.specs.Sponge.{sha3-256}
+use Rattle.fips202.specs.OutputLaws as output
 use Rattle.codec.specs.Bytes.{byteEncode}
 use Rattle.codec.specs.BytesLaws.{length-byteEncode}
 use Rattle.codec.specs.Compress.{compress}
 use Rattle.codec.specs.CompressLaws.{compress-lt}
-use Rattle.kpke.specs.KPke.{concat}
-use Rattle.kpke.specs.VectorLaws.{part-fits, length-concat}
+use Rattle.kpke.specs.KPke.{parts, concat}
+use Rattle.kpke.specs.VectorLaws.{part-fits, length-concat, concat-cong}
 
-pub below-compress : (d : ℕ) (l : List ℕ) → Below (2 ^ d) (map (compress d) l)
+below-compress : (d : ℕ) (l : List ℕ) → Below (2 ^ d) (map (compress d) l)
 below-compress d [] = below-nil (pow-pos d)
 below-compress d (x ∷ l) = below-cons (compress-lt d x) (below-compress d l)
+
+-- what compress_all leaves
+pub below-compressed : (d : ℕ) (l : List ℕ) {w : List ℕ} → w ≡ map (compress d) l → Below (2 ^ d) w
+below-compressed d l e = rw e (below-compress d l)
 
 pub below-byteEncode12 : {l : List ℕ} → Below q l → Below (2 ^ 12) l
 below-byteEncode12 b = record { at = λ k. omega (arith, b .at k) }
@@ -35,15 +39,23 @@ map-drop g zero l = refl
 map-drop g (suc n) [] = refl
 map-drop g (suc n) (x ∷ l) = map-drop g n l
 
-pub part-map : (g : ℕ → ℕ) (a n : ℕ) (l : List ℕ) → take n (drop a (map g l)) ≡ map g (take n (drop a l))
+part-map : (g : ℕ → ℕ) (a n : ℕ) (l : List ℕ) → take n (drop a (map g l)) ≡ map g (take n (drop a l))
 part-map g a n l = ap (take n) (map-drop g a l) ∙ map-take g n (drop a l)
+
+-- u's polynomials, compressed all at once and then encoded
+pub encoded-compressed : (d k : ℕ) (u : List ℕ) {w b : List ℕ} → w ≡ map (compress d) u
+    → b ≡ concat k (λ i. byteEncode d (parts 256 w i))
+    → b ≡ concat k (λ i. byteEncode d (map (compress d) (parts 256 u i)))
+encoded-compressed d k u e g =
+    g
+    ∙ concat-cong k
+    (λ i h. ap (byteEncode d) (ap (λ (l : List ℕ). parts 256 l i) e ∙ part-map (compress d) (256 * i) 256 u))
 
 pub length-encoded : (d k : ℕ) (f : ℕ → List ℕ) → length (concat k (λ i. byteEncode d (f i))) ≡ 32 * d * k
 length-encoded d k f = length-concat (record { long = λ i h. length-byteEncode d (f i) })
 
 pub length-sha3-256 : (m : List ℕ) → length (sha3-256 m) ≡ 32
-unfolding sha3-256 sponge squeezed
-length-sha3-256 m = length-tab 32 _
+length-sha3-256 m = output.length-sha3-256 m
 
 -- place (i, j) of k rows of k polynomials
 pub place-fits : (k i j : ℕ) → i < k → j < k → 256 * (k * i + j) + 256 ≤ 256 * k * k

@@ -1,6 +1,8 @@
-pub mod Joined
-pub mod Tested
+pub mod Concatenated
+pub mod Sampled
+pub mod Digest
 pub mod Encoded
 pub mod Parts
+pub mod Products
 pub mod Encrypted
 pub mod Keys

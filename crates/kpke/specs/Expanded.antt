@@ -1,4 +1,4 @@
--- The matrix in one list, its rows one after the other.
+-- The matrix A-hat (FIPS 203, algorithm 13, lines 3 to 7) in one list, its rows one after the other.
 use mathlib.Core.Path.{_≡_, sym, ap, _∙_}
 use mathlib.Core.Bool.{Bool, true, false}
 use mathlib.Core.List.{List}
@@ -34,8 +34,13 @@ module _ (k : ℕ) (rho : List ℕ) (h : matrixFull k rho ≡ true) where
   row : (i : ℕ) → i < k → Each 256 k (matrix rho i)
   unfolding matrixFull
   row i g =
-      let t = every-at k (λ i. every k (λ j. full (XOF rho i j))) (of-true (every k (λ i. every k (λ j. full (XOF rho i j)))) h) i g in
-      record { long = λ j f. length-sampleNtt (XOF rho i j) (leb→le 256 (length (accepted 280 (XOF rho i j))) (every-at k (λ j. full (XOF rho i j)) t j f)) }
+      let rowFull : ℕ → Bool = λ i. every k (λ j. full (XOF rho i j)) in
+      let t = every-at k rowFull (of-true (every k rowFull) h) i g in
+      record {
+        long = λ j f.
+            length-sampleNtt (XOF rho i j)
+            (leb→le 256 (length (accepted 280 (XOF rho i j))) (every-at k (λ j. full (XOF rho i j)) t j f));
+      }
 
   rows : Each (256 * k) k (λ i. concat k (matrix rho i))
   rows = record { long = λ i g. length-concat (row i g) }

@@ -22,6 +22,6 @@ G₁ c = take 32 (sha3-512 c)
 abbrev pub G₂ : List ℕ → List ℕ
 G₂ c = drop 32 (sha3-512 c)
 
--- the stream of matrix place (i, j), of which document 01 reads 840 bytes
+-- XOF (section 4.1): the stream of matrix place (i, j), of which document 01 reads 840 bytes
 abbrev pub XOF : List ℕ → ℕ → ℕ → List ℕ
 XOF rho i j = shake128 (rho ++ j ∷ i ∷ []) 840

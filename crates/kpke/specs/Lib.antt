@@ -1,4 +1,5 @@
 pub mod Parameters
+pub mod Sizes
 pub mod Functions
 pub mod KPke
 pub mod VectorLaws

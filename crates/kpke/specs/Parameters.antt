@@ -12,7 +12,7 @@ pub record Parameters : Type 0 where
 abbrev pub mlKem768 : Parameters
 mlKem768 = record { k = 3; eta1 = 2; eta2 = 2; du = 10; dv = 4 }
 
--- lengths in bytes: the encoded vector, the two keys, the ciphertext
+-- lengths in bytes (table 3): the encoded vector, the two keys, the ciphertext
 abbrev pub vectorBytes : Parameters → ℕ
 vectorBytes p = 384 * p .k
 

@@ -1,4 +1,4 @@
-// Copies from slices to a slice of the same length.
+// Copies from slices to a slice of the same length, and FIPS 203's a || b (section 2.3).
 ghost use mathlib.Core.List.{_++_};
 ghost use mathlib.Core.Path.{_≡_};
 ghost use Prim.Native.Nat.{_+_};
@@ -22,8 +22,8 @@ pub fn copy_coefficients(s: &[u16], out: &mut [u16])
     }
 }
 
-// s, then t.
-pub fn join(s: &[u8], t: &[u8], out: &mut [u8])
+// s || t.
+pub fn concat_bytes(s: &[u8], t: &[u8], out: &mut [u8])
     requires { ⌜ length (now s) + length (now t) ≡ length (now out) ⌝ }
     ensures { λ _. ⌜ now (out .exit) ≡ now (s .entry) ++ now (t .entry) ⌝ }
 {

@@ -1,13 +1,14 @@
-// K-PKE.Encrypt (FIPS 203, algorithm 14).
+// K-PKE.Encrypt (FIPS 203, algorithm 14): u is the vector of the first parts, v the second part.
 ghost use mathlib.Core.List.{_++_, map};
 ghost use mathlib.Core.Path.{_≡_};
-ghost use Prim.Native.Nat.{_+_, _*_, _<_, _≤_};
+ghost use Prim.Native.Nat.{_+_, _*_, _<_};
 ghost use lib.ListN.{length, drop};
 ghost use Rattle.codec.specs.Bytes.{byteEncode, byteDecode};
 ghost use Rattle.codec.specs.Compress.{compress, decompress};
 ghost use Rattle.kpke.specs.Parameters.{mlKem768};
 ghost use Rattle.kpke.specs.KPke.{parts, concat, firstPart, secondPart, encrypt as encryptOf};
 ghost use Rattle.kpke.specs.Expanded.{placesOf, Expanded};
+ghost use Rattle.kpke.specs.Sizes.{RowInput, SecondInput, CiphertextInput};
 use crate::noise::noise;
 use crate::noise::transformed_noise;
 use crate::vector::decode12_all;
@@ -20,21 +21,28 @@ use codec::decompress_all;
 use ring::add_to;
 use ring::inverse_ntt;
 
-// Line 19 at row i, for the matrix a.
+// Line 19 at row i, u[i], for the matrix A-hat in a, the vector y-hat in y and the coins r.
 fn first_part(a: &[u16], y: &[u16], r: &[u8], eta: u32, k: usize, i: usize, f: &mut [u16])
-    requires { ⌜ (length (now a) ≡ 256 * k * k) × (length (now y) ≡ 256 * k) × (length (now r) ≡ 32) × (0 < eta) × (eta ≤ 3) × (k ≤ 128) × (i < k) × (length (now f) ≡ 256) ⌝ }
-    ensures { λ _. ⌜ now (f .exit) ≡ firstPart k eta (placesOf k (now (a .entry))) (parts 256 (now (y .entry))) (now (r .entry)) i ⌝ }
+    requires { ⌜ RowInput (now a) (now y) (now r) eta k × (i < k) × (length (now f) ≡ 256) ⌝ }
+    ensures { λ _. ⌜
+        now (f .exit)
+        ≡ firstPart k eta (placesOf k (now (a .entry))) (parts 256 (now (y .entry))) (now (r .entry)) i
+        ⌝ }
 {
-    let mut e = [0u16; 256];
+    let mut e1 = [0u16; 256];
     dot(a, i, k, y, k, f);
     inverse_ntt(f);
-    noise(r, eta, k + i, &mut e);
-    add_to(f, &e);
+    noise(r, eta, k + i, &mut e1);
+    add_to(f, &e1);
 }
 
+// Line 19, u.
 fn first_parts(a: &[u16], y: &[u16], r: &[u8], eta: u32, k: usize, u: &mut [u16])
-    requires { ⌜ (length (now a) ≡ 256 * k * k) × (length (now y) ≡ 256 * k) × (length (now r) ≡ 32) × (0 < eta) × (eta ≤ 3) × (k ≤ 128) × (length (now u) ≡ 256 * k) ⌝ }
-    ensures { λ _. ⌜ now (u .exit) ≡ concat k (firstPart k eta (placesOf k (now (a .entry))) (parts 256 (now (y .entry))) (now (r .entry))) ⌝ }
+    requires { ⌜ RowInput (now a) (now y) (now r) eta k × (length (now u) ≡ 256 * k) ⌝ }
+    ensures { λ _. ⌜
+        now (u .exit)
+        ≡ concat k (firstPart k eta (placesOf k (now (a .entry))) (parts 256 (now (y .entry))) (now (r .entry)))
+        ⌝ }
 {
     for i in 0..k {
         let s = 256 * i;
@@ -43,7 +51,7 @@ fn first_parts(a: &[u16], y: &[u16], r: &[u8], eta: u32, k: usize, u: &mut [u16]
     }
 }
 
-// Line 20.
+// Line 20, the polynomial mu of the message m.
 fn message(m: &[u8], f: &mut [u16])
     requires { ⌜ (length (now m) ≡ 32) × (length (now f) ≡ 256) ⌝ }
     ensures { λ _. ⌜ now (f .exit) ≡ map (decompress 1) (byteDecode 1 (now (m .entry))) ⌝ }
@@ -52,24 +60,38 @@ fn message(m: &[u8], f: &mut [u16])
     decompress_all(f, 1);
 }
 
-// Line 21, for the public vector t.
+// Lines 17, 20 and 21, v, for the public vector t-hat in t.
 fn second_part(t: &[u16], y: &[u16], m: &[u8], r: &[u8], eta: u32, k: usize, v: &mut [u16])
-    requires { ⌜ (length (now t) ≡ 256 * k) × (length (now y) ≡ 256 * k) × (length (now m) ≡ 32) × (length (now r) ≡ 32) × (0 < eta) × (eta ≤ 3) × (k < 128) × (length (now v) ≡ 256) ⌝ }
-    ensures { λ _. ⌜ now (v .exit) ≡ secondPart k eta (parts 256 (now (t .entry))) (parts 256 (now (y .entry))) (now (m .entry)) (now (r .entry)) ⌝ }
+    requires { ⌜ SecondInput (now t) (now y) (now m) (now r) eta k × (length (now v) ≡ 256) ⌝ }
+    ensures { λ _. ⌜
+        now (v .exit)
+        ≡ secondPart
+        k
+        eta
+        (parts 256 (now (t .entry)))
+        (parts 256 (now (y .entry)))
+        (now (m .entry))
+        (now (r .entry))
+        ⌝ }
 {
-    let mut e = [0u16; 256];
+    let mut e2 = [0u16; 256];
+    let mut mu = [0u16; 256];
     dot(t, 0, 1, y, k, v);
     inverse_ntt(v);
-    noise(r, eta, 2 * k, &mut e);
-    add_to(v, &e);
-    message(m, &mut e);
-    add_to(v, &e);
+    noise(r, eta, 2 * k, &mut e2);
+    add_to(v, &e2);
+    message(m, &mut mu);
+    add_to(v, &mu);
 }
 
-// Lines 22 to 24.
+// Lines 22 to 24, the ciphertext c1 || c2.
 fn encode_parts(u: &mut [u16], v: &mut [u16], du: u32, dv: u32, k: usize, ct: &mut [u8])
-    requires { ⌜ (length (now u) ≡ 256 * k) × (length (now v) ≡ 256) × (0 < du) × (du ≤ 11) × (0 < dv) × (dv ≤ 11) × (length (now ct) ≡ 32 * du * k + 32 * dv) ⌝ }
-    ensures { λ _. ⌜ now (ct .exit) ≡ concat k (λ i. byteEncode du (map (compress du) (parts 256 (now (u .entry)) i))) ++ byteEncode dv (map (compress dv) (now (v .entry))) ⌝ }
+    requires { ⌜ CiphertextInput (now u) (now v) du dv k × (length (now ct) ≡ 32 * du * k + 32 * dv) ⌝ }
+    ensures { λ _. ⌜
+        now (ct .exit)
+        ≡ concat k (λ i. byteEncode du (map (compress du) (parts 256 (now (u .entry)) i)))
+        ++ byteEncode dv (map (compress dv) (now (v .entry)))
+        ⌝ }
 {
     let n = 32 * (du as usize) * k;
     compress_all(u, du);
@@ -78,9 +100,15 @@ fn encode_parts(u: &mut [u16], v: &mut [u16], du: u32, dv: u32, k: usize, ct: &m
     byte_encode(v, dv, &mut ct[n..]);
 }
 
-// At ML-KEM-768, for the matrix a.
+// Algorithm 14 at ML-KEM-768, for the matrix A-hat in a; t is t-hat, y is y-hat.
 pub fn encrypt(a: &[u16], ek: &[u8], m: &[u8], r: &[u8], ct: &mut [u8])
-    requires { ⌜ Expanded 3 (drop 1152 (now ek)) (now a) × (length (now ek) ≡ 1184) × (length (now m) ≡ 32) × (length (now r) ≡ 32) × (length (now ct) ≡ 1088) ⌝ }
+    requires { ⌜
+        Expanded 3 (drop 1152 (now ek)) (now a)
+        × (length (now ek) ≡ 1184)
+        × (length (now m) ≡ 32)
+        × (length (now r) ≡ 32)
+        × (length (now ct) ≡ 1088)
+        ⌝ }
     ensures { λ _. ⌜ now (ct .exit) ≡ encryptOf mlKem768 (now (ek .entry)) (now (m .entry)) (now (r .entry)) ⌝ }
 {
     let mut t = [0u16; 768];

@@ -1,7 +1,7 @@
 // K-PKE.KeyGen (FIPS 203, algorithm 13).
 ghost use mathlib.Core.List.{List, [], _∷_, _++_};
 ghost use mathlib.Core.Path.{_≡_};
-ghost use Prim.Native.Nat.{ℕ, _+_, _*_, _<_, _≤_};
+ghost use Prim.Native.Nat.{ℕ, _+_, _*_, _<_};
 ghost use lib.ListN.{length, take};
 ghost use Rattle.words.specs.Bounded.{Below};
 ghost use Rattle.words.specs.Residue.{q};
@@ -11,6 +11,7 @@ ghost use Rattle.ring.specs.Transform.{ntt as nttOf};
 ghost use Rattle.kpke.specs.Parameters.{mlKem768};
 ghost use Rattle.kpke.specs.KPke.{parts, concat, noise as noiseOf, publicPolynomial, ekPke, dkPke};
 ghost use Rattle.kpke.specs.Expanded.{placesOf, Expanded};
+ghost use Rattle.kpke.specs.Sizes.{RowInput};
 use crate::copy::copy_bytes;
 use crate::noise::noise;
 use crate::noise::transformed_noise;
@@ -19,7 +20,7 @@ use crate::vector::encode_all;
 use ring::add_to;
 use ring::ntt;
 
-// Line 18 at row i, for the matrix a and the secret s.
+// Line 18 at row i, t-hat[i], for the matrix A-hat in a and the secret s-hat in s; e is row i of e-hat.
 fn public_polynomial(
     a: &[u16],
     s: &[u16],
@@ -29,8 +30,16 @@ fn public_polynomial(
     i: usize,
     f: &mut [u16],
 )
-    requires { ⌜ (length (now a) ≡ 256 * k * k) × (length (now s) ≡ 256 * k) × (length (now sigma) ≡ 32) × (0 < eta) × (eta ≤ 3) × (k ≤ 128) × (i < k) × (length (now f) ≡ 256) ⌝ }
-    ensures { λ _. ⌜ now (f .exit) ≡ publicPolynomial k (placesOf k (now (a .entry))) (parts 256 (now (s .entry))) (λ j. nttOf (noiseOf eta (now (sigma .entry)) (k + j))) i ⌝ }
+    requires { ⌜ RowInput (now a) (now s) (now sigma) eta k × (i < k) × (length (now f) ≡ 256) ⌝ }
+    ensures { λ _. ⌜
+        now (f .exit)
+        ≡ publicPolynomial
+        k
+        (placesOf k (now (a .entry)))
+        (parts 256 (now (s .entry)))
+        (λ j. nttOf (noiseOf eta (now (sigma .entry)) (k + j)))
+        i
+        ⌝ }
 {
     let mut e = [0u16; 256];
     dot(a, k * i, 1, s, k, f);
@@ -39,9 +48,19 @@ fn public_polynomial(
     add_to(f, &e);
 }
 
+// Line 18, t-hat.
 fn public_vector(a: &[u16], s: &[u16], sigma: &[u8], eta: u32, k: usize, t: &mut [u16])
-    requires { ⌜ (length (now a) ≡ 256 * k * k) × (length (now s) ≡ 256 * k) × (length (now sigma) ≡ 32) × (0 < eta) × (eta ≤ 3) × (k ≤ 128) × (length (now t) ≡ 256 * k) ⌝ }
-    ensures { λ _. ⌜ now (t .exit) ≡ concat k (publicPolynomial k (placesOf k (now (a .entry))) (parts 256 (now (s .entry))) (λ j. nttOf (noiseOf eta (now (sigma .entry)) (k + j)))) ⌝ }
+    requires { ⌜ RowInput (now a) (now s) (now sigma) eta k × (length (now t) ≡ 256 * k) ⌝ }
+    ensures { λ _. ⌜
+        now (t .exit)
+        ≡ concat
+        k
+        (publicPolynomial
+        k
+        (placesOf k (now (a .entry)))
+        (parts 256 (now (s .entry)))
+        (λ j. nttOf (noiseOf eta (now (sigma .entry)) (k + j))))
+        ⌝ }
 {
     for i in 0..k {
         let b = 256 * i;
@@ -50,21 +69,37 @@ fn public_vector(a: &[u16], s: &[u16], sigma: &[u8], eta: u32, k: usize, t: &mut
     }
 }
 
-// Line 19.
+// Line 19, ek: t-hat encoded, then rho.
 fn write_ek(t: &[u16], rho: &[u8], k: usize, ek: &mut [u8])
-    requires { ⌜ (length (now t) ≡ 256 * k) × Below q (now t) × (length (now rho) ≡ 32) × (length (now ek) ≡ 384 * k + 32) ⌝ }
-    ensures { λ _. ⌜ now (ek .exit) ≡ concat k (λ i. byteEncode 12 (parts 256 (now (t .entry)) i)) ++ now (rho .entry) ⌝ }
+    requires { ⌜
+        (length (now t) ≡ 256 * k)
+        × Below q (now t)
+        × (length (now rho) ≡ 32)
+        × (length (now ek) ≡ 384 * k + 32)
+        ⌝ }
+    ensures { λ _. ⌜
+        now (ek .exit) ≡ concat k (λ i. byteEncode 12 (parts 256 (now (t .entry)) i)) ++ now (rho .entry)
+        ⌝ }
 {
     let n = 384 * k;
     encode_all(t, 12, k, &mut ek[0..n]);
     copy_bytes(rho, &mut ek[n..]);
 }
 
-// Lines 8 to 20 at ML-KEM-768, for the matrix a and line 1's hash g.
+// Lines 8 to 20 at ML-KEM-768, for the matrix A-hat in a and line 1's rho || sigma in g; s is s-hat, t is t-hat.
 pub fn write_keys(a: &[u16], g: &[u8], ek: &mut [u8], dk: &mut [u8])
-    requires { ⌜ Expanded 3 (take 32 (now g)) (now a) × (length (now g) ≡ 64) × (length (now ek) ≡ 1184) × (length (now dk) ≡ 1152) ⌝ }
-    ensures { λ _. ⌜ ((d : List ℕ) → now (g .entry) ≡ sha3-512 (d ++ 3 ∷ []) → now (ek .exit) ≡ ekPke mlKem768 d) ⌝ }
-    ensures { λ _. ⌜ ((d : List ℕ) → now (g .entry) ≡ sha3-512 (d ++ 3 ∷ []) → now (dk .exit) ≡ dkPke mlKem768 d) ⌝ }
+    requires { ⌜
+        Expanded 3 (take 32 (now g)) (now a)
+        × (length (now g) ≡ 64)
+        × (length (now ek) ≡ 1184)
+        × (length (now dk) ≡ 1152)
+        ⌝ }
+    ensures { λ _. ⌜
+        ((d : List ℕ) → now (g .entry) ≡ sha3-512 (d ++ 3 ∷ []) → now (ek .exit) ≡ ekPke mlKem768 d)
+        ⌝ }
+    ensures { λ _. ⌜
+        ((d : List ℕ) → now (g .entry) ≡ sha3-512 (d ++ 3 ∷ []) → now (dk .exit) ≡ dkPke mlKem768 d)
+        ⌝ }
 {
     let mut s = [0u16; 768];
     let mut t = [0u16; 768];

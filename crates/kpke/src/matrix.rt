@@ -1,4 +1,5 @@
-// The matrix (FIPS 203, algorithms 13 and 14, lines 3 to 7): its rows one after the other in one slice.
+// The matrix A-hat (FIPS 203, algorithm 13, lines 3 to 7, and algorithm 14, lines 4 to 8), its rows one after the other
+// in one slice.
 ghost use mathlib.Core.Bool.{true};
 ghost use mathlib.Core.Path.{_≡_};
 ghost use Prim.Native.Nat.{_*_, _<_, _≤_};
@@ -10,7 +11,7 @@ ghost use Rattle.kpke.specs.KPke.{concat, matrix, matrixFull};
 use crate::hashes::xof;
 use codec::fill_ntt;
 
-// Whether the stream of place (i, j) yields 256 coefficients, which f then holds.
+// SampleNTT (algorithm 7) at place (i, j): whether its stream yields 256 coefficients, which f then holds.
 fn sample_place(rho: &[u8], i: u8, j: u8, f: &mut [u16]) -> bool
     requires { ⌜ (length (now rho) ≡ 32) × (length (now f) ≡ 256) ⌝ }
     ensures { λ r. ⌜ r ≡ full (XOF (now (rho .entry)) i j) ⌝ }
@@ -21,6 +22,7 @@ fn sample_place(rho: &[u8], i: u8, j: u8, f: &mut [u16]) -> bool
     fill_ntt(&s, f)
 }
 
+// Row i of A-hat.
 fn expand_row(rho: &[u8], k: usize, i: usize, a: &mut [u16]) -> bool
     requires { ⌜ (length (now rho) ≡ 32) × (k ≤ 256) × (i < 256) × (length (now a) ≡ 256 * k) ⌝ }
     ensures { λ r. ⌜ r ≡ every k (λ j. full (XOF (now (rho .entry)) i j)) ⌝ }
@@ -36,11 +38,13 @@ fn expand_row(rho: &[u8], k: usize, i: usize, a: &mut [u16]) -> bool
     true
 }
 
-// Whether each stream yields 256 coefficients; a then holds the matrix.
+// A-hat: whether each stream yields 256 coefficients; a then holds the matrix.
 pub fn expand(rho: &[u8], k: usize, a: &mut [u16]) -> bool
     requires { ⌜ (length (now rho) ≡ 32) × (k ≤ 256) × (length (now a) ≡ 256 * k * k) ⌝ }
     ensures { λ r. ⌜ r ≡ matrixFull k (now (rho .entry)) ⌝ }
-    ensures { λ r. ⌜ (r ≡ true → now (a .exit) ≡ concat k (λ i. concat k (matrix (now (rho .entry)) i))) ⌝ }
+    ensures { λ r. ⌜
+        (r ≡ true → now (a .exit) ≡ concat k (λ i. concat k (matrix (now (rho .entry)) i)))
+        ⌝ }
 {
     let n = 256 * k;
     for i in 0..k {

@@ -1,11 +1,11 @@
-// Vectors of k polynomials: the k parts of 256 coefficients of one slice.
+// Vectors of k polynomials (FIPS 203, section 2.4.6): the k parts of 256 coefficients of one slice.
 ghost use mathlib.Core.Path.{_≡_};
-ghost use Prim.Native.Nat.{ℕ, _+_, _*_, _^_, _<_, _≤_};
+ghost use Prim.Native.Nat.{ℕ, _+_, _*_, _<_, _≤_};
 ghost use lib.ListN.{length, replicate};
-ghost use Rattle.words.specs.Bounded.{Below};
 ghost use Rattle.codec.specs.Bytes.{byteEncode, byteDecode12};
 ghost use Rattle.ring.specs.Transform.{ntt as nttOf};
 ghost use Rattle.kpke.specs.KPke.{parts, concat, dot as dotOf, coefficients};
+ghost use Rattle.kpke.specs.Sizes.{Encodable};
 use crate::copy::copy_coefficients;
 use codec::byte_decode;
 use codec::byte_decode12;
@@ -14,6 +14,7 @@ use ring::add_to;
 use ring::multiply_add;
 use ring::ntt;
 
+// NTT (algorithm 9) of each polynomial.
 pub fn ntt_all(v: &mut [u16], k: usize)
     requires { ⌜ length (now v) ≡ 256 * k ⌝ }
     ensures { λ _. ⌜ now (v .exit) ≡ concat k (λ i. nttOf (parts 256 (now (v .entry)) i)) ⌝ }
@@ -25,6 +26,7 @@ pub fn ntt_all(v: &mut [u16], k: usize)
     }
 }
 
+// The polynomial 0, from which dot's sum starts (2.4.7).
 pub fn clear(f: &mut [u16])
     ensures { λ _. ⌜ now (f .exit) ≡ replicate (length (now (f .entry))) 0 ⌝ }
 {
@@ -33,10 +35,16 @@ pub fn clear(f: &mut [u16])
     }
 }
 
-// The sum of the products of a's parts start, start + step, .. with b's parts.
+// The sum of MultiplyNTTs (algorithm 11) of a's parts start, start + step, .. with b's parts (2.4.7).
 pub fn dot(a: &[u16], start: usize, step: usize, b: &[u16], k: usize, out: &mut [u16])
-    requires { ⌜ ((j : ℕ) → j < k → 256 * (start + step * j) + 256 ≤ length (now a)) × (length (now b) ≡ 256 * k) × (length (now out) ≡ 256) ⌝ }
-    ensures { λ _. ⌜ now (out .exit) ≡ dotOf k (λ j. parts 256 (now (a .entry)) (start + step * j)) (parts 256 (now (b .entry))) ⌝ }
+    requires { ⌜
+        ((j : ℕ) → j < k → 256 * (start + step * j) + 256 ≤ length (now a))
+        × (length (now b) ≡ 256 * k)
+        × (length (now out) ≡ 256)
+        ⌝ }
+    ensures { λ _. ⌜
+        now (out .exit) ≡ dotOf k (λ j. parts 256 (now (a .entry)) (start + step * j)) (parts 256 (now (b .entry)))
+        ⌝ }
 {
     clear(out);
     for j in 0..k {
@@ -48,8 +56,9 @@ pub fn dot(a: &[u16], start: usize, step: usize, b: &[u16], k: usize, out: &mut 
     }
 }
 
+// ByteEncode_d (algorithm 5) of each polynomial, one after the other.
 pub fn encode_all(v: &[u16], d: u32, k: usize, out: &mut [u8])
-    requires { ⌜ (length (now v) ≡ 256 * k) × (length (now out) ≡ 32 * d * k) × (0 < d) × (d ≤ 12) × Below (2 ^ d) (now v) ⌝ }
+    requires { ⌜ Encodable (now v) d k × (length (now out) ≡ 32 * d * k) ⌝ }
     ensures { λ _. ⌜ now (out .exit) ≡ concat k (λ i. byteEncode d (parts 256 (now (v .entry)) i)) ⌝ }
 {
     let n = 32 * (d as usize);
@@ -62,7 +71,7 @@ pub fn encode_all(v: &[u16], d: u32, k: usize, out: &mut [u8])
     }
 }
 
-// The coefficients as they stand.
+// ByteDecode_12 (algorithm 6) of each 384 bytes, before the reduction modulo q: what the modulus check (7.2) looks at.
 pub fn decode_all(b: &[u8], k: usize, v: &mut [u16])
     requires { ⌜ (length (now b) ≡ 384 * k) × (length (now v) ≡ 256 * k) ⌝ }
     ensures { λ _. ⌜ now (v .exit) ≡ coefficients k (now (b .entry)) ⌝ }
@@ -76,7 +85,7 @@ pub fn decode_all(b: &[u8], k: usize, v: &mut [u16])
     }
 }
 
-// The coefficients modulo q.
+// ByteDecode_12 (algorithm 6) of each 384 bytes: the coefficients modulo q.
 pub fn decode12_all(b: &[u8], k: usize, v: &mut [u16])
     requires { ⌜ (length (now b) ≡ 384 * k) × (length (now v) ≡ 256 * k) ⌝ }
     ensures { λ _. ⌜ now (v .exit) ≡ concat k (λ i. byteDecode12 (parts 384 (now (b .entry)) i)) ⌝ }

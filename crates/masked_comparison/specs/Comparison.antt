@@ -31,6 +31,13 @@ allZero n w = do
   b ← halves 6 f
   maskedNot 1 b
 
+-- its entries and mask words: eleven and one for each of n + 6 Ors, and the complement
+unfoldable pub allZeroEntries : ℕ → ℕ
+allZeroEntries n = n * 11 + (6 * 11 + 1)
+
+unfoldable pub allZeroWords : ℕ → ℕ
+allZeroWords n = n + 6
+
 -- 64 copies of a bit
 unfoldable pub copies : Shares → Shares
 copies b = shares (b .s0 * (2 ^ 64 - 1)) (b .s1 * (2 ^ 64 - 1))

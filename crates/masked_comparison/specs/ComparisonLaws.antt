@@ -22,7 +22,8 @@ use Rattle.worksheet.specs.MaskedAndLaws.{uses-maskedAnd}
 use Rattle.worksheet.specs.Gates.{maskedOr}
 use Rattle.worksheet.specs.GatesLaws.{uses-maskedNot, uses-maskedXor, uses-maskedOr}
 use Rattle.worksheet.specs.GatesSharing.{sharing-maskedNot, sharing-maskedOr}
-use Rattle.masked_comparison.specs.Comparison.{addPublic, foldOr, halve, halves, allZero, copies, select}
+use Rattle.masked_comparison.specs.Comparison.{addPublic, foldOr, halve, halves, allZero, allZeroEntries}
+use Rattle.masked_comparison.specs.Comparison.{allZeroWords, copies, select}
 
 -- ---- how much they do
 
@@ -38,8 +39,8 @@ uses-halves : (n : ℕ) (w : Shares) → Uses (n * 11) (n * 1) (n * 0) (halves n
 unfolding halves halve
 uses-halves n w = uses-loop n w (λ j a. uses-maskedOr (2 ^ (n - 1 - j)) _ _)
 
-pub uses-allZero : (n : ℕ) (w : ℕ → Shares) → Uses (11 * n + 67) (n + 6) 0 (allZero n w)
-unfolding allZero
+pub uses-allZero : (n : ℕ) (w : ℕ → Shares) → Uses (allZeroEntries n) (allZeroWords n) 0 (allZero n w)
+unfolding allZero allZeroEntries allZeroWords
 uses-allZero n w =
     uses-recount (omega arith) (omega arith) (omega arith)
     (uses-bind (uses-foldOr n w) (λ f. uses-bind (uses-halves 6 f) (λ b. uses-maskedNot 1 b)))
@@ -66,11 +67,13 @@ both-zero (suc a) zero (suc c) f g h = refl
 -- Or holds both of its words
 and-or-left : (n x y : ℕ) → and x (and (or n x y) (ones n)) ≡ and x (ones n)
 unfolding or complement
-and-or-left n x y = boole (at 0 ⊗ (((at 0 ⊕ at 2) ⊗ (at 1 ⊕ at 2) ⊕ at 2) ⊗ at 2)) (at 0 ⊗ at 2) (x ∷ y ∷ ones n ∷ []) tt
+and-or-left n x y =
+    boole (at 0 ⊗ (((at 0 ⊕ at 2) ⊗ (at 1 ⊕ at 2) ⊕ at 2) ⊗ at 2)) (at 0 ⊗ at 2) (x ∷ y ∷ ones n ∷ []) tt
 
 and-or-right : (n x y : ℕ) → and y (and (or n x y) (ones n)) ≡ and y (ones n)
 unfolding or complement
-and-or-right n x y = boole (at 1 ⊗ (((at 0 ⊕ at 2) ⊗ (at 1 ⊕ at 2) ⊕ at 2) ⊗ at 2)) (at 1 ⊗ at 2) (x ∷ y ∷ ones n ∷ []) tt
+and-or-right n x y =
+    boole (at 1 ⊗ (((at 0 ⊕ at 2) ⊗ (at 1 ⊕ at 2) ⊕ at 2) ⊗ at 2)) (at 1 ⊗ at 2) (x ∷ y ∷ ones n ∷ []) tt
 
 or-same : (n x : ℕ) → or n x x ≡ x
 unfolding or complement
@@ -122,7 +125,8 @@ module _ (h : ℕ) where
 
 -- ---- what they join to
 
-pub gives-addPublic : (n : ℕ) (c X : ℕ → ℕ) (w : ℕ → Shares) → ((j : ℕ) → j < n → Bits 64 (c j)) → ((j : ℕ) → j < n → Sharing 64 (X j) (w j))
+pub gives-addPublic : (n : ℕ) (c X : ℕ → ℕ) (w : ℕ → Shares) → ((j : ℕ) → j < n → Bits 64 (c j))
+    → ((j : ℕ) → j < n → Sharing 64 (X j) (w j))
     → Gives (Each (λ j. Sharing 64 (xor (X j) (c j))) n) (addPublic n c w)
 unfolding addPublic entry _>>=_
 gives-addPublic n c X w b s = gives-times _ n (λ j h. enter-g (ret-g (sharing-xorPublic (b j h) (s j h))))
@@ -133,7 +137,8 @@ pub record ZeroWhere (n : ℕ) (b : Bool) (z : Shares) : Type 0 where
   pub sharing : Sharing n word z
   pub zeros : isZero word ≡ b
 
-zeroWhere-maskedOr : {n : ℕ} {a b : Bool} {u v : Shares} → ZeroWhere n a u → ZeroWhere n b v → Gives (ZeroWhere n (a && b)) (maskedOr n u v)
+zeroWhere-maskedOr : {n : ℕ} {a b : Bool} {u v : Shares} → ZeroWhere n a u → ZeroWhere n b v
+    → Gives (ZeroWhere n (a && b)) (maskedOr n u v)
 zeroWhere-maskedOr s t =
     gives-weaken
     (λ z o.
@@ -162,9 +167,11 @@ gives-halves : {b : Bool} {z : Shares} (n : ℕ) → ZeroWhere (2 ^ n) b z → G
 unfolding halves
 gives-halves {b} {z} n s =
     gives-weaken (λ o r. subst (λ (k : ℕ). ZeroWhere (2 ^ k) b o) (sub-self n) r)
-    (gives-loop (λ j. ZeroWhere (2 ^ (n - j)) b) n (λ j h o r. turn j h r) (subst (λ (k : ℕ). ZeroWhere (2 ^ k) b z) (sym (sub-zero n)) s))
+    (gives-loop (λ j. ZeroWhere (2 ^ (n - j)) b) n (λ j h o r. turn j h r)
+    (subst (λ (k : ℕ). ZeroWhere (2 ^ k) b z) (sym (sub-zero n)) s))
   where
-    turn : (j : ℕ) → j < n → {o : Shares} → ZeroWhere (2 ^ (n - j)) b o → Gives (ZeroWhere (2 ^ (n - suc j)) b) (halve (2 ^ (n - 1 - j)) o)
+    turn : (j : ℕ) → j < n → {o : Shares} → ZeroWhere (2 ^ (n - j)) b o
+        → Gives (ZeroWhere (2 ^ (n - suc j)) b) (halve (2 ^ (n - 1 - j)) o)
     turn j h {o} r =
         let k = n - 1 - j in
         let e : n - j ≡ suc k = omega arith in
@@ -183,7 +190,8 @@ pub gives-allZero : (n : ℕ) (X : ℕ → ℕ) (w : ℕ → Shares) → ((j : �
     → Gives (Sharing 1 (cond (every (suc n) (λ j. isZero (X j))) 1 0)) (allZero n w)
 unfolding allZero
 gives-allZero n X w s =
-    gives-bind (gives-foldOr n (λ j. isZero (X j)) w (λ j h. record { word = X j; sharing = s j h; zeros = refl })) (λ f p.
+    gives-bind
+    (gives-foldOr n (λ j. isZero (X j)) w (λ j h. record { word = X j; sharing = s j h; zeros = refl })) (λ f p.
     gives-bind (gives-halves 6 p) (λ b r.
     gives-weaken
     (λ z o. rw (complement-bit (r .word) (sharing-bits (r .sharing)), r .zeros) at o)

@@ -16,7 +16,7 @@ use Rattle.worksheet.specs.SharingLaws.{share, notShares, share-notShares}
 use Rattle.worksheet.specs.Choice.{both-bits, Kept, KeptWords, KeptList}
 use Rattle.worksheet.specs.Gates.{maskedNot}
 use Rattle.worksheet.specs.GatesSilence.{like-maskedNot, sameAt-maskedNot}
-use Rattle.masked_comparison.specs.Comparison.{addPublic, allZero}
+use Rattle.masked_comparison.specs.Comparison.{addPublic, allZero, allZeroEntries}
 use Rattle.masked_comparison.specs.FoldSilence.{foldOr-stage}
 use Rattle.masked_comparison.specs.HalvesSilence.{KeptHalves, keepingHalves, halves-stage}
 
@@ -62,7 +62,8 @@ kept-notShares : {n : ℕ} (q : Bool) {u u′ : Shares} → Kept n q u u′ → 
 kept-notShares {n} q {u} {u′} k =
     record {
       both =
-          both-bits (complement-bits (k .both .left .bits0)) (k .both .left .bits1) (complement-bits (k .both .right .bits0))
+          both-bits (complement-bits (k .both .left .bits0)) (k .both .left .bits1)
+          (complement-bits (k .both .right .bits0))
           (k .both .right .bits1);
       same = share-notShares n q u u′ (k .same);
     }
@@ -78,11 +79,8 @@ maskedNot-stage n =
 
 -- ---- the equal bit
 
-abbrev pub allZeroEntries : ℕ → ℕ
-allZeroEntries n = n * 11 + (6 * 11 + 1)
-
 pub allZero-stage : (n : ℕ) → 0 < n → Stage (KeptWords (n + 1)) (Kept 1) (allZeroEntries n) (allZero n) (allZero n)
-unfolding allZero
+unfolding allZero allZeroEntries
 allZero-stage n pos =
     andThen (foldOr-stage n pos (keepingHalves 6))
     (andThen (halves-stage 6 (omega arith))

@@ -64,7 +64,8 @@ unfolding foldOr loop
 coupled-foldOr zero h r s = absurd (omega arith)
 coupled-foldOr (suc n) {c} h r s =
     rw (suc-mul n 11)
-    (coupled-bind (coupled-loop (λ j. Kept 64 (c 0)) n (λ j g. kept-turn (suc n) r (c 0) j (omega arith)) (r .at 0 (omega arith)))
+    (coupled-bind
+    (coupled-loop (λ j. Kept 64 (c 0)) n (λ j g. kept-turn (suc n) r (c 0) j (omega arith)) (r .at 0 (omega arith)))
     (λ t t′ k. coupled-maskedOr-way (omega arith) (k .both) (r .at (n + 1) (omega arith) .both) s))
 
 -- S d is any way to set the result apart

@@ -1,4 +1,5 @@
--- A word folded to one bit, half by half, as a stage: an entry asks for one share of the low half and for one of the high half.
+-- A word folded to one bit, half by half, as a stage: an entry asks for one share of the low half and for one of the
+-- high half.
 use Prim.Native.Nat.{ℕ, zero, suc, _+_, _-_, _*_, _/_, _^_, _<_, _≤_}
 use mathlib.Core.Path.{_≡_, sym, ap, _∙_, subst}
 use mathlib.Core.Bool.{Bool, true}

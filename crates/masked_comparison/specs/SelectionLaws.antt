@@ -33,7 +33,8 @@ sharing-copies {b = b} s =
       joins = xor-copies (b .s0) (b .s1) (s .bits0 .lt) (s .bits1 .lt) ∙ ap (λ (x : ℕ). x * (2 ^ 64 - 1)) (s .joins);
     }
 
-selected : (B X Y : ℕ) → Bits 1 B → Bits 64 X → Bits 64 Y → xor Y (and (B * (2 ^ 64 - 1)) (xor X Y)) ≡ cond (isZero B) Y X
+selected : (B X Y : ℕ) → Bits 1 B → Bits 64 X → Bits 64 Y
+    → xor Y (and (B * (2 ^ 64 - 1)) (xor X Y)) ≡ cond (isZero B) Y X
 unfolding ones
 selected zero X Y a p r = ap (xor Y) (and-comm 0 (xor X Y) ∙ and-zero (xor X Y)) ∙ xor-zero Y
 selected (suc zero) X Y a p r =
@@ -48,4 +49,5 @@ unfolding select
 gives-select {B} {X} {Y} s p r =
     gives-bind (sharing-maskedXor p r) (λ d e.
     gives-bind (sharing-maskedAnd (sharing-copies s) e) (λ z f.
-    gives-weaken (λ o g. rw (selected B X Y (sharing-bits s) (sharing-bits p) (sharing-bits r)) at g) (sharing-maskedXor r f)))
+    gives-weaken (λ o g. rw (selected B X Y (sharing-bits s) (sharing-bits p) (sharing-bits r)) at g)
+    (sharing-maskedXor r f)))

@@ -1,4 +1,5 @@
--- Selection as a stage: an entry asks for one share of the bit and for one of the words, and each result can keep either share.
+-- Selection as a stage: an entry asks for one share of the bit and for one of the words, and each result can keep
+-- either share.
 use Prim.Native.Nat.{ℕ, zero, suc, _-_, _*_, _^_, _<_}
 use mathlib.Core.Path.{_≡_, ap, ap₂}
 use mathlib.Core.Bool.{Bool, true, false}
@@ -37,7 +38,8 @@ share-copies true b b′ e = ap (λ (t : ℕ). t * (2 ^ 64 - 1)) e
 
 like-select : (b x y b′ x′ y′ : Shares) → Like 12 (select b x y) (select b′ x′ y′)
 unfolding select
-like-select b x y b′ x′ y′ = coupled-bind (like-maskedXor x y x′ y′) (λ d d′ r. like-xorAnd 64 y (copies b) d y′ (copies b′) d′)
+like-select b x y b′ x′ y′ =
+    coupled-bind (like-maskedXor x y x′ y′) (λ d d′ r. like-xorAnd 64 y (copies b) d y′ (copies b′) d′)
 
 -- the share of the bit that entry i reads, or share 0 where it reads none, and the share of the words
 abbrev pub bitRead : ℕ → Bool
@@ -62,7 +64,8 @@ module _ {b x y b′ x′ y′ : Shares} (rb : Both 1 b b′) (rx : Both 64 x x�
       (xor-bits (sharing-bits (ry .right)) (and-bits (sharing-bits (k .right)) (sharing-bits (r .right))))
       (λ e w. coupled-xorAnd (omega arith) (ry .left) (k .left) (r .left) (ry .right) (k .right) (r .right) w))
 
-  pub sameAt-select : (i : ℕ) → i < 12 → share (bitRead i) b ≡ share (bitRead i) b′ → share (wordRead i) x ≡ share (wordRead i) x′
+  pub sameAt-select : (i : ℕ) → i < 12 → share (bitRead i) b ≡ share (bitRead i) b′
+      → share (wordRead i) x ≡ share (wordRead i) x′
       → share (wordRead i) y ≡ share (wordRead i) y′ → SameAt i (select b x y) (select b′ x′ y′)
   unfolding select maskedXor entry _>>=_
   sameAt-select zero h e f g = here (ap₂ xor f g) (enter-c (like-xorAnd 64 _ _ _ _ _ _))

@@ -6,7 +6,8 @@ ghost use lib.ListN.{getD, length};
 ghost use Rattle.masked_comparison.specs.Comparison;
 ghost use Rattle.masked_comparison.specs.Comparison.{addPublic, foldOr, allZero};
 ghost use Rattle.worksheet.specs.SharedList.{sharedList, sharedAt, zip};
-ghost use Rattle.words.specs.Word.{low, ones as onesOf};
+ghost use Rattle.words.specs.Word;
+ghost use Rattle.words.specs.Word.{low};
 ghost use Rattle.worksheet.specs.Prog.{word};
 ghost use Rattle.worksheet.specs.Ran.{Makes, MakesWith, Draws};
 use worksheet::EnteredShares;
@@ -16,7 +17,13 @@ use worksheet::Shares;
 // Public words go into share 0.
 pub fn add_public(rec: Recorder, c: &[u64], w0: &mut [u64]) -> Recorder
     requires { ⌜ length (now c) ≡ length (now w0) ⌝ }
-    ensures { λ r. ⌜ ((w1 : List ℕ) → Makes (addPublic (length (now (c .entry))) (λ j. getD (now (c .entry)) j 0) (sharedAt (sharedList (now (w0 .entry)) w1))) rec (zip (length (now (c .entry))) (sharedList (now (w0 .exit)) w1)) r) ⌝ }
+    ensures { λ r. ⌜
+        ((w1 : List ℕ)
+        → Makes
+        (addPublic (length (now (c .entry))) (λ j. getD (now (c .entry)) j 0)
+        (sharedAt (sharedList (now (w0 .entry)) w1)))
+        rec (zip (length (now (c .entry))) (sharedList (now (w0 .exit)) w1)) r)
+        ⌝ }
 {
     let mut rec = rec;
     for j in 0..c.len() {
@@ -30,7 +37,10 @@ pub fn add_public(rec: Recorder, c: &[u64], w0: &mut [u64]) -> Recorder
 // All words are folded into the first by Or.
 fn fold_or(rec: Recorder, n: usize, w0: &[u64], w1: &[u64], ws: &[u64]) -> EnteredShares
     requires { ⌜ (n < length (now w0)) × (n < length (now w1)) × (n ≤ length (now ws)) ⌝ }
-    ensures { λ r. ⌜ Draws word n (foldOr n (sharedAt (sharedList (now (w0 .entry)) (now (w1 .entry))))) rec (now (ws .entry)) (r .value) (r .rec) ⌝ }
+    ensures { λ r. ⌜
+        Draws word n (foldOr n (sharedAt (sharedList (now (w0 .entry)) (now (w1 .entry))))) rec (now (ws .entry))
+        (r .value) (r .rec)
+        ⌝ }
 {
     let mut rec = rec;
     let mut acc = Shares {
@@ -49,9 +59,10 @@ fn fold_or(rec: Recorder, n: usize, w0: &[u64], w1: &[u64], ws: &[u64]) -> Enter
     EnteredShares { value: acc, rec }
 }
 
+// The h lowest bits set.
 fn ones(h: usize) -> u64
     requires { ⌜ h ≤ 32 ⌝ }
-    ensures { λ r. ⌜ r ≡ onesOf h ⌝ }
+    ensures { λ r. ⌜ r ≡ Word.ones h ⌝ }
 {
     (1 << h) - 1
 }
@@ -104,7 +115,10 @@ fn halves(rec: Recorder, w: Shares, ws: &[u64]) -> EnteredShares
 // Of n + 1 words.
 pub fn all_zero(rec: Recorder, n: usize, w0: &[u64], w1: &[u64], ws: &[u64]) -> EnteredShares
     requires { ⌜ (n < length (now w0)) × (n < length (now w1)) × (n + 6 ≤ length (now ws)) ⌝ }
-    ensures { λ r. ⌜ Draws word (n + 6) (allZero n (sharedAt (sharedList (now (w0 .entry)) (now (w1 .entry))))) rec (now (ws .entry)) (r .value) (r .rec) ⌝ }
+    ensures { λ r. ⌜
+        Draws word (n + 6) (allZero n (sharedAt (sharedList (now (w0 .entry)) (now (w1 .entry))))) rec (now (ws .entry))
+        (r .value) (r .rec)
+        ⌝ }
 {
     let f = fold_or(rec, n, w0, w1, ws);
     let b = halves(f.rec, f.value, &ws[n..]);

@@ -1,7 +1,9 @@
--- The arithmetic of the fixed point of a coefficient.
+-- The fixed point of a coefficient without a division: 84552411148 q is 2^48 + 1036, and 1036 x is too little to reach
+-- the next quotient.
 use Prim.Native.Nat.{ℕ, _+_, _*_, _/_, _%_, _^_, _<_, _≤_}
 use mathlib.Core.Path.{_≡_, sym, ap, _∙_}
-use native.Mathlib.Nat.{div-add-mod', div-eq-of-lt-le, mod-lt, mul-le-mul-right, add-mul, mul-right-comm, mul-comm, mul-assoc}
+use native.Mathlib.Nat.{div-add-mod', div-eq-of-lt-le, mod-lt, mul-le-mul-right}
+use native.Mathlib.Nat.{add-mul, mul-right-comm, mul-comm, mul-assoc}
 use native.Mathlib.Omega.{arith}
 use lib.Pow.{pow-mono, pow-add}
 use Rattle.words.specs.Residue.{q}
@@ -25,5 +27,6 @@ estimate n s x e h l =
     ∙ sym (add-mul (a * 3329) r P)
     ∙ ap (λ (z : ℕ). z * P) (div-add-mod' (2 ^ n * x) q)
     ∙ f in
-    let b = between x (a * P) (r * P) P l g (mul-le-mul-right P (omega (arith, mod-lt (2 ^ n * x) {m = q} (omega arith)))) (pow-mono h) in
+    let m : r ≤ 3328 = omega (arith, mod-lt (2 ^ n * x) {m = q} (omega arith)) in
+    let b = between x (a * P) (r * P) P l g (mul-le-mul-right P m) (pow-mono h) in
     div-eq-of-lt-le {k = a} P (b .0) (rw (add-mul a 1 P) (omega (arith, b .1)))

@@ -1,4 +1,5 @@
--- The transposition makes the planes.
+-- The transposition makes the planes: a step tells for each bit the row and place that it came from, and over five
+-- steps these are number and bit exchanged, which is tested for each of the 32 rows and 64 places.
 use mathlib.Core.Bool.{Bool}
 use mathlib.Core.List.{List}
 use mathlib.Core.Path.{_≡_, refl, sym, ap, ap₂, _∙_}
@@ -26,12 +27,15 @@ use Rattle.masked_compression.specs.Transposition.{pick, packed, differe
 digit-up : (k s x : ℕ) → s ≤ k → digit k (x * 2 ^ s) ≡ digit (k - s) x
 digit-up k s x h =
     let e : s + (k - s) ≡ k = omega arith in
-    ap (λ (i : ℕ). digit i (x * 2 ^ s)) (sym e) ∙ sym (digit-div (k - s) s (x * 2 ^ s)) ∙ ap (digit (k - s)) (shl-shr x s)
+    ap (λ (i : ℕ). digit i (x * 2 ^ s)) (sym e)
+    ∙ sym (digit-div (k - s) s (x * 2 ^ s))
+    ∙ ap (digit (k - s)) (shl-shr x s)
 
 digit-even : (k a x : ℕ) → digit k (x * 2 ^ (suc a + k)) ≡ 0
 unfolding digit
 digit-even k a x =
-    rw (pow-add 2 (suc a) k, ← mul-assoc x (2 ^ suc a) (2 ^ k)) (ap (λ (z : ℕ). z % 2) (shl-shr (x * 2 ^ suc a) k) ∙ shifted-even x a)
+    rw (pow-add 2 (suc a) k, ← mul-assoc x (2 ^ suc a) (2 ^ k))
+    (ap (λ (z : ℕ). z % 2) (shl-shr (x * 2 ^ suc a) k) ∙ shifted-even x a)
 
 digit-under : (k s x : ℕ) → k < s → digit k (x * 2 ^ s) ≡ 0
 digit-under k s x h = let e : s ≡ suc (s - k - 1) + k = omega arith in rw e (digit-even k (s - k - 1) x)
@@ -41,7 +45,8 @@ digit-under k s x h = let e : s ≡ suc (s - k - 1) + k = omega arith in rw e (d
 below2 : (p : ℕ → ℕ → ℕ → Bool) → T (every 2 (λ a. every 2 (λ b. every 2 (p a b)))) → (a b c : ℕ)
     → a < 2 → b < 2 → c < 2 → T (p a b c)
 below2 p t a b c f g h =
-    every-at 2 (p a b) (every-at 2 (λ b. every 2 (p a b)) (every-at 2 (λ a. every 2 (λ b. every 2 (p a b))) t a f) b g) c h
+    every-at 2 (p a b)
+    (every-at 2 (λ b. every 2 (p a b)) (every-at 2 (λ a. every 2 (λ b. every 2 (p a b))) t a f) b g) c h
 
 -- where c is 1 the bits a and b change places
 exchanged0 : (a b c : ℕ) → a < 2 → b < 2 → c < 2 → differ a (min (differ a b) c) ≡ pick c a b
@@ -68,7 +73,8 @@ digit-packed v r k h =
     ∙ ap (differ (digit k (low 32 (v r)))) (digit-mod k 64 (v (r + 32) * 2 ^ 32) h)
     ∙ go (decLt k 32)
   where
-    go : Dec (k < 32) → differ (digit k (low 32 (v r))) (digit k (v (r + 32) * 2 ^ 32)) ≡ digit (k % 32) (v (r + 32 * (k / 32)))
+    go : Dec (k < 32)
+        → differ (digit k (low 32 (v r))) (digit k (v (r + 32) * 2 ^ 32)) ≡ digit (k % 32) (v (r + 32 * (k / 32)))
     go (yes p) =
         let e : k ≡ k % 32 = omega arith in
         let f : r ≡ r + 32 * (k / 32) = omega arith in
@@ -92,7 +98,8 @@ record Mask (s m : ℕ) : Type 0 where
   -- the place that the step takes bit k of row r from
   pub inside : (r k : ℕ) → k < 64 → k - k / s % 2 * s + r % 2 * s < 64
 
-mask : (s m : ℕ) → m < 2 ^ 64 → T (every s (λ k. eqb (k / s % 2) 0)) → T (every 64 (λ k. eqb (digit k m) (1 - k / s % 2)))
+mask : (s m : ℕ) → m < 2 ^ 64 → T (every s (λ k. eqb (k / s % 2) 0))
+    → T (every 64 (λ k. eqb (digit k m) (1 - k / s % 2)))
     → T (every (64 - s) (λ k. eqb (digit k m) ((k + s) / s % 2)))
     → T (every 64 (λ k. every 2 (λ e. ltb (k - k / s % 2 * s + e * s) 64))) → Mask s m
 mask s m b t u w z =
@@ -102,7 +109,8 @@ mask s m b t u w z =
       at = λ k h. eqb→eq _ _ (every-at 64 (λ k. eqb (digit k m) (1 - k / s % 2)) u k h);
       above = λ k h l.
           let e : k - s + s ≡ k = omega arith in
-          eqb→eq (digit (k - s) m) _ (every-at (64 - s) (λ k. eqb (digit k m) ((k + s) / s % 2)) w (k - s) (omega arith))
+          eqb→eq (digit (k - s) m) _
+          (every-at (64 - s) (λ k. eqb (digit k m) ((k + s) / s % 2)) w (k - s) (omega arith))
           ∙ ap (λ (i : ℕ). i / s % 2) e;
       inside = λ r k h.
           ltb→lt _ _
@@ -115,7 +123,8 @@ module _ {s m : ℕ} (c : Mask s m) (x y : ℕ) where
   unfolding differences
   digit-differences k =
       digit-and k (xor (x / 2 ^ s) y) m
-      ∙ ap (λ (d : ℕ). min d (digit k m)) (digit-xor k (x / 2 ^ s) y ∙ ap (λ (d : ℕ). differ d (digit k y)) (digit-div k s x))
+      ∙ ap (λ (d : ℕ). min d (digit k m))
+      (digit-xor k (x / 2 ^ s) y ∙ ap (λ (d : ℕ). differ d (digit k y)) (digit-div k s x))
 
   differences-bits : Bits 64 x → Bits 64 y → Bits 64 (differences s m x y)
   unfolding differences
@@ -148,7 +157,9 @@ module _ {s m : ℕ} (c : Mask s m) (x y : ℕ) where
       picked (suc zero) e = let f : k - s ≡ k - 1 * s = omega arith in ap (λ (i : ℕ). digit i y) f
       picked (suc (suc b)) e = absurd (omega arith)
 
-      go : Dec (k < s) → differ (digit k x) (digit k (differences s m x y * 2 ^ s)) ≡ digit (k - k / s % 2 * s) (pick (k / s % 2) x y)
+      go : Dec (k < s)
+          → differ (digit k x) (digit k (differences s m x y * 2 ^ s))
+          ≡ digit (k - k / s % 2 * s) (pick (k / s % 2) x y)
       go (yes p) =
           let f : k ≡ k - 0 * s = omega arith in
           rw (c .under k p) (differ-zero _ _ (digit-under k s (differences s m x y) p) ∙ ap (λ (i : ℕ). digit i x) f)
@@ -170,7 +181,8 @@ module _ {s m : ℕ} (c : Mask s m) (w : ℕ → ℕ) where
       go zero = xor-bits (b (r / 2)) (record { lt = mod-lt _ (pow-pos 64) })
       go (suc e) = xor-bits (b (r / 2 + 16)) (differences-bits c _ _ (b (r / 2)) (b (r / 2 + 16)))
 
-  digit-stepped : (r k : ℕ) → k < 64 → digit k (stepped s m w r) ≡ digit (k - k / s % 2 * s + r % 2 * s) (w (r / 2 + k / s % 2 * 16))
+  digit-stepped : (r k : ℕ) → k < 64
+      → digit k (stepped s m w r) ≡ digit (k - k / s % 2 * s + r % 2 * s) (w (r / 2 + k / s % 2 * 16))
   unfolding stepped
   digit-stepped r k h = side (w (r / 2)) (w (r / 2 + 16)) (r % 2) refl ∙ row (k / s % 2) refl
     where
@@ -185,9 +197,12 @@ module _ {s m : ℕ} (c : Mask s m) (w : ℕ → ℕ) where
       side x y (suc (suc n)) e = absurd (omega arith)
 
       row : (b : ℕ) → k / s % 2 ≡ b
-          → digit (k - b * s + r % 2 * s) (pick b (w (r / 2)) (w (r / 2 + 16))) ≡ digit (k - b * s + r % 2 * s) (w (r / 2 + b * 16))
+          → digit (k - b * s + r % 2 * s) (pick b (w (r / 2)) (w (r / 2 + 16)))
+          ≡ digit (k - b * s + r % 2 * s) (w (r / 2 + b * 16))
       row zero e = let f : r / 2 ≡ r / 2 + 0 * 16 = omega arith in ap (λ (i : ℕ). digit (k - 0 * s + r % 2 * s) (w i)) f
-      row (suc zero) e = let f : r / 2 + 16 ≡ r / 2 + 1 * 16 = omega arith in ap (λ (i : ℕ). digit (k - 1 * s + r % 2 * s) (w i)) f
+      row (suc zero) e =
+          let f : r / 2 + 16 ≡ r / 2 + 1 * 16 = omega arith in
+          ap (λ (i : ℕ). digit (k - 1 * s + r % 2 * s) (w i)) f
       row (suc (suc b)) e = absurd (omega arith)
 
 -- ---- five steps
@@ -276,7 +291,8 @@ transposed-bits v =
 
 pub transposed-plane : (v : ℕ → ℕ) (r : ℕ) → r < 32 → transposed v r ≡ plane 64 v r
 transposed-plane v r g =
-    ext-bits (transposed-bits v r) (plane-bits 64 v r) (λ k h. digit-transposed v r k g h ∙ sym (digit-plane 64 v k r h))
+    ext-bits (transposed-bits v r) (plane-bits 64 v r)
+    (λ k h. digit-transposed v r k g h ∙ sym (digit-plane 64 v k r h))
 
 -- ---- rows in lists
 
@@ -286,7 +302,10 @@ stepped-even s m w i = let e : 2 * i % 2 ≡ 0 = omega arith in let f : 2 * i / 
 
 pub stepped-odd : (s m : ℕ) (w : ℕ → ℕ) (i : ℕ) → stepped s m w (2 * i + 1) ≡ upper s m (w i) (w (i + 16))
 unfolding stepped
-stepped-odd s m w i = let e : (2 * i + 1) % 2 ≡ 1 = omega arith in let f : (2 * i + 1) / 2 ≡ i = omega arith in rw (e, f)
+stepped-odd s m w i =
+    let e : (2 * i + 1) % 2 ≡ 1 = omega arith in
+    let f : (2 * i + 1) / 2 ≡ i = omega arith in
+    rw (e, f)
 
 -- a step on the rows of a list
 pub stepped-tab : {l o : List ℕ} (s m : ℕ) (f : ℕ → ℕ) → l ≡ tab 32 f
@@ -295,7 +314,8 @@ unfolding stepped
 stepped-tab {l} s m f e g =
     g
     ∙ tab-cong 32 (λ r h.
-    ap₂ (λ (x y : ℕ). pick (r % 2) (lower s m x y) (upper s m x y)) (row (r / 2) (omega arith)) (row (r / 2 + 16) (omega arith)))
+    ap₂ (λ (x y : ℕ). pick (r % 2) (lower s m x y) (upper s m x y)) (row (r / 2) (omega arith))
+    (row (r / 2 + 16) (omega arith)))
   where
     row : (i : ℕ) → i < 32 → getD l i 0 ≡ f i
     row i h = ap (λ (x : List ℕ). getD x i 0) e ∙ getD-tab 32 f i 0 h

@@ -1,13 +1,14 @@
 -- How much the adder does, and that it adds.
 use Prim.Native.Nat.{ℕ, _+_, _*_, _-_, _<_}
-use mathlib.Core.Path.{_≡_, ap}
+use mathlib.Core.Path.{_≡_, refl, ap}
 use native.Mathlib.Omega.{arith}
 use Rattle.words.specs.Word.{Bits, xor, and}
 use Rattle.words.specs.WordLaws.{xor-bits, xor-xor-cancel}
 use Rattle.words.specs.Plane.{plane}
 use Rattle.words.specs.PlaneLaws.{plane-bits}
 use Rattle.worksheet.specs.declared.Shares.{Shares}
-use Rattle.worksheet.specs.Prog.{_>>=_, mask, entry, times-cong}
+use Rattle.worksheet.specs.Prog.{_>>=_, mask, entry}
+use Rattle.worksheet.specs.ProgLaws.{times-cong}
 use Rattle.worksheet.specs.Uses.{Uses, ret-u, word-u, enter-u, uses-bind, uses-times, uses-chain, uses-recount}
 use Rattle.worksheet.specs.Turns.{Each, each-weaken}
 use Rattle.worksheet.specs.Gives.{Gives, ret-g, draw-g, enter-g, gives-bind, gives-weaken, gives-times, gives-chain}
@@ -16,11 +17,12 @@ use Rattle.worksheet.specs.SharingLaws.{Sharing, sharing-none, sharing-xorShare
 use Rattle.worksheet.specs.MaskedAndLaws.{uses-maskedAnd}
 use Rattle.worksheet.specs.GatesLaws.{uses-maskedXor}
 use Rattle.worksheet.specs.GatesSharing.{sharing-maskedXor, sharing-maskedAnd}
-use Rattle.masked_compression.specs.Adder.{maskPlane, carryStep, sumPlane, at, adder}
+use Rattle.masked_compression.specs.Adder.{maskPlane, carryStep, sumPlane, at, adder, adderEntries, adderWords}
 use Rattle.masked_compression.specs.PlaneSum.{plainCarry, plainSum, plane-add}
 
 -- it reads the n lowest planes only
-pub adder-cong : (n : ℕ) {x x′ y y′ : ℕ → ℕ} → ((j : ℕ) → j < n → x j ≡ x′ j) → ((j : ℕ) → j < n → y j ≡ y′ j) → adder n x y ≡ adder n x′ y′
+pub adder-cong : (n : ℕ) {x x′ y y′ : ℕ → ℕ} → ((j : ℕ) → j < n → x j ≡ x′ j) → ((j : ℕ) → j < n → y j ≡ y′ j)
+    → adder n x y ≡ adder n x′ y′
 unfolding adder
 adder-cong n e f = rw (times-cong n (λ j h. ap maskPlane (e j h)), times-cong n (λ j h. ap maskPlane (f j h)))
 
@@ -33,16 +35,17 @@ uses-maskPlane x = word-u (λ r. enter-u ret-u)
 uses-carryStep : (a b c : Shares) → Uses 14 1 0 (carryStep a b c)
 unfolding carryStep
 uses-carryStep a b c =
-    uses-bind (uses-maskedXor a b) (λ x. uses-bind (uses-maskedXor a c) (λ y. uses-bind (uses-maskedAnd 64 x y) (uses-maskedXor a)))
+    uses-bind (uses-maskedXor a b)
+    (λ x. uses-bind (uses-maskedXor a c) (λ y. uses-bind (uses-maskedAnd 64 x y) (uses-maskedXor a)))
 
 uses-sumPlane : (a b c : Shares) → Uses 2 0 0 (sumPlane a b c)
 unfolding sumPlane entry _>>=_
 uses-sumPlane a b c = enter-u (enter-u ret-u)
 
-pub uses-adder : (n : ℕ) (x y : ℕ → ℕ) → 0 < n → Uses (18 * n - 14) (3 * n - 1) 0 (adder n x y)
-unfolding adder
-uses-adder n x y h =
-    uses-recount (omega arith) (omega arith) (omega arith)
+pub uses-adder : (n : ℕ) (x y : ℕ → ℕ) → Uses (adderEntries n) (adderWords n) 0 (adder n x y)
+unfolding adder adderEntries adderWords
+uses-adder n x y =
+    uses-recount refl (omega arith) (omega arith)
     (uses-bind (uses-times n (λ j. uses-maskPlane (x j))) (λ a.
     uses-bind (uses-times n (λ j. uses-maskPlane (y j))) (λ b.
     uses-bind (uses-chain (n - 1) none (λ j c. uses-carryStep (at a j) (at b j) c)) (λ c.
@@ -84,4 +87,5 @@ gives-plainSum n {x} {y} wx wy =
 pub gives-adder : (n : ℕ) (v w : ℕ → ℕ)
     → Gives (Each (λ j. Sharing 64 (plane 64 (λ i. v i + w i) j)) n) (adder n (plane 64 v) (plane 64 w))
 gives-adder n v w =
-    gives-weaken (λ s e. each-weaken (λ j z q. rw (plane-add 64 v w j) at q) e) (gives-plainSum n (plane-bits 64 v) (plane-bits 64 w))
+    gives-weaken (λ s e. each-weaken (λ j z q. rw (plane-add 64 v w j) at q) e)
+    (gives-plainSum n (plane-bits 64 v) (plane-bits 64 w))

@@ -10,7 +10,8 @@ use Rattle.words.specs.WordLaws.{xor-bits, and-bits, zero-bits, xor-zero, xor-x
 use Rattle.words.specs.Formula.{boole, at, _⊕_}
 use Rattle.worksheet.specs.declared.Shares.{Shares}
 use Rattle.worksheet.specs.Prog.{_>>=_, mask, entry}
-use Rattle.worksheet.specs.Couple.{Coupled, ret-c, draw-c, enter-c, coupled-bind, Like, Silent, SameAt, here, there, under}
+use Rattle.worksheet.specs.Couple.{Coupled, ret-c, draw-c, enter-c, coupled-bind}
+use Rattle.worksheet.specs.Couple.{Like, Silent, SameAt, here, there, under}
 use Rattle.worksheet.specs.Matching.{identity, byXor}
 use Rattle.worksheet.specs.Sharing.{shares}
 use Rattle.worksheet.specs.SharingLaws.{share, Sharing, Apart, apart-xor, xorShares, sharing-xorShares}
@@ -40,12 +41,17 @@ module _ {x x′ : ℕ} (w : Bits 64 x) (w′ : Bits 64 x′) where
       let c = xor-bits (xor-bits w w′) v in
       draw-c (byXor c) (λ r h.
       let b : Bits 64 r = record { lt = h } in
-      enter-c (ret-c (record { left = sharing-masked w b; right = sharing-masked w′ (xor-bits b c); by = apart-masked x x′ d r })))
+      enter-c (ret-c (record {
+        left = sharing-masked w b;
+        right = sharing-masked w′ (xor-bits b c);
+        by = apart-masked x x′ d r;
+      })))
 
   pub silent-maskPlane : Silent 1 (maskPlane x) (maskPlane x′)
   unfolding maskPlane mask entry _>>=_ byXor
   silent-maskPlane zero h =
-      under (byXor (xor-bits (xor-bits w w′) zero-bits)) (λ r g. here (sym (apart-masked x x′ 0 r ∙ xor-zero (xor x r))) (ret-c tt))
+      under (byXor (xor-bits (xor-bits w w′) zero-bits))
+      (λ r g. here (sym (apart-masked x x′ 0 r ∙ xor-zero (xor x r))) (ret-c tt))
   silent-maskPlane (suc i) h = absurd (omega arith)
 
 -- ---- the next carry
@@ -71,10 +77,12 @@ carryRead (suc (suc zero)) = false
 carryRead (suc (suc (suc zero))) = true
 carryRead (suc (suc (suc (suc i)))) = readsRight i
 
-module _ {A B C A′ B′ C′ : ℕ} {a b c a′ b′ c′ : Shares} (sa : Sharing 64 A a) (sb : Sharing 64 B b) (sc : Sharing 64 C c)
+module _ {A B C A′ B′ C′ : ℕ} {a b c a′ b′ c′ : Shares} (sa : Sharing 64 A a) (sb : Sharing 64 B b)
+    (sc : Sharing 64 C c)
     (sa′ : Sharing 64 A′ a′) (sb′ : Sharing 64 B′ b′) (sc′ : Sharing 64 C′ c′) where
   pub coupled-carryStep : {d : ℕ} → Bits 64 d
-      → Coupled (Apart 64 d (xor A (and (xor A B) (xor A C))) (xor A′ (and (xor A′ B′) (xor A′ C′)))) 14 (carryStep a b c)
+      → Coupled (Apart 64 d (xor A (and (xor A B) (xor A C))) (xor A′ (and (xor A′ B′) (xor A′ C′)))) 14
+      (carryStep a b c)
       (carryStep a′ b′ c′)
   unfolding carryStep
   coupled-carryStep w =
@@ -92,7 +100,8 @@ module _ {A B C A′ B′ C′ : ℕ} {a b c a′ b′ c′ : Shares} (sa : Shar
   sameAt-carryStep (suc (suc (suc zero))) h p q = there (there (there (here q (like-xorAnd 64 _ _ _ _ _ _))))
   sameAt-carryStep (suc (suc (suc (suc i)))) h p q =
       there (there (there (there
-      (sameAt-xorAnd (omega arith) sa (sharing-xorShares sa sb) (sharing-xorShares sa sc) sa′ (sharing-xorShares sa′ sb′)
+      (sameAt-xorAnd (omega arith) sa (sharing-xorShares sa sb) (sharing-xorShares sa sc) sa′
+      (sharing-xorShares sa′ sb′)
       (sharing-xorShares sa′ sc′) i (omega arith) p q))))
 
 pub bits-carry : {A B C : ℕ} → Bits 64 A → Bits 64 B → Bits 64 C → Bits 64 (xor A (and (xor A B) (xor A C)))

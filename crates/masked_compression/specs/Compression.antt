@@ -6,7 +6,7 @@ use Rattle.words.specs.Plane.{plane}
 use Rattle.words.specs.Residue.{q}
 use Rattle.worksheet.specs.declared.Shares.{Shares}
 use Rattle.worksheet.specs.Prog.{Prog, ret, _>>=_, entry, times}
-use Rattle.masked_compression.specs.Adder.{adder}
+use Rattle.masked_compression.specs.Adder.{adder, adderEntries, adderWords}
 
 -- floor(2^(d+13) x / q) plus h, modulo 2^(d+13): fixed point with 13 fraction bits
 unfoldable pub fixedPoint : ℕ → ℕ → ℕ → ℕ
@@ -16,10 +16,18 @@ fixedPoint d h x = (2 ^ (d + 13) * x / q + h) % 2 ^ (d + 13)
 abbrev pub fixedPoints : ℕ → ℕ → (ℕ → ℕ) → Prog (List ℕ)
 fixedPoints d h x = times 64 (λ i. entry (fixedPoint d h (x i)))
 
--- 64 coefficients: their values of share 0, those of share 1, to which 4096 is added, and the adder; the top d planes are the result
+-- 64 coefficients: their values of share 0, those of share 1, to which 4096 is added, and the adder; the top d planes
+-- are the result
 unfoldable pub maskedCompress : ℕ → (ℕ → Shares) → Prog (List Shares)
 maskedCompress d x = do
   a ← fixedPoints d 0 (λ i. x i .s0)
   b ← fixedPoints d 4096 (λ i. x i .s1)
   s ← adder (d + 13) (plane 64 (λ i. getD a i 0)) (plane 64 (λ i. getD b i 0))
   ret (drop 13 s)
+
+-- its entries and mask words
+unfoldable pub compressEntries : ℕ → ℕ
+compressEntries d = 64 * 1 + (64 * 1 + adderEntries (d + 13))
+
+unfoldable pub compressWords : ℕ → ℕ
+compressWords d = adderWords (d + 13)

@@ -18,26 +18,28 @@ use Rattle.worksheet.specs.Turns.{Each, each-drop}
 use Rattle.worksheet.specs.Gives.{Gives, ret-g, enter-g, gives-bind, gives-times}
 use Rattle.worksheet.specs.SharingLaws.{Sharing}
 use Rattle.masked_compression.specs.Compression.{fixedPoint, fixedPoints, maskedCompress}
+use Rattle.masked_compression.specs.Compression.{compressEntries, compressWords}
 use Rattle.masked_compression.specs.AdderLaws.{uses-adder, gives-adder}
 
 uses-fixedPoints : (d h : ℕ) (x : ℕ → ℕ) → Uses 64 0 0 (fixedPoints d h x)
 unfolding entry
 uses-fixedPoints d h x = uses-times 64 (λ i. enter-u ret-u)
 
-pub uses-maskedCompress : (d : ℕ) (x : ℕ → Shares) → Uses (128 + (18 * (d + 13) - 14)) (3 * (d + 13) - 1) 0 (maskedCompress d x)
-unfolding maskedCompress
+pub uses-maskedCompress : (d : ℕ) (x : ℕ → Shares) → Uses (compressEntries d) (compressWords d) 0 (maskedCompress d x)
+unfolding maskedCompress compressEntries compressWords
 uses-maskedCompress d x =
-    uses-recount (omega arith) (omega arith) refl
+    uses-recount refl (omega arith) refl
     (uses-bind (uses-fixedPoints d 0 (λ i. x i .s0)) (λ a.
     uses-bind (uses-fixedPoints d 4096 (λ i. x i .s1)) (λ b.
-    uses-map (drop 13) (uses-adder (d + 13) (plane 64 (λ i. getD a i 0)) (plane 64 (λ i. getD b i 0)) (omega arith)))))
+    uses-map (drop 13) (uses-adder (d + 13) (plane 64 (λ i. getD a i 0)) (plane 64 (λ i. getD b i 0))))))
 
 gives-fixedPoints : (d h : ℕ) (x : ℕ → ℕ) → Gives (Each (λ i v. v ≡ fixedPoint d h (x i)) 64) (fixedPoints d h x)
 unfolding entry
 gives-fixedPoints d h x = gives-times _ 64 (λ i lt. enter-g (ret-g refl))
 
 -- the top d bits of the sum
-digit-sum : (d x₀ x₁ j : ℕ) → j < d → digit (13 + j) (fixedPoint d 0 x₀ + fixedPoint d 4096 x₁) ≡ digit j (compress d ((x₀ + x₁) % q))
+digit-sum : (d x₀ x₁ j : ℕ) → j < d
+    → digit (13 + j) (fixedPoint d 0 x₀ + fixedPoint d 4096 x₁) ≡ digit j (compress d ((x₀ + x₁) % q))
 unfolding fixedPoint
 digit-sum d x₀ x₁ j h =
     let n = d + 13 in

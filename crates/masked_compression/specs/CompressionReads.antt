@@ -2,10 +2,12 @@
 use mathlib.Core.Path.{_≡_, ap}
 use Prim.Native.Nat.{ℕ, _<_}
 use Rattle.worksheet.specs.declared.Shares.{Shares}
-use Rattle.worksheet.specs.Prog.{entry, times-cong}
+use Rattle.worksheet.specs.Prog.{entry}
+use Rattle.worksheet.specs.ProgLaws.{times-cong}
 use Rattle.masked_compression.specs.Compression.{fixedPoint, fixedPoints, maskedCompress}
 
-pub maskedCompress-cong : (d : ℕ) {x y : ℕ → Shares} → ((i : ℕ) → i < 64 → x i ≡ y i) → maskedCompress d x ≡ maskedCompress d y
+pub maskedCompress-cong : (d : ℕ) {x y : ℕ → Shares} → ((i : ℕ) → i < 64 → x i ≡ y i)
+    → maskedCompress d x ≡ maskedCompress d y
 unfolding maskedCompress
 maskedCompress-cong d {x} {y} e =
     let f : (h : ℕ) (a b : ℕ → ℕ) → ((i : ℕ) → i < 64 → a i ≡ b i) → fixedPoints d h a ≡ fixedPoints d h b =

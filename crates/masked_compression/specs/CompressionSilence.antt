@@ -1,4 +1,5 @@
--- Masked compression as a stage: an entry asks at most for one share of the coefficients, and each plane can keep either share.
+-- Masked compression as a stage: an entry asks at most for one share of the coefficients, and each plane can keep
+-- either share.
 use Prim.Native.Nat.{ℕ, _+_, _-_, _*_, _<_}
 use mathlib.Core.Path.{ap, subst}
 use mathlib.Core.Bool.{Bool, true, false}
@@ -10,7 +11,8 @@ use Rattle.words.specs.Plane.{plane}
 use Rattle.words.specs.PlaneLaws.{plane-bits}
 use Rattle.worksheet.specs.declared.Shares.{Shares}
 use Rattle.worksheet.specs.Prog.{Prog, ret, _>>=_, times}
-use Rattle.worksheet.specs.Couple.{Coupled, Like, SameAt, coupled-bind, coupled-map, sameAt-left, sameAt-right, sameAt-map}
+use Rattle.worksheet.specs.Couple.{Coupled, Like, SameAt, coupled-bind, coupled-map}
+use Rattle.worksheet.specs.Couple.{sameAt-left, sameAt-right, sameAt-map}
 use Rattle.worksheet.specs.Places.{cut}
 use Rattle.worksheet.specs.Turns.{Turns, turns-weaken, turns-drop}
 use Rattle.worksheet.specs.Stage.{Stage, comap, times-stage}
@@ -19,12 +21,9 @@ use Rattle.worksheet.specs.SharedList.{SharedList, sharedAt}
 use Rattle.worksheet.specs.Choice.{Kept, KeptList, chosen, SameShares, SameShare, sameShare-at}
 use Rattle.worksheet.specs.PassLaws.{like-entries, silent-entries}
 use Rattle.masked_compression.specs.PlaneSum.{plainSum, plane-add}
-use Rattle.masked_compression.specs.AdderSilence.{adderEntries, like-adder, coupled-adder, silent-adder}
-use Rattle.masked_compression.specs.Adder.{adder}
-use Rattle.masked_compression.specs.Compression.{fixedPoint, maskedCompress}
-
-abbrev pub compressEntries : ℕ → ℕ
-compressEntries d = 64 * 1 + (64 * 1 + adderEntries (d + 13))
+use Rattle.masked_compression.specs.AdderSilence.{like-adder, coupled-adder, silent-adder}
+use Rattle.masked_compression.specs.Adder.{adder, adderEntries}
+use Rattle.masked_compression.specs.Compression.{fixedPoint, maskedCompress, compressEntries}
 
 plainSum-bits : (v w : ℕ → ℕ) (j : ℕ) → Bits 64 (plainSum (plane 64 v) (plane 64 w) j)
 plainSum-bits v w j = rw (plane-add 64 v w j) (plane-bits 64 (λ i. v i + w i) j)
@@ -40,9 +39,11 @@ module _ (d : ℕ) (v w v′ w′ : ℕ → ℕ) where
 
   sameAt-topPlanes : (i : ℕ) → i < adderEntries (d + 13) → SameAt i (topPlanes d v w) (topPlanes d v′ w′)
   sameAt-topPlanes i h =
-      sameAt-map _ _ (silent-adder (d + 13) (plane-bits 64 v) (plane-bits 64 w) (plane-bits 64 v′) (plane-bits 64 w′) i h)
+      sameAt-map _ _
+      (silent-adder (d + 13) (plane-bits 64 v) (plane-bits 64 w) (plane-bits 64 v′) (plane-bits 64 w′) i h)
 
-  coupled-topPlanes : (c : ℕ → Bool) → Coupled (KeptList d c) (adderEntries (d + 13)) (topPlanes d v w) (topPlanes d v′ w′)
+  coupled-topPlanes : (c : ℕ → Bool)
+      → Coupled (KeptList d c) (adderEntries (d + 13)) (topPlanes d v w) (topPlanes d v′ w′)
   coupled-topPlanes c =
       coupled-map _ _
       (λ s s′ r.
@@ -58,7 +59,7 @@ module _ (d : ℕ) where
   coupled-sums : {S : List Shares → List Shares → Type 0} (x x′ : ℕ → Shares)
       → ((v w v′ w′ : ℕ → ℕ) → Coupled S (adderEntries (d + 13)) (topPlanes d v w) (topPlanes d v′ w′))
       → Coupled S (compressEntries d) (maskedCompress d x) (maskedCompress d x′)
-  unfolding maskedCompress
+  unfolding maskedCompress compressEntries
   coupled-sums x x′ s =
       coupled-bind (like-entries 64 _ _) (λ a a′ t. coupled-bind (like-entries 64 _ _) (λ b b′ u. s _ _ _ _))
 
@@ -70,10 +71,12 @@ module _ (d : ℕ) where
   coupled-maskedCompress c x x′ = coupled-sums x x′ (λ v w v′ w′. coupled-topPlanes d v w v′ w′ c)
 
   abbrev Entry : ℕ → Type 0
-  Entry i = (q : Bool) × ((x x′ : ℕ → Shares) → SameShares 64 q x x′ → SameAt i (maskedCompress d x) (maskedCompress d x′))
+  Entry i =
+      (q : Bool) × ((x x′ : ℕ → Shares) → SameShares 64 q x x′ → SameAt i (maskedCompress d x) (maskedCompress d x′))
 
-  pub maskedCompress-stage : Stage (SameShares 64) (KeptList d) (compressEntries d) (maskedCompress d) (maskedCompress d)
-  unfolding maskedCompress
+  pub maskedCompress-stage : Stage (SameShares 64) (KeptList d) (compressEntries d)
+      (maskedCompress d) (maskedCompress d)
+  unfolding maskedCompress compressEntries
   maskedCompress-stage =
       record {
         like = like-maskedCompress;
@@ -108,7 +111,8 @@ module _ (n d : ℕ) where
   abbrev pub groups : SharedList → Prog (List (List Shares))
   groups f = times n (λ g. maskedCompress d (λ i. sharedAt f (64 * g + i)))
 
-  pub groups-stage : Stage SameShare (λ (c : ℕ → ℕ → Bool). Turns (λ g. KeptList d (c g)) n) (n * compressEntries d) groups groups
+  pub groups-stage : Stage SameShare (λ (c : ℕ → ℕ → Bool). Turns (λ g. KeptList d (c g)) n)
+      (n * compressEntries d) groups groups
   groups-stage =
       times-stage (λ c g. KeptList d (c g)) n
       (λ g h.

@@ -35,11 +35,15 @@ add-bits a b c f g h =
     eqb→eq _ _
     (every-at 2 (λ z. eqb (carryBit a b z * 2 + sumBit a b z) (a + b + z))
     (every-at 2 (λ y. every 2 (λ z. eqb (carryBit a y z * 2 + sumBit a y z) (a + y + z)))
-    (every-at 2 (λ x. every 2 (λ y. every 2 (λ z. eqb (carryBit x y z * 2 + sumBit x y z) (x + y + z)))) tt a f) b g) c h)
+    (every-at 2
+    (λ x. every 2 (λ y. every 2 (λ z. eqb (carryBit x y z * 2 + sumBit x y z) (x + y + z)))) tt a f) b g) c h)
 
 module _ (k x y c : ℕ) where
-  add-digits : digit k (xor x (and (xor x y) (xor x c))) * 2 + digit k (xor (xor x y) c) ≡ digit k x + digit k y + digit k c
-  add-digits = simp (digit-xor, digit-and) (add-bits (digit k x) (digit k y) (digit k c) (digit-lt k x) (digit-lt k y) (digit-lt k c))
+  add-digits :
+      digit k (xor x (and (xor x y) (xor x c))) * 2 + digit k (xor (xor x y) c) ≡ digit k x + digit k y + digit k c
+  add-digits =
+      simp (digit-xor, digit-and)
+      (add-bits (digit k x) (digit k y) (digit k c) (digit-lt k x) (digit-lt k y) (digit-lt k c))
 
 halves : (s p r a b c c′ t : ℕ) → s ≡ p + r + c → c′ * 2 + t ≡ a + b + c → a ≡ p % 2 → b ≡ r % 2 → t < 2
     → (s / 2 ≡ p / 2 + r / 2 + c′) × (s % 2 ≡ t)
@@ -60,7 +64,8 @@ module _ (m : ℕ) (v w : ℕ → ℕ) where
   abbrev Above : ℕ → ℕ → Type 0
   Above i j = (v i + w i) / 2 ^ j ≡ v i / 2 ^ j + w i / 2 ^ j + digit i (plainCarry (plane m v) (plane m w) j)
 
-  turn : (i j : ℕ) → i < m → Above i j → Above i (suc j) × (digit i (plainSum (plane m v) (plane m w) j) ≡ digit j (v i + w i))
+  turn : (i j : ℕ) → i < m → Above i j
+      → Above i (suc j) × (digit i (plainSum (plane m v) (plane m w) j) ≡ digit j (v i + w i))
   unfolding plainCarry digit
   turn i j h e =
       let x = plane m v j in
@@ -79,5 +84,6 @@ module _ (m : ℕ) (v w : ℕ → ℕ) where
 
   pub plane-add : (j : ℕ) → plainSum (plane m v) (plane m w) j ≡ plane m (λ i. v i + w i) j
   plane-add j =
-      ext-bits (xor-bits (xor-bits (plane-bits m v j) (plane-bits m w j)) (plainCarry-bits j)) (plane-bits m (λ i. v i + w i) j)
+      ext-bits (xor-bits (xor-bits (plane-bits m v j) (plane-bits m w j)) (plainCarry-bits j))
+      (plane-bits m (λ i. v i + w i) j)
       (λ i h. turn i j h (above i j h) .1 ∙ sym (digit-plane m (λ i. v i + w i) i j h))

@@ -1,4 +1,5 @@
--- Bit planes by transposition: 64 numbers of 32 bits are packed two to a word, and five steps make 32 planes of the 32 words.
+-- Bit planes by transposition: 64 numbers of 32 bits are packed two to a word, and five steps make 32 planes of the 32
+-- words.
 use Prim.Native.Nat.{ℕ, zero, suc, _+_, _*_, _/_, _%_, _^_}
 use Rattle.words.specs.Word.{xor, and, low}
 

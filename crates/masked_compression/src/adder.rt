@@ -35,7 +35,10 @@ fn enter_xor3(rec: Recorder, x: u64, y: u64, z: u64) -> Entered
 // The n planes x take shares.
 fn mask_planes(rec: Recorder, n: usize, x: [u64; 24], ws: &[u64]) -> EnteredPlanes
     requires { ⌜ (n ≤ 24) × (n ≤ length (now ws)) ⌝ }
-    ensures { λ r. ⌜ Draws word n (maskPlanes n (λ j. getD x j 0)) rec (now (ws .entry)) (zip n (sharedList (r .value .s0) (r .value .s1))) (r .rec) ⌝ }
+    ensures { λ r. ⌜
+        Draws word n (maskPlanes n (λ j. getD x j 0)) rec (now (ws .entry))
+        (zip n (sharedList (r .value .s0) (r .value .s1))) (r .rec)
+        ⌝ }
 {
     let mut rec = rec;
     let mut s0 = [0u64; 24];
@@ -65,7 +68,11 @@ fn carry_step(rec: Recorder, a: Shares, b: Shares, c: Shares, r: u64) -> Entered
 // The carries into the n planes.
 fn carry_planes(rec: Recorder, n: usize, a: Planes, b: Planes, ws: &[u64]) -> EnteredPlanes
     requires { ⌜ (0 < n) × (n ≤ 24) × (n ≤ length (now ws) + 1) ⌝ }
-    ensures { λ r. ⌜ Draws word (n - 1) (carries n (zip n (sharedList (a .s0) (a .s1))) (zip n (sharedList (b .s0) (b .s1)))) rec (now (ws .entry)) (zip n (sharedList (r .value .s0) (r .value .s1))) (r .rec) ⌝ }
+    ensures { λ r. ⌜
+        Draws word (n - 1)
+        (carries n (zip n (sharedList (a .s0) (a .s1))) (zip n (sharedList (b .s0) (b .s1)))) rec (now (ws .entry))
+        (zip n (sharedList (r .value .s0) (r .value .s1))) (r .rec)
+        ⌝ }
 {
     let mut rec = rec;
     let mut s0 = [0u64; 24];
@@ -97,7 +104,12 @@ fn carry_planes(rec: Recorder, n: usize, a: Planes, b: Planes, ws: &[u64]) -> En
 // The n sum planes.
 fn sum_planes(rec: Recorder, n: usize, a: Planes, b: Planes, c: Planes) -> EnteredPlanes
     requires { ⌜ n ≤ 24 ⌝ }
-    ensures { λ r. ⌜ Makes (sumPlanes n (zip n (sharedList (a .s0) (a .s1))) (zip n (sharedList (b .s0) (b .s1))) (zip n (sharedList (c .s0) (c .s1)))) rec (zip n (sharedList (r .value .s0) (r .value .s1))) (r .rec) ⌝ }
+    ensures { λ r. ⌜
+        Makes
+        (sumPlanes n (zip n (sharedList (a .s0) (a .s1))) (zip n (sharedList (b .s0) (b .s1)))
+        (zip n (sharedList (c .s0) (c .s1)))) rec
+        (zip n (sharedList (r .value .s0) (r .value .s1))) (r .rec)
+        ⌝ }
 {
     let mut rec = rec;
     let mut s0 = [0u64; 24];
@@ -118,7 +130,10 @@ fn sum_planes(rec: Recorder, n: usize, a: Planes, b: Planes, c: Planes) -> Enter
 // The sum of the numbers whose n planes x and y hold.
 pub fn adder(rec: Recorder, n: usize, x: [u64; 24], y: [u64; 24], ws: &[u64]) -> EnteredPlanes
     requires { ⌜ (0 < n) × (n ≤ 24) × (3 * n ≤ length (now ws) + 1) ⌝ }
-    ensures { λ r. ⌜ Draws word (3 * n - 1) (Adder.adder n (λ j. getD x j 0) (λ j. getD y j 0)) rec (now (ws .entry)) (zip n (sharedList (r .value .s0) (r .value .s1))) (r .rec) ⌝ }
+    ensures { λ r. ⌜
+        Draws word (3 * n - 1) (Adder.adder n (λ j. getD x j 0) (λ j. getD y j 0)) rec (now (ws .entry))
+        (zip n (sharedList (r .value .s0) (r .value .s1))) (r .rec)
+        ⌝ }
 {
     let m = n + n;
     let a = mask_planes(rec, n, x, ws);

@@ -19,8 +19,8 @@ pub struct EnteredNumbers {
     pub rec: Recorder,
 }
 
-// 2^(d+13) x / q without a division: 84552411148 q is 2^48 + 1036.
-fn scaled(d: usize, x: u16) -> u64
+// The fixed point of x, 2^(d+13) x / q, without a division: 84552411148 q is 2^48 + 1036.
+fn fixed_point(d: usize, x: u16) -> u64
     requires { ⌜ (d ≤ 11) × (x < q) ⌝ }
     ensures { λ r. ⌜ (r ≡ 2 ^ (d + 13) * x / q) × (r < 2 ^ 48) ⌝ }
 {
@@ -39,7 +39,7 @@ fn enter_fixed_point(rec: Recorder, d: usize, h: u64, x: u16) -> Entered
     requires { ⌜ (d ≤ 11) × (h ≤ 4096) × (x < q) ⌝ }
     ensures { λ r. ⌜ Makes (entry (fixedPoint d h x)) rec (r .value) (r .rec) ⌝ }
 {
-    let v = (scaled(d, x) + h) & (scale(d) - 1);
+    let v = (fixed_point(d, x) + h) & (scale(d) - 1);
     Entered {
         value: v,
         rec: worksheet::enter(rec, v),
@@ -65,7 +65,11 @@ fn fixed_points(rec: Recorder, d: usize, h: u64, x: &[u16]) -> EnteredNumbers
 pub fn masked_compress(rec: Recorder, d: usize, x0: &[u16], x1: &[u16], ws: &[u64]) -> EnteredPlanes
     requires { ⌜ (d ≤ 11) × (3 * (d + 13) ≤ length (now ws) + 1) ⌝ }
     requires { ⌜ (length (now x0) ≡ 64) × (length (now x1) ≡ 64) × Below q (now x0) × Below q (now x1) ⌝ }
-    ensures { λ r. ⌜ Draws word (3 * (d + 13) - 1) (maskedCompress d (sharedAt (sharedList (now (x0 .entry)) (now (x1 .entry))))) rec (now (ws .entry)) (drop 13 (zip (d + 13) (sharedList (r .value .s0) (r .value .s1)))) (r .rec) ⌝ }
+    ensures { λ r. ⌜
+        Draws word (3 * (d + 13) - 1)
+        (maskedCompress d (sharedAt (sharedList (now (x0 .entry)) (now (x1 .entry))))) rec (now (ws .entry))
+        (drop 13 (zip (d + 13) (sharedList (r .value .s0) (r .value .s1)))) (r .rec)
+        ⌝ }
 {
     let n = d + 13;
     let a = fixed_points(rec, d, 0, x0);

@@ -1,5 +1,5 @@
-// Bit planes of 64 numbers: plane j holds bit j of each. The numbers, of which the lower 32 bits are taken, are packed two to a word, and
-// five steps transpose the 32 words.
+// Bit planes of 64 numbers: plane j holds bit j of each. The numbers, of which the lower 32 bits are taken, are packed
+// two to a word, and five steps transpose the 32 words.
 ghost use mathlib.Core.Path.{_≡_};
 ghost use Prim.Native.Nat.{_<_, _≤_};
 ghost use lib.ListN.{getD, length};

@@ -3,3 +3,4 @@ pub mod MaskedBlocks
 pub mod MaskedOutput
 pub mod MaskedHash
 pub mod OneBlock
+pub mod OneBlockSponge

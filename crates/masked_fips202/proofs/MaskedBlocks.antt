@@ -1,4 +1,4 @@
--- The blocks of a message in two shares: those that it fills, and its rest with the padding in share 0 and zeros in share 1.
+-- The blocks of a message in two shares: those that it fills, and its rest, padded in share 0, zero-filled in share 1.
 use mathlib.Core.Path.{_≡_, refl, sym, ap, ap₂, subst, fun-ext}
 use mathlib.Core.List.{List, _++_}
 use Prim.Native.Nat.{ℕ, zero, suc, _+_, _-_, _*_, _/_, _<_, _≤_}
@@ -28,11 +28,13 @@ pub rest-within : (rate n m : ℕ) → 0 < rate → m ≡ (n - 1) / rate → (m 
 rest-within rate n m h e =
     rw e (omega (arith, div-mul-le-self (n - 1) rate), omega (arith, lt-div-mul-add {a = n - 1} {b = rate} h))
 
-loop-cong : {S : Type 0} (n : ℕ) {f g : ℕ → S → Prog S} (s : S) → ((j : ℕ) → j < n → (t : S) → f j t ≡ g j t) → loop n f s ≡ loop n g s
+loop-cong : {S : Type 0} (n : ℕ) {f g : ℕ → S → Prog S} (s : S) → ((j : ℕ) → j < n → (t : S) → f j t ≡ g j t)
+    → loop n f s ≡ loop n g s
 unfolding loop
 loop-cong zero s e = refl
 loop-cong {S} (suc n) s e =
-    ap₂ (λ (p : Prog S) (k : S → Prog S). p >>= k) (loop-cong n s (λ j h. e j (omega arith))) (fun-ext (e n (omega arith)))
+    ap₂ (λ (p : Prog S) (k : S → Prog S). p >>= k) (loop-cong n s (λ j h. e j (omega arith)))
+    (fun-ext (e n (omega arith)))
 
 -- a message in two shares, the blocks of its first share padded
 module _ (rate suffix : ℕ) (in0 in1 : List ℕ) (h : 0 < rate) where
@@ -56,20 +58,28 @@ module _ (rate suffix : ℕ) (in0 in1 : List ℕ) (h : 0 < rate) where
   rest-above = lt-div-mul-add {a = length in0} {b = rate} h
 
   whole-blocks : (s : SharedList)
-      → loop q (λ i. takeIn (rate / 8) (sharedBlock rate in0 in1 i)) s ≡ loop q (λ i. takeIn (rate / 8) (sharedBlock rate p0 in1 i)) s
-  whole-blocks s = loop-cong q s (λ i g u. ap (λ (p : List ℕ). takeIn (rate / 8) (sharedLane p (take rate (drop (i * rate) in1))) u) (sym (block-padded rate suffix in0 q whole-below rest-above i g)))
+      → loop q (λ i. takeIn (rate / 8) (sharedBlock rate in0 in1 i)) s
+      ≡ loop q (λ i. takeIn (rate / 8) (sharedBlock rate p0 in1 i)) s
+  whole-blocks s =
+      loop-cong q s
+      (λ i g u. ap (λ (p : List ℕ). takeIn (rate / 8) (sharedLane p (take rate (drop (i * rate) in1))) u)
+      (sym (block-padded rate suffix in0 q whole-below rest-above i g)))
 
-  last-block : (b0 b1 : List ℕ) → take rate b0 ≡ rest0 ++ padding suffix (rate - length rest0) → b1 ≡ rest1 ++ replicate (200 - length rest1) 0
+  last-block : (b0 b1 : List ℕ) → take rate b0 ≡ rest0 ++ padding suffix (rate - 1 - length rest0)
+      → b1 ≡ rest1 ++ replicate (200 - length rest1) 0
       → sharedLane (take rate b0) (take rate b1) ≡ sharedBlock rate p0 in1 q
   last-block b0 b1 e0 e1 =
       fun-ext (λ j.
       rw (e0, last-padded rate suffix in0 q whole-below rest-above, e1)
-      (ap (shares (laneOf (rest0 ++ padding suffix (rate - length rest0)) j)) (laneOf-zeros rate rest1 (200 - length rest1) j)))
+      (ap (shares (laneOf (rest0 ++ padding suffix (rate - 1 - length rest0)) j))
+      (laneOf-zeros rate rest1 (200 - length rest1) j)))
 
   -- the start masks, the whole blocks, and the last block from b0 and b1
   pub absorb-ran : (b0 b1 : List ℕ) {s₀ s t : SharedList} {r r′ r″ : Recorder} {ws ws₁ ws₂ ws₃ cs : List ℕ}
-      → take rate b0 ≡ rest0 ++ padding suffix (rate - length rest0) → b1 ≡ rest1 ++ replicate (200 - length rest1) 0
-      → Ran start r ws cs s₀ r ws₁ cs → Ran (loop q (λ i. takeIn (rate / 8) (sharedBlock rate in0 in1 i)) s₀) r ws₁ cs s r′ ws₂ cs
+      → take rate b0 ≡ rest0 ++ padding suffix (rate - 1 - length rest0)
+      → b1 ≡ rest1 ++ replicate (200 - length rest1) 0
+      → Ran start r ws cs s₀ r ws₁ cs
+      → Ran (loop q (λ i. takeIn (rate / 8) (sharedBlock rate in0 in1 i)) s₀) r ws₁ cs s r′ ws₂ cs
       → Ran (takeIn (rate / 8) (sharedLane (take rate b0) (take rate b1)) s) r′ ws₂ cs t r″ ws₃ cs
       → Ran (maskedAbsorb rate suffix in0 in1) r ws cs t r″ ws₃ cs
   unfolding maskedAbsorb maskedBlocks

@@ -25,15 +25,18 @@ use Rattle.masked_fips202.specs.MaskedSponge.{start, mixLanes}
 -- ---- start masks
 
 -- the first n masks of a strip
-masks-ran : (n : ℕ) {r : Recorder} {ws cs : List ℕ} → Ran (times n (λ i. mask word)) r ws cs (tab n (λ i. getD ws i 0)) r (drop n ws) cs
+masks-ran : (n : ℕ) {r : Recorder} {ws cs : List ℕ}
+    → Ran (times n (λ i. mask word)) r ws cs (tab n (λ i. getD ws i 0)) r (drop n ws) cs
 unfolding tab
 masks-ran zero = times-start _
 masks-ran (suc n) {r} {ws} {cs} =
-    let h : Ran (times (n + 1) (λ i. mask word)) r ws cs (tab n (λ i. getD ws i 0) ++ getD ws n 0 ∷ []) r (drop (n + 1) ws) cs =
+    let h : Ran (times (n + 1) (λ i. mask word)) r ws cs (tab n (λ i. getD ws i 0) ++ getD ws n 0 ∷ []) r
+    (drop (n + 1) ws) cs =
     times-turn _ n (masks-ran n) (next-word ws n (λ xs cs e. draws-word e)) in
     rw (add-one n) at h
 
-pub start-draws : {l ws : List ℕ} → l ≡ tab 25 (λ i. getD ws i 0) → (r : Recorder) → Draws word 25 start r ws (sharedList l l) r
+pub start-draws : {l ws : List ℕ} → l ≡ tab 25 (λ i. getD ws i 0) → (r : Recorder)
+    → Draws word 25 start r ws (sharedList l l) r
 unfolding start
 start-draws e r cs = rw e (bind _ (masks-ran 25) over)
 
@@ -87,8 +90,10 @@ mixing-end {n} {b} {s} {j} {r} {r′} {l0} {l1} a h ws cs =
     let w = a .within in
     let e : j ≡ n = omega arith in
     let is : sharedList l0 l1 ≡ unzip 25 now =
-    ap₂ sharedList (tab-of 0 l0 25 (a .long0) (λ k g. lane0 k (decLt k n))) (tab-of 0 l1 25 (a .long1) (λ k g. lane1 k (decLt k n))) in
-    subst (λ (z : SharedList). Ran (mixLanes n b s) r ws cs z r′ ws cs) (sym is) (bind _ (rw e at (a .mixed ws cs)) over)
+    ap₂ sharedList (tab-of 0 l0 25 (a .long0) (λ k g. lane0 k (decLt k n)))
+    (tab-of 0 l1 25 (a .long1) (λ k g. lane1 k (decLt k n))) in
+    subst (λ (z : SharedList). Ran (mixLanes n b s) r ws cs z r′ ws cs) (sym is)
+    (bind _ (rw e at (a .mixed ws cs)) over)
   where
     now : ℕ → Shares
     now k = cond (ltb k n) (getD (zip n (sharedList l0 l1)) k none) (sharedAt s k)

@@ -1,4 +1,4 @@
--- Output of one block at most: the first lanes of the state as it stands.
+-- Output of one block at most: the first lanes of the state as it stands after absorbing.
 use mathlib.Core.Path.{_≡_, ap}
 use mathlib.Core.List.{List, [], _∷_}
 use Prim.Native.Nat.{ℕ, _-_, _/_, _%_, _<_, _≤_}

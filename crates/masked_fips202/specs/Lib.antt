@@ -1,4 +1,7 @@
 pub mod MaskedSponge
+pub mod MaskedWords
+pub mod Lent
+pub mod MaskedWordsLaws
 pub mod MaskedSpongeUses
 pub mod MaskedBytes
 pub mod MaskedCalls

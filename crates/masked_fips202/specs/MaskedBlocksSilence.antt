@@ -1,4 +1,4 @@
--- Blocks taken in on two shares, as a stage: for any two strings of blocks, and any differences asked of the last state.
+-- Blocks taken in on two shares, as a stage: for any two strings of blocks, and any differences asked of the end.
 use Prim.Native.Nat.{ℕ, _+_, _*_, _<_, _≤_}
 use mathlib.Core.Path.{_≡_, refl, sym, ap₂, _∙_}
 use mathlib.Core.Bool.{Bool, true, false, cond}
@@ -10,23 +10,25 @@ use lib.Dec.{ltb}
 use lib.ListN.{getD}
 use Rattle.words.specs.Word.{Bits, xor}
 use Rattle.words.specs.WordLaws.{xor-bits, zero-bits, xor-same, xor-zero, xor-xor-cancel}
-use Rattle.keccak.specs.Pass.{LaneBits}
+use Rattle.keccak.specs.LinearPass.{LaneBits}
 use Rattle.worksheet.specs.declared.Shares.{Shares}
 use Rattle.worksheet.specs.Prog.{_>>=_, mask, entry, loop}
-use Rattle.worksheet.specs.Couple.{Coupled, ret-c, draw-c, enter-c, Like, SameAt, coupled-weaken, coupled-recount, sameAt-recount, coupled-bind, coupled-map, sameAt-right, sameAt-map}
+use Rattle.worksheet.specs.Couple.{Coupled, ret-c, draw-c, enter-c, Like, SameAt, coupled-weaken, coupled-recount}
+use Rattle.worksheet.specs.Couple.{sameAt-recount, coupled-bind, coupled-map, sameAt-right, sameAt-map}
 use Rattle.worksheet.specs.CoupleLoops.{like-loop, coupled-times, like-times, sameAt-times}
 use Rattle.worksheet.specs.Matching.{byXor}
 use Rattle.worksheet.specs.Places.{turns}
 use Rattle.worksheet.specs.Stage.{EqualAt, Stage, andThen, loop-stage}
 use Rattle.worksheet.specs.Sharing.{shares, none, joined}
-use Rattle.worksheet.specs.SharingLaws.{sharing-bits, Apart, apart-xor, apart-cong, share-keep, xorShares, apart-xorShares}
+use Rattle.worksheet.specs.SharingLaws.{sharing-bits, Apart, apart-xor, apart-cong, share-keep, xorShares}
+use Rattle.worksheet.specs.SharingLaws.{apart-xorShares}
 use Rattle.worksheet.specs.SharedList.{SharedList, sharedAt, unzip}
 use Rattle.worksheet.specs.SharedListLaws.{sharedAt-unzip}
 use Rattle.worksheet.specs.Choice.{Both, both-bits}
 use Rattle.worksheet.specs.Gates.{maskedXor}
 use Rattle.worksheet.specs.GatesSilence.{like-maskedXor, sameAt-maskedXor}
 use Rattle.masked_keccak.specs.MaskedKeccak.{maskedKeccakP}
-use Rattle.masked_keccak.specs.Lanes.{Differences, LanesApart, keepLanes}
+use Rattle.masked_keccak.specs.SharedLanes.{Differences, LanesApart, keepLanes}
 use Rattle.masked_keccak.specs.Silence.{maskedKeccakP-stage}
 use Rattle.masked_fips202.specs.MaskedSponge.{start, mixLanes, maskedBlocks}
 
@@ -76,7 +78,8 @@ record Mixed (n : ℕ) (b b′ : ℕ → Shares) (s s′ t t′ : SharedList) : 
 
 mixed-lane : (n : ℕ) (b : ℕ → Shares) (s : SharedList) (z : List Shares)
     → ((j : ℕ) → j < n → getD z j none ≡ xorShares (sharedAt s j) (b j)) → (j : ℕ) → j < 25
-    → sharedAt (unzip 25 (λ j. cond (ltb j n) (getD z j none) (sharedAt s j))) j ≡ xorShares (sharedAt s j) (blockLane n b j)
+    → sharedAt (unzip 25 (λ j. cond (ltb j n) (getD z j none) (sharedAt s j))) j
+    ≡ xorShares (sharedAt s j) (blockLane n b j)
 mixed-lane n b s z e j h = sharedAt-unzip 25 _ j h ∙ go (ltb j n) refl
   where
     go : (c : Bool) → ltb j n ≡ c → cond c (getD z j none) (sharedAt s j) ≡ xorShares (sharedAt s j) (cond c (b j) none)
@@ -111,30 +114,38 @@ both-lane {n} {b} {b′} k j = go (ltb j n) refl
 
 module _ {n : ℕ} {b b′ : ℕ → Shares} (k : BlockBoth n b b′) where
   -- the joined lanes X after the block
-  abbrev after : (ℕ → Shares) → (ℕ → ℕ) → ℕ → ℕ
-  after b X j = xor (X j) (joined (blockLane n b j))
+  abbrev withBlock : (ℕ → Shares) → (ℕ → ℕ) → ℕ → ℕ
+  withBlock b X j = xor (X j) (joined (blockLane n b j))
 
   -- the differences before the block that become d
   beforeBlock : Differences → Differences
   beforeBlock d =
       record {
-        by = λ X X′ j. xor (d .by (after b X) (after b′ X′) j) (xor (blockLane n b j .s0) (blockLane n b′ j .s0));
+        by = λ X X′ j. xor (d .by (withBlock b X) (withBlock b′ X′) j)
+            (xor (blockLane n b j .s0) (blockLane n b′ j .s0));
         bits = λ v w.
-            let c : LaneBits (after b _) = record { at = λ j h. xor-bits (v .at j h) (sharing-bits (both-lane k j .left)) } in
-            let c′ : LaneBits (after b′ _) = record { at = λ j h. xor-bits (w .at j h) (sharing-bits (both-lane k j .right)) } in
-            record { at = λ j h. xor-bits (d .bits c c′ .at j h) (xor-bits (both-lane k j .left .bits0) (both-lane k j .right .bits0)) };
+            let c : LaneBits (withBlock b _) =
+            record { at = λ j h. xor-bits (v .at j h) (sharing-bits (both-lane k j .left)) } in
+            let c′ : LaneBits (withBlock b′ _) =
+            record { at = λ j h. xor-bits (w .at j h) (sharing-bits (both-lane k j .right)) } in
+            record {
+              at = λ j h. xor-bits (d .bits c c′ .at j h)
+                  (xor-bits (both-lane k j .left .bits0) (both-lane k j .right .bits0));
+            };
       }
 
   apart-mixed : (d : Differences) {s s′ : SharedList} (r : LanesApart (beforeBlock d) s s′) (j : ℕ) → j < 25
-      → Apart 64 (d .by (after b (r .X)) (after b′ (r .X′)) j) (after b (r .X) j) (after b′ (r .X′) j)
+      → Apart 64 (d .by (withBlock b (r .X)) (withBlock b′ (r .X′)) j) (withBlock b (r .X) j) (withBlock b′ (r .X′) j)
       (xorShares (sharedAt s j) (blockLane n b j)) (xorShares (sharedAt s′ j) (blockLane n b′ j))
   unfolding beforeBlock
   apart-mixed d r j h =
-      apart-cong (xor-xor-cancel _ _) (apart-xorShares (r .at j h) (apart-xor (both-lane k j .left) (both-lane k j .right)))
+      apart-cong (xor-xor-cancel _ _)
+      (apart-xorShares (r .at j h) (apart-xor (both-lane k j .left) (both-lane k j .right)))
 
   -- entry i of lane j, by the share that it is
   sameAt-mixLanes : n ≤ 25 → (j i : ℕ) → j < n → i < 2 → {s s′ : SharedList}
-      → LanesApart (beforeBlock (keepLanes (λ l. ltb 0 i))) s s′ → SameAt (j * 2 + i) (mixLanes n b s) (mixLanes n b′ s′)
+      → LanesApart (beforeBlock (keepLanes (λ l. ltb 0 i))) s s′
+      → SameAt (j * 2 + i) (mixLanes n b s) (mixLanes n b′ s′)
   unfolding mixLanes keepLanes
   sameAt-mixLanes u j i h g {s} {s′} r =
       sameAt-map _ _ (sameAt-times n j (λ l q. like-maskedXor _ _ _ _) h
@@ -153,7 +164,11 @@ module _ {n : ℕ} {b b′ : ℕ → Shares} (k : BlockBoth n b b′) where
           beforeBlock d,
           λ s s′ r.
               coupled-weaken (λ t t′ m.
-              record { X = after b (r .X); X′ = after b′ (r .X′); at = λ j h. rw (m .left j h, m .right j h) (apart-mixed d r j h) })
+              record {
+                X = withBlock b (r .X);
+                X′ = withBlock b′ (r .X′);
+                at = λ j h. rw (m .left j h, m .right j h) (apart-mixed d r j h);
+              })
               (coupled-mixLanes n b b′ s s′),
         );
       }
@@ -168,7 +183,8 @@ blocks-stage : {lanes n : ℕ} {e : Unit {0}} {b b′ : ℕ → ℕ → Shares} 
     → Stage LanesApart LanesApart (n * (lanes * 2 + 7824)) (loop n (λ i s. mixLanes lanes (b i) s >>= maskedKeccakP))
     (loop n (λ i s. mixLanes lanes (b′ i) s >>= maskedKeccakP))
 blocks-stage {n = n} u k =
-    loop-stage {R = λ j. LanesApart} n (λ i h. andThen (mixLanes-stage (record { at = k .at i h }) u) maskedKeccakP-stage)
+    loop-stage {R = λ j. LanesApart} n
+    (λ i h. andThen (mixLanes-stage (record { at = k .at i h }) u) maskedKeccakP-stage)
 
 pub maskedBlocks-stage : (lanes n : ℕ) → lanes ≤ 25
     → Stage (BlocksBoth lanes n) LanesApart (n * (lanes * 2 + 7824)) (maskedBlocks lanes n) (maskedBlocks lanes n)

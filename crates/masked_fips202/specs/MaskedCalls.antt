@@ -1,14 +1,15 @@
 -- What the hash calls on two shares answer, and what the lent outputs then hold.
-use mathlib.Core.Bool.{Bool, cond, _&&_}
-use mathlib.Core.List.{List, []}
+use mathlib.Core.Path.{_≡_}
+use mathlib.Core.Bool.{not}
+use mathlib.Core.List.{List, [], _∷_}
 use Prim.Native.Nat.{ℕ, _+_, _*_}
-use lib.Dec.{eqb}
 use lib.ListN.{length}
 use Rattle.worksheet.specs.Prog.{Prog}
 use Rattle.worksheet.specs.Run.{run}
 use Rattle.worksheet.specs.SharedList.{SharedList}
-use Rattle.fips202.specs.declared.Answer.{Answer}
-use Rattle.fips202.specs.declared.Answer.the-variants.{Done, WrongLength}
+use Rattle.refusals.specs.declared.Answer.{Answer}
+use Rattle.refusals.specs.declared.Answer.the-variants.{WrongLength}
+use Rattle.refusals.specs.Refusals.{number, row, answer, after, Lent, lent, sized}
 use Rattle.masked_fips202.specs.MaskedSponge.{permutations}
 use Rattle.masked_fips202.specs.MaskedBytes.{maskedHash}
 
@@ -19,34 +20,40 @@ maskedSha3-512 in0 in1 = maskedHash 72 0x06 in0 in1 64
 unfoldable pub maskedShake256 : List ℕ → List ℕ → ℕ → Prog SharedList
 maskedShake256 in0 in1 d = maskedHash 136 0x1f in0 in1 d
 
--- a call's answer, and what its two outputs then hold
-pub record Outcome : Type 0 where
-  pub answer : Answer
-  pub out0 : List ℕ
-  pub out1 : List ℕ
-
--- both outputs are as before
-abbrev pub refused : List ℕ → List ℕ → Outcome
-refused out0 out1 = record { answer = WrongLength; out0 = out0; out1 = out1 }
-
--- the outputs are the shares of what p gives on the lent masks
-abbrev pub done : Prog SharedList → List ℕ → Outcome
-done p masks = let z = run p masks [] .value in record { answer = Done; out0 = z .s0; out1 = z .s1 }
+-- ---- answers
 
 -- both inputs have one length, both outputs one, and there are 25 masks and 600 for each permutation
-abbrev pub exact : ℕ → List ℕ → List ℕ → List ℕ → List ℕ → List ℕ → Bool
-exact rate in0 in1 masks out0 out1 =
-    eqb (length in0) (length in1)
-    && (eqb (length out0) (length out1) && eqb (length masks) (25 + 600 * permutations rate (length in0) (length out0)))
+abbrev pub lengths : ℕ → List ℕ → List ℕ → List ℕ → List ℕ → List ℕ → List Lent
+lengths rate in0 in1 masks out0 out1 =
+    lent in0 (length in1)
+    ∷ lent out0 (length out1)
+    ∷ lent masks (25 + 600 * permutations rate (length in0) (length out0))
+    ∷ []
 
-abbrev pub hashCall : ℕ → ℕ → List ℕ → List ℕ → List ℕ → List ℕ → List ℕ → Outcome
-hashCall rate suffix in0 in1 masks out0 out1 =
-    cond (exact rate in0 in1 masks out0 out1) (done (maskedHash rate suffix in0 in1 (length out0)) masks) (refused out0 out1)
+unfoldable pub hashAnswer : ℕ → List ℕ → List ℕ → List ℕ → List ℕ → List ℕ → Answer
+hashAnswer rate in0 in1 masks out0 out1 =
+    answer (row (not (sized (lengths rate in0 in1 masks out0 out1))) WrongLength ∷ [])
 
-abbrev pub sha3-512Call : List ℕ → List ℕ → List ℕ → List ℕ → List ℕ → Outcome
-sha3-512Call in0 in1 masks out0 out1 =
-    cond (eqb (length out0) 64 && exact 72 in0 in1 masks out0 out1) (done (maskedSha3-512 in0 in1) masks) (refused out0 out1)
+unfoldable pub sha3-512Answer : List ℕ → List ℕ → List ℕ → List ℕ → List ℕ → Answer
+sha3-512Answer in0 in1 masks out0 out1 =
+    answer (row (not (sized (lent out0 64 ∷ lengths 72 in0 in1 masks out0 out1))) WrongLength ∷ [])
 
-abbrev pub shake256Call : List ℕ → List ℕ → List ℕ → List ℕ → List ℕ → Outcome
-shake256Call in0 in1 masks out0 out1 =
-    cond (exact 136 in0 in1 masks out0 out1) (done (maskedShake256 in0 in1 (length out0)) masks) (refused out0 out1)
+-- ---- what a call leaves
+
+-- it answers r, whose number is n, and its outputs, which held old0 and old1, then hold new0 and new1: the shares of
+-- what p gives on the lent masks where n is 0
+pub record MaskedHashed (r : Answer) (p : Prog SharedList) (masks old0 old1 : List ℕ) (n : ℕ)
+    (new0 new1 : List ℕ) : Type 0 where
+  pub answer : n ≡ number r
+  pub out0 : new0 ≡ after n (run p masks [] .value .s0) old0
+  pub out1 : new1 ≡ after n (run p masks [] .value .s1) old1
+
+-- the two calls: of the inputs, the masks and the outputs, as they were and as they are
+abbrev pub maskedSha3-512Call : List ℕ → List ℕ → List ℕ → List ℕ → List ℕ → ℕ → List ℕ → List ℕ → Type 0
+maskedSha3-512Call in0 in1 masks out0 out1 n out0′ out1′ =
+    MaskedHashed (sha3-512Answer in0 in1 masks out0 out1) (maskedSha3-512 in0 in1) masks out0 out1 n out0′ out1′
+
+abbrev pub maskedShake256Call : List ℕ → List ℕ → List ℕ → List ℕ → List ℕ → ℕ → List ℕ → List ℕ → Type 0
+maskedShake256Call in0 in1 masks out0 out1 n out0′ out1′ =
+    MaskedHashed (hashAnswer 136 in0 in1 masks out0 out1)
+    (maskedShake256 in0 in1 (length out0)) masks out0 out1 n out0′ out1′

@@ -30,7 +30,8 @@ maskedBlocks lanes n b = start >>= loop n (λ i s. mixLanes lanes (b i) s >>= ma
 
 -- lane j of block i of the two strings p0 and p1; past its end a string is zero
 abbrev pub sharedBlock : ℕ → List ℕ → List ℕ → ℕ → ℕ → Shares
-sharedBlock rate p0 p1 i j = shares (laneOf (take rate (drop (i * rate) p0)) j) (laneOf (take rate (drop (i * rate) p1)) j)
+sharedBlock rate p0 p1 i j =
+    shares (laneOf (take rate (drop (i * rate) p0)) j) (laneOf (take rate (drop (i * rate) p1)) j)
 
 -- in0 and in1 are the input's two shares, of one length; the padding goes into share 0
 unfoldable pub maskedAbsorb : ℕ → ℕ → List ℕ → List ℕ → Prog SharedList
@@ -45,6 +46,13 @@ maskedSqueeze lanes n s = do
 
 unfoldable pub maskedSponge : ℕ → ℕ → List ℕ → List ℕ → ℕ → Prog SharedList
 maskedSponge rate suffix in0 in1 n = maskedAbsorb rate suffix in0 in1 >>= maskedSqueeze (rate / 8) n
+
+-- the entries that it makes and the words that it draws for an input of len bytes and n words of output
+abbrev pub spongeEntries : ℕ → ℕ → ℕ → ℕ
+spongeEntries rate len n = (len / rate + 1) * (rate / 8 * 2 + 7824) + (n - 1) / (rate / 8) * 7824
+
+abbrev pub spongeMasks : ℕ → ℕ → ℕ → ℕ
+spongeMasks rate len n = 25 + (len / rate + 1 + (n - 1) / (rate / 8)) * 600
 
 -- the permutations that FIPS 202 runs for an input of n bytes and an output of d
 abbrev pub permutations : ℕ → ℕ → ℕ → ℕ

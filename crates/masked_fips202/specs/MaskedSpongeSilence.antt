@@ -1,14 +1,13 @@
--- The sponge on two shares as a stage: for any two inputs, and any choice of the share that is equal in each word of output.
+-- The sponge on two shares as a stage: for any two inputs, and any choice of the equal share in each word of output.
 use Prim.Native.Nat.{ℕ, zero, suc, _+_, _-_, _*_, _/_, _%_, _<_, _≤_}
 use mathlib.Core.Path.{_≡_, ap}
 use mathlib.Core.Bool.{Bool}
 use mathlib.Core.List.{List}
-use native.Mathlib.Nat.{lt-of-lt-of-le, pow-le-pow-right, suc-mul, div-add-mod', div-lt-iff-lt-mul, mod-lt}
+use native.Mathlib.Nat.{suc-mul, div-add-mod', div-lt-iff-lt-mul, mod-lt}
 use native.Mathlib.Omega.{arith}
-use lib.ListN.{length, getD, take, drop, replicate, length-take}
+use lib.ListN.{length, getD, take, drop}
 use Rattle.words.specs.Bounded.{Below}
-use Rattle.words.specs.BoundedLaws.{below-nil, below-cons, below-append, below-zeros, below-drop, below-take}
-use Rattle.words.specs.NumeralLaws.{value-lt}
+use Rattle.words.specs.BoundedLaws.{below-drop, below-take}
 use Rattle.words.specs.Word.{Bits}
 use Rattle.worksheet.specs.declared.Shares.{Shares}
 use Rattle.worksheet.specs.Prog.{Prog}
@@ -21,10 +20,15 @@ use Rattle.worksheet.specs.SharedList.{SharedList, sharedAt}
 use Rattle.worksheet.specs.SharedListLaws.{sharedAt-unzip}
 use Rattle.worksheet.specs.Choice.{Kept, KeptShared, both-bits}
 use Rattle.masked_keccak.specs.MaskedKeccak.{maskedKeccakP}
-use Rattle.masked_keccak.specs.Lanes.{Differences, LanesApart, keepLanes, kept-lane, lanes-both}
+use Rattle.masked_keccak.specs.SharedLanes.{Differences, LanesApart, keepLanes, kept-lane, lanes-both}
 use Rattle.masked_keccak.specs.Silence.{maskedKeccakP-stage, coupled-maskedKeccakP}
-use Rattle.fips202.specs.Sponge.{padding, padded, laneOf}
+use Rattle.fips202.specs.Sponge.{padded, laneOf}
+use Rattle.fips202.specs.Blocks.{below-padded}
+use Rattle.masked_fips202.specs.XorBytes.{laneOf-bits}
 use Rattle.masked_fips202.specs.MaskedSponge.{sharedBlock, maskedAbsorb, maskedSqueeze, maskedSponge}
+use Rattle.masked_fips202.specs.MaskedSponge.{spongeEntries}
+use Rattle.masked_fips202.specs.MaskedWords.{maskedSha3-512Words, sha3-512Entries, maskedShake256Words}
+use Rattle.masked_fips202.specs.MaskedWords.{shake256Entries}
 use Rattle.masked_fips202.specs.MaskedBlocksSilence.{BlocksBoth, maskedBlocks-stage}
 
 -- ---- n words of output
@@ -44,7 +48,8 @@ module _ (lanes n : ℕ) (l : 0 < lanes) (u : lanes ≤ 25) where
   stateWords c k = keepLanes (λ j. c (k * lanes + j))
 
   -- each state is fresh, by its own masks
-  keeps : (d : ℕ → Differences) → AllKeep (λ k. LanesApart (d k)) permutes 7824 (λ k. maskedKeccakP) (λ k. maskedKeccakP)
+  keeps : (d : ℕ → Differences)
+      → AllKeep (λ k. LanesApart (d k)) permutes 7824 (λ k. maskedKeccakP) (λ k. maskedKeccakP)
   keeps d k h t t′ r = coupled-maskedKeccakP t t′ (lanes-both r) (d (suc k))
 
   kept-word : (c : ℕ → Bool) (s s′ : SharedList) {t t′ : List SharedList}
@@ -52,9 +57,11 @@ module _ (lanes n : ℕ) (l : 0 < lanes) (u : lanes ≤ 25) where
       → Kept 64 (c i) (sharedAt (getD t (i / lanes) s) (i % lanes)) (sharedAt (getD t′ (i / lanes) s′) (i % lanes))
   kept-word c s s′ r i h =
       rw (← ap c (div-add-mod' i lanes))
-      (kept-lane (λ j. c (i / lanes * lanes + j)) (r .at s s′ (i / lanes) (state-lt i h)) (i % lanes) (omega (arith, mod-lt i l)))
+      (kept-lane (λ j. c (i / lanes * lanes + j)) (r .at s s′ (i / lanes) (state-lt i h)) (i % lanes)
+      (omega (arith, mod-lt i l)))
 
-  pub maskedSqueeze-stage : Stage LanesApart (KeptShared n) (permutes * 7824) (maskedSqueeze lanes n) (maskedSqueeze lanes n)
+  pub maskedSqueeze-stage : Stage LanesApart (KeptShared n) (permutes * 7824) (maskedSqueeze lanes n)
+      (maskedSqueeze lanes n)
   unfolding maskedSqueeze
   maskedSqueeze-stage =
       record {
@@ -79,24 +86,6 @@ module _ (lanes n : ℕ) (l : 0 < lanes) (u : lanes ≤ 25) where
 
 -- ---- the whole, for inputs of known lengths
 
-below-padding : {suffix : ℕ} → suffix < 128 → (q : ℕ) → Below 256 (padding suffix q)
-below-padding h zero = below-nil (omega arith)
-below-padding h (suc zero) = below-cons (omega arith) (below-nil (omega arith))
-below-padding h (suc (suc z)) =
-    below-cons (omega arith)
-    (below-append (replicate z 0) (below-zeros z (omega arith)) (below-cons (omega arith) (below-nil (omega arith))))
-
-below-padded : {suffix : ℕ} {m : List ℕ} (rate : ℕ) → suffix < 128 → Below 256 m → Below 256 (padded rate suffix m)
-unfolding padded
-below-padded {m = m} rate h b = below-append m b (below-padding h (rate - length m % rate))
-
-laneOf-bits : {p : List ℕ} (j : ℕ) → Below 256 p → Bits 64 (laneOf p j)
-laneOf-bits {p} j b =
-    record {
-      lt = lt-of-lt-of-le (value-lt 256 (take 8 (drop (8 * j) p)) (below-take 8 (below-drop (8 * j) b)))
-          (pow-le-pow-right (omega arith) {j = 8} (omega (arith, length-take 8 (drop (8 * j) p))));
-    }
-
 -- two strings of bytes, one for each share; the first has the length len
 pub record SharedBytes (len : ℕ) : Type 0 where
   pub in0 : List ℕ
@@ -112,7 +101,8 @@ module _ (rate suffix len : ℕ) (h : suffix < 128) (l : 8 ≤ rate) (u : rate �
   blocksOf : SharedBytes len → ℕ → ℕ → Shares
   blocksOf a = sharedBlock rate (padded rate suffix (a .in0)) (a .in1)
 
-  both-blocks : (a b : SharedBytes len) {e : Unit {0}} → BlocksBoth (rate / 8) (len / rate + 1) e (blocksOf a) (blocksOf b)
+  both-blocks : (a b : SharedBytes len) {e : Unit {0}}
+      → BlocksBoth (rate / 8) (len / rate + 1) e (blocksOf a) (blocksOf b)
   unfolding blocksOf
   both-blocks a b =
       record {
@@ -122,7 +112,7 @@ module _ (rate suffix len : ℕ) (h : suffix < 128) (l : 8 ≤ rate) (u : rate �
       }
     where
       lane : {p : List ℕ} (i j : ℕ) → Below 256 p → Bits 64 (laneOf (take rate (drop (i * rate) p)) j)
-      lane i j b = laneOf-bits j (below-take rate (below-drop (i * rate) b))
+      lane i j b = laneOf-bits (below-take rate (below-drop (i * rate) b)) j
 
   maskedAbsorb-stage : Stage (λ (e : Unit {0}). Any) LanesApart ((len / rate + 1) * (rate / 8 * 2 + 7824)) absorb absorb
   unfolding maskedAbsorb blocksOf
@@ -130,14 +120,31 @@ module _ (rate suffix len : ℕ) (h : suffix < 128) (l : 8 ≤ rate) (u : rate �
       let s = maskedBlocks-stage (rate / 8) (len / rate + 1) (omega arith) in
       record {
         like = λ a b. rw (a .long, b .long) (s .like (blocksOf a) (blocksOf b));
-        entry = λ i k. (tt, λ a b r. rw (a .long, b .long) (s .entry i k .1 (blocksOf a) (blocksOf b) (both-blocks a b)));
+        entry = λ i k.
+            (tt, λ a b r. rw (a .long, b .long) (s .entry i k .1 (blocksOf a) (blocksOf b) (both-blocks a b)));
         fresh = λ d. (tt, λ a b r. rw (a .long, b .long) (s .fresh d .1 (blocksOf a) (blocksOf b) (both-blocks a b)));
       }
 
   -- nothing is asked of the inputs; n words come out
   pub maskedSponge-stage : (n : ℕ)
-      → Stage (λ (e : Unit {0}). Any) (KeptShared n) ((len / rate + 1) * (rate / 8 * 2 + 7824) + (n - 1) / (rate / 8) * 7824)
+      → Stage (λ (e : Unit {0}). Any) (KeptShared n) (spongeEntries rate len n)
       (λ (a : SharedBytes len). maskedSponge rate suffix (a .in0) (a .in1) n)
       (λ (b : SharedBytes len). maskedSponge rate suffix (b .in0) (b .in1) n)
   unfolding maskedSponge
   maskedSponge-stage n = andThen maskedAbsorb-stage (maskedSqueeze-stage (rate / 8) n (omega arith) (omega arith))
+
+-- ---- the two hashes, their output in words
+
+pub maskedSha3-512Words-stage : (len : ℕ)
+    → Stage (λ (e : Unit {0}). Any) (KeptShared 8) (sha3-512Entries len)
+    (λ (a : SharedBytes len). maskedSha3-512Words (a .in0) (a .in1))
+    (λ (b : SharedBytes len). maskedSha3-512Words (b .in0) (b .in1))
+unfolding maskedSha3-512Words sha3-512Entries
+maskedSha3-512Words-stage len = maskedSponge-stage 72 0x06 len (omega arith) (omega arith) (omega arith) 8
+
+pub maskedShake256Words-stage : (len n : ℕ)
+    → Stage (λ (e : Unit {0}). Any) (KeptShared n) (shake256Entries len n)
+    (λ (a : SharedBytes len). maskedShake256Words (a .in0) (a .in1) n)
+    (λ (b : SharedBytes len). maskedShake256Words (b .in0) (b .in1) n)
+unfolding maskedShake256Words shake256Entries
+maskedShake256Words-stage len n = maskedSponge-stage 136 0x1f len (omega arith) (omega arith) (omega arith) n

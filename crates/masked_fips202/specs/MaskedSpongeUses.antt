@@ -1,17 +1,22 @@
 -- How many entries the sponge on two shares makes, and how many words it draws.
-use Prim.Native.Nat.{ℕ, _+_, _-_, _*_, _/_}
-use mathlib.Core.Path.{refl, _∙_}
+use Prim.Native.Nat.{ℕ, _+_, _-_, _*_, _/_, _≤_}
+use mathlib.Core.Path.{_≡_, refl, _∙_}
 use mathlib.Core.List.{List}
 use native.Mathlib.Nat.{zero-add, mul-zero}
 use native.Mathlib.Omega.{arith}
 use lib.ListN.{length}
 use Rattle.worksheet.specs.declared.Shares.{Shares}
 use Rattle.worksheet.specs.Prog.{mask}
-use Rattle.worksheet.specs.Uses.{Uses, ret-u, word-u, uses-recount, uses-bind, uses-map, uses-loop, uses-times, uses-chain}
+use Rattle.worksheet.specs.Uses.{Uses, ret-u, word-u, uses-recount, uses-bind, uses-map, uses-loop, uses-times}
+use Rattle.worksheet.specs.Uses.{uses-chain}
 use Rattle.worksheet.specs.SharedList.{SharedList}
 use Rattle.worksheet.specs.GatesLaws.{uses-maskedXor}
-use Rattle.masked_keccak.specs.Uses.{uses-maskedKeccakP}
-use Rattle.masked_fips202.specs.MaskedSponge.{start, mixLanes, maskedBlocks, maskedAbsorb, maskedSqueeze, maskedSponge}
+use Rattle.masked_keccak.specs.MaskedKeccakUses.{uses-maskedKeccakP}
+use Rattle.masked_fips202.specs.MaskedSponge.{start, mixLanes, maskedBlocks, maskedAbsorb, maskedSqueeze}
+use Rattle.masked_fips202.specs.MaskedSponge.{maskedSponge}
+use Rattle.masked_fips202.specs.MaskedSponge.{spongeEntries, spongeMasks}
+use Rattle.masked_fips202.specs.MaskedWords.{maskedSha3-512Words, sha3-512Entries, sha3-512Masks}
+use Rattle.masked_fips202.specs.MaskedWords.{maskedShake256Words, shake256Entries, shake256Masks}
 
 pub uses-start : Uses 0 25 0 start
 unfolding start mask
@@ -29,7 +34,8 @@ uses-maskedBlocks lanes n b =
     (uses-bind uses-start (λ s. uses-loop n s (λ i t. uses-bind (uses-mixLanes lanes (b i) t) uses-maskedKeccakP)))
 
 pub uses-maskedAbsorb : (rate suffix : ℕ) (in0 in1 : List ℕ)
-    → Uses ((length in0 / rate + 1) * (rate / 8 * 2 + 7824)) (25 + (length in0 / rate + 1) * 600) 0 (maskedAbsorb rate suffix in0 in1)
+    → Uses ((length in0 / rate + 1) * (rate / 8 * 2 + 7824)) (25 + (length in0 / rate + 1) * 600) 0
+    (maskedAbsorb rate suffix in0 in1)
 unfolding maskedAbsorb
 uses-maskedAbsorb rate suffix in0 in1 = uses-maskedBlocks (rate / 8) (length in0 / rate + 1) _
 
@@ -37,11 +43,24 @@ pub uses-maskedSqueeze : (lanes n : ℕ) (s : SharedList)
     → Uses ((n - 1) / lanes * 7824) ((n - 1) / lanes * 600) 0 (maskedSqueeze lanes n s)
 unfolding maskedSqueeze
 uses-maskedSqueeze lanes n s =
-    uses-recount refl refl (mul-zero ((n - 1) / lanes)) (uses-map _ (uses-chain ((n - 1) / lanes) s (λ j. uses-maskedKeccakP)))
+    uses-recount refl refl (mul-zero ((n - 1) / lanes))
+    (uses-map _ (uses-chain ((n - 1) / lanes) s (λ j. uses-maskedKeccakP)))
 
 pub uses-maskedSponge : (rate suffix : ℕ) (in0 in1 : List ℕ) (n : ℕ)
-    → Uses ((length in0 / rate + 1) * (rate / 8 * 2 + 7824) + (n - 1) / (rate / 8) * 7824)
-    (25 + (length in0 / rate + 1 + (n - 1) / (rate / 8)) * 600) 0 (maskedSponge rate suffix in0 in1 n)
+    → Uses (spongeEntries rate (length in0) n) (spongeMasks rate (length in0) n) 0 (maskedSponge rate suffix in0 in1 n)
 unfolding maskedSponge
 uses-maskedSponge rate suffix in0 in1 n =
-    uses-recount refl (omega arith) refl (uses-bind (uses-maskedAbsorb rate suffix in0 in1) (uses-maskedSqueeze (rate / 8) n))
+    uses-recount refl (omega arith) refl
+    (uses-bind (uses-maskedAbsorb rate suffix in0 in1) (uses-maskedSqueeze (rate / 8) n))
+
+-- ---- the two hashes, their output in words
+
+pub uses-maskedSha3-512Words : (in0 in1 : List ℕ)
+    → Uses (sha3-512Entries (length in0)) (sha3-512Masks (length in0)) 0 (maskedSha3-512Words in0 in1)
+unfolding maskedSha3-512Words sha3-512Entries sha3-512Masks
+uses-maskedSha3-512Words in0 in1 = uses-maskedSponge 72 0x06 in0 in1 8
+
+pub uses-maskedShake256Words : (in0 in1 : List ℕ) (n : ℕ)
+    → Uses (shake256Entries (length in0) n) (shake256Masks (length in0) n) 0 (maskedShake256Words in0 in1 n)
+unfolding maskedShake256Words shake256Entries shake256Masks
+uses-maskedShake256Words in0 in1 n = uses-maskedSponge 136 0x1f in0 in1 n

@@ -13,7 +13,7 @@ use lib.ListN.{length, getD, take, drop, replicate, getD-replicate}
 use Rattle.words.specs.Word.{Bits, xor}
 use Rattle.words.specs.WordLaws.{xor-same, xor-zero}
 use Rattle.words.specs.Bounded.{Below}
-use Rattle.words.specs.BoundedLaws.{below-nil, below-cons, below-append, below-zeros, below-take, below-drop}
+use Rattle.words.specs.BoundedLaws.{below-nil, below-take, below-drop}
 use Rattle.words.specs.Tab.{length-tab, getD-tab, tab-cong}
 use Rattle.words.specs.Iterate.{iterate}
 use Rattle.keccak.specs.KeccakP.{keccak-p}
@@ -21,19 +21,24 @@ use Rattle.worksheet.specs.declared.Shares.{Shares}
 use Rattle.worksheet.specs.Prog.{mask}
 use Rattle.worksheet.specs.Run.{run}
 use Rattle.worksheet.specs.Turns.{Each}
-use Rattle.worksheet.specs.Gives.{Gives, ret-g, draw-g, gives-bind, gives-loop, gives-times, gives-chain, gives-run}
+use Rattle.worksheet.specs.Gives.{Gives, ret-g, draw-g, gives-bind, gives-weaken, gives-loop, gives-times, gives-chain}
+use Rattle.worksheet.specs.Gives.{gives-run}
 use Rattle.worksheet.specs.Sharing.{none}
 use Rattle.worksheet.specs.SharingLaws.{Sharing}
 use Rattle.worksheet.specs.SharedList.{SharedList, sharedList, sharedAt, unzip, joinedList}
 use Rattle.worksheet.specs.SharedListLaws.{sharedAt-unzip}
 use Rattle.worksheet.specs.GatesSharing.{sharing-maskedXor}
-use Rattle.masked_keccak.specs.Joined.{StateSharing, state-lanes, state-sharing, gives-maskedKeccakP}
-use Rattle.fips202.specs.Sponge.{padding, padded, laneOf, mixed, absorbed, byteOf, squeezed, sponge, sha3-512, shake256}
-use Rattle.fips202.specs.Blocks.{length-padded}
+use Rattle.masked_keccak.specs.JoinedLanes.{StateSharing, state-lanes, state-sharing, gives-maskedKeccakP}
+use Rattle.fips202.specs.Sponge.{padded, laneOf, mixed, absorbed, byteOf, squeezed, sponge, sha3-512, shake256}
+use Rattle.fips202.specs.Blocks.{length-padded, below-padded}
 use Rattle.fips202.specs.Lanes.{laneOf-past, byte-place, block-lt}
-use Rattle.masked_fips202.specs.XorBytes.{xorOf-take, xorOf-drop, xorOf-padded, length-joined, sharing-lane, byte-xor}
-use Rattle.masked_fips202.specs.MaskedSponge.{start, mixLanes, maskedBlocks, maskedAbsorb, maskedSqueeze, maskedSponge}
+use Rattle.fips202.specs.Words.{spongeWords, sha3-512Words, shake256Words}
+use Rattle.masked_fips202.specs.XorBytes.{xorOf-take, xorOf-drop, xorOf-padded, length-joined, sharing-lane}
+use Rattle.masked_fips202.specs.XorBytes.{byte-xor}
+use Rattle.masked_fips202.specs.MaskedSponge.{start, mixLanes, maskedBlocks, maskedAbsorb, maskedSqueeze}
+use Rattle.masked_fips202.specs.MaskedSponge.{maskedSponge}
 use Rattle.masked_fips202.specs.MaskedBytes.{sharedBytes, maskedHash}
+use Rattle.masked_fips202.specs.MaskedWords.{maskedSha3-512Words, maskedShake256Words}
 use Rattle.masked_fips202.specs.MaskedCalls.{maskedSha3-512, maskedShake256}
 
 -- ---- absorbing
@@ -58,9 +63,16 @@ gives-mixLanes : (n : ℕ) {b : ℕ → Shares} (p : List ℕ) {l : List ℕ} {s
     → Gives (StateSharing (mixed p l)) (mixLanes n b s)
 unfolding mixLanes mixed unzip
 gives-mixLanes n {b} p {l} {s} h r f g =
-    gives-bind (gives-times (λ j. Sharing 64 (xor (getD l j 0) (laneOf p j))) n (λ j k. sharing-maskedXor (state-lanes r .at j (omega arith)) (f j k))) (λ z t.
+    gives-bind
+    (gives-times (λ j. Sharing 64 (xor (getD l j 0) (laneOf p j))) n (λ j k.
+    sharing-maskedXor (state-lanes r .at j (omega arith)) (f j k)))
+    (λ z t.
     ret-g (state-sharing (length-tab 25 _) (length-tab 25 _) (length-tab 25 _)
-    (record { at = λ j k. rw (getD-tab 25 (λ i. xor (getD l i 0) (laneOf p i)) j 0 k, sharedAt-unzip 25 (lane z) j k) (go z t j k (decLt j n)) })))
+    (record {
+      at = λ j k.
+          rw (getD-tab 25 (λ i. xor (getD l i 0) (laneOf p i)) j 0 k, sharedAt-unzip 25 (lane z) j k)
+          (go z t j k (decLt j n));
+    })))
   where
     lane : List Shares → ℕ → Shares
     lane z j = cond (ltb j n) (getD z j none) (sharedAt s j)
@@ -79,16 +91,6 @@ gives-maskedBlocks lanes n p h f g =
     gives-bind gives-start (λ s r.
     gives-loop (λ j. StateSharing (iterate j (λ i s. keccak-p (mixed (p i) s)) (replicate 25 0))) n
     (λ j l t a. gives-bind (gives-mixLanes lanes (p j) h a (f j) (g j)) (λ u. gives-maskedKeccakP)) r)
-
-below-padding : (suffix q : ℕ) → suffix < 128 → Below 256 (padding suffix q)
-below-padding suffix zero h = below-nil (omega arith)
-below-padding suffix (suc zero) h = below-cons (omega arith) (below-nil (omega arith))
-below-padding suffix (suc (suc z)) h =
-    below-cons (omega arith) (below-append (replicate z 0) (below-zeros z (omega arith)) (below-cons (omega arith) (below-nil (omega arith))))
-
-below-padded : {m : List ℕ} (rate suffix : ℕ) → suffix < 128 → Below 256 m → Below 256 (padded rate suffix m)
-unfolding padded
-below-padded {m} rate suffix h a = below-append m a (below-padding suffix (rate - length m % rate) h)
 
 -- a message in two shares of one length, to a sponge whose blocks are of whole lanes
 pub record SharedMessage (rate suffix : ℕ) (in0 in1 : List ℕ) : Type 0 where
@@ -110,19 +112,24 @@ module _ {rate suffix : ℕ} {in0 in1 : List ℕ} (a : SharedMessage rate suffix
       let q = length in0 / rate in
       let p = a .positive in
       ap (λ (n : ℕ). n / rate)
-      (length-padded rate suffix message q (rw e (div-mul-le-self (length in0) rate)) (rw e (lt-div-mul-add {a = length in0} {b = rate} p)))
+      (length-padded rate suffix message q (rw e (div-mul-le-self (length in0) rate))
+      (rw e (lt-div-mul-add {a = length in0} {b = rate} p)))
       ∙ mul-div-cancel (suc q) {n = rate} p
       ∙ sym (add-one q)
 
-  pub gives-maskedAbsorb : Gives (StateSharing (absorbed rate (padded rate suffix message))) (maskedAbsorb rate suffix in0 in1)
+  pub gives-maskedAbsorb : Gives (StateSharing (absorbed rate (padded rate suffix message)))
+      (maskedAbsorb rate suffix in0 in1)
   unfolding maskedAbsorb absorbed
   gives-maskedAbsorb =
       let f = a .fits in
       rw blocks
-      (gives-maskedBlocks (rate / 8) (length in0 / rate + 1) (λ i. take rate (drop (i * rate) (padded rate suffix message))) (omega arith)
+      (gives-maskedBlocks (rate / 8) (length in0 / rate + 1)
+      (λ i. take rate (drop (i * rate) (padded rate suffix message)))
+      (omega arith)
       (λ i j h.
       sharing-lane (xorOf-take rate (xorOf-drop (i * rate) (xorOf-padded in0 in1 (a .long) rate suffix)))
-      (below-take rate (below-drop (i * rate) (below-padded rate suffix (a .short) (a .bytes0)))) (below-take rate (below-drop (i * rate) (a .bytes1))) j)
+      (below-take rate (below-drop (i * rate) (below-padded rate (a .short) (a .bytes0))))
+      (below-take rate (below-drop (i * rate) (a .bytes1))) j)
       (λ i j h. laneOf-past rate (drop (i * rate) (padded rate suffix message)) j (a .whole) h))
 
 -- ---- squeezing
@@ -139,14 +146,19 @@ gives-maskedSqueeze : (lanes n : ℕ) {l : List ℕ} {s : SharedList} → 0 < la
     → Gives (OutputSharing lanes n l) (maskedSqueeze lanes n s)
 unfolding maskedSqueeze iterate
 gives-maskedSqueeze lanes n {l} {s} h k r =
-    gives-bind (gives-chain (λ j. StateSharing (iterate j (λ _. keccak-p) l)) ((n - 1) / lanes) (λ j g t a. gives-maskedKeccakP a) r) (λ t c.
+    gives-bind
+    (gives-chain (λ j. StateSharing (iterate j (λ _. keccak-p) l)) ((n - 1) / lanes)
+    (λ j g t a. gives-maskedKeccakP a) r)
+    (λ t c.
     ret-g (record {
       at = λ i g. rw (sharedAt-unzip n (λ i. sharedAt (getD t (i / lanes) s) (i % lanes)) i g)
-          (let m = mod-lt i h in state-lanes (c .at s (i / lanes) (block-lt lanes n i h g)) .at (i % lanes) (omega arith));
+          (let m = mod-lt i h in state-lanes (c .at s (i / lanes) (block-lt lanes n i h g)) .at (i % lanes)
+          (omega arith));
     }))
 
 -- its bytes join to those of the words
-output-bytes : (rate d : ℕ) {l : List ℕ} {z : SharedList} → 0 < rate → rate % 8 ≡ 0 → OutputSharing (rate / 8) ((d + 7) / 8) l z
+output-bytes : (rate d : ℕ) {l : List ℕ} {z : SharedList} → 0 < rate → rate % 8 ≡ 0
+    → OutputSharing (rate / 8) ((d + 7) / 8) l z
     → joinedList (sharedBytes d z) ≡ squeezed rate l d
 unfolding joinedList squeezed
 output-bytes rate d {l} {z} h k o =
@@ -161,7 +173,8 @@ output-bytes rate d {l} {z} h k o =
 -- ---- the sponge
 
 pub gives-maskedSponge : {rate suffix : ℕ} {in0 in1 : List ℕ} → SharedMessage rate suffix in0 in1 → (n : ℕ)
-    → Gives (OutputSharing (rate / 8) n (absorbed rate (padded rate suffix (joinedList (sharedList in0 in1))))) (maskedSponge rate suffix in0 in1 n)
+    → Gives (OutputSharing (rate / 8) n (absorbed rate (padded rate suffix (joinedList (sharedList in0 in1)))))
+    (maskedSponge rate suffix in0 in1 n)
 unfolding maskedSponge
 gives-maskedSponge {rate} a n =
     let f = a .fits in
@@ -169,28 +182,75 @@ gives-maskedSponge {rate} a n =
     let w = a .whole in
     gives-bind (gives-maskedAbsorb a) (λ s r. gives-maskedSqueeze (rate / 8) n (omega arith) (omega arith) r)
 
+-- two shares of the n words of l
+pub record WordSharing (n : ℕ) (l : List ℕ) (z : SharedList) : Type 0 where
+  pub long : length l ≡ n
+  pub at : (i : ℕ) → i < n → Sharing 64 (getD l i 0) (sharedAt z i)
+
+gives-spongeWords : {rate suffix : ℕ} {in0 in1 : List ℕ} → SharedMessage rate suffix in0 in1 → (n : ℕ)
+    → Gives (WordSharing n (spongeWords rate suffix (joinedList (sharedList in0 in1)) n))
+    (maskedSponge rate suffix in0 in1 n)
+gives-spongeWords {rate} {suffix} {in0} {in1} a n =
+    let w = outputWord (rate / 8) (absorbed rate (padded rate suffix (joinedList (sharedList in0 in1)))) in
+    gives-weaken (λ z o. record { long = length-tab n w; at = λ i h. rw (getD-tab n w i 0 h) (o .at i h) })
+    (gives-maskedSponge a n)
+
 pub gives-maskedHash : {rate suffix : ℕ} {in0 in1 : List ℕ} → SharedMessage rate suffix in0 in1 → (d : ℕ)
-    → Gives (λ z. joinedList z ≡ sponge rate suffix (joinedList (sharedList in0 in1)) d) (maskedHash rate suffix in0 in1 d)
+    → Gives (λ z. joinedList z ≡ sponge rate suffix (joinedList (sharedList in0 in1)) d)
+    (maskedHash rate suffix in0 in1 d)
 unfolding maskedHash sponge
 gives-maskedHash {rate} a d =
     gives-bind (gives-maskedSponge a ((d + 7) / 8)) (λ z o. ret-g (output-bytes rate d (a .positive) (a .whole) o))
 
--- ---- the two calls
+-- ---- the two hashes, by name
 
 module _ {in0 in1 : List ℕ} (e : length in0 ≡ length in1) (b0 : Below 256 in0) (b1 : Below 256 in1) where
-  pub gives-maskedSha3-512 : Gives (λ z. joinedList z ≡ sha3-512 (joinedList (sharedList in0 in1))) (maskedSha3-512 in0 in1)
+  sha3-message : SharedMessage 72 0x06 in0 in1
+  sha3-message =
+      record {
+        positive = omega arith;
+        fits = omega arith;
+        whole = refl;
+        short = omega arith;
+        long = e;
+        bytes0 = b0;
+        bytes1 = b1;
+      }
+
+  shake-message : SharedMessage 136 0x1f in0 in1
+  shake-message =
+      record {
+        positive = omega arith;
+        fits = omega arith;
+        whole = refl;
+        short = omega arith;
+        long = e;
+        bytes0 = b0;
+        bytes1 = b1;
+      }
+
+  -- in words
+  pub gives-maskedSha3-512Words : Gives (WordSharing 8 (sha3-512Words (joinedList (sharedList in0 in1))))
+      (maskedSha3-512Words in0 in1)
+  unfolding maskedSha3-512Words sha3-512Words
+  gives-maskedSha3-512Words = gives-spongeWords sha3-message 8
+
+  pub gives-maskedShake256Words : (n : ℕ)
+      → Gives (WordSharing n (shake256Words (joinedList (sharedList in0 in1)) n)) (maskedShake256Words in0 in1 n)
+  unfolding maskedShake256Words shake256Words
+  gives-maskedShake256Words n = gives-spongeWords shake-message n
+
+  -- in bytes
+  gives-maskedSha3-512 : Gives (λ z. joinedList z ≡ sha3-512 (joinedList (sharedList in0 in1))) (maskedSha3-512 in0 in1)
   unfolding maskedSha3-512 sha3-512
-  gives-maskedSha3-512 =
-      gives-maskedHash
-      (record { positive = omega arith; fits = omega arith; whole = refl; short = omega arith; long = e; bytes0 = b0; bytes1 = b1 }) 64
+  gives-maskedSha3-512 = gives-maskedHash sha3-message 64
 
-  pub gives-maskedShake256 : (d : ℕ) → Gives (λ z. joinedList z ≡ shake256 (joinedList (sharedList in0 in1)) d) (maskedShake256 in0 in1 d)
+  gives-maskedShake256 : (d : ℕ)
+      → Gives (λ z. joinedList z ≡ shake256 (joinedList (sharedList in0 in1)) d) (maskedShake256 in0 in1 d)
   unfolding maskedShake256 shake256
-  gives-maskedShake256 d =
-      gives-maskedHash
-      (record { positive = omega arith; fits = omega arith; whole = refl; short = omega arith; long = e; bytes0 = b0; bytes1 = b1 }) d
+  gives-maskedShake256 d = gives-maskedHash shake-message d
 
-  -- on masks below 2 ^ 64
+  -- what the calls leave, on masks below 2 ^ 64
   pub sha3-512-joined : {masks : List ℕ} → Below (2 ^ 64) masks
       → joinedList (run (maskedSha3-512 in0 in1) masks [] .value) ≡ sha3-512 (joinedList (sharedList in0 in1))
   sha3-512-joined h = gives-run gives-maskedSha3-512 h (below-nil (omega arith))

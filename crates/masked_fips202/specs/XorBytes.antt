@@ -29,7 +29,8 @@ pub record XorOf (p p0 p1 : List ℕ) : Type 0 where
   pub at : (x : ℕ) → getD p x 0 ≡ xor (getD p0 x 0) (getD p1 x 0)
 
 pub xorOf-drop : {p p0 p1 : List ℕ} (n : ℕ) → XorOf p p0 p1 → XorOf (drop n p) (drop n p0) (drop n p1)
-xorOf-drop {p} {p0} {p1} n a = record { at = λ x. rw (getD-drop n p x 0, getD-drop n p0 x 0, getD-drop n p1 x 0) (a .at (n + x)) }
+xorOf-drop {p} {p0} {p1} n a =
+    record { at = λ x. rw (getD-drop n p x 0, getD-drop n p0 x 0, getD-drop n p1 x 0) (a .at (n + x)) }
 
 pub xorOf-take : {p p0 p1 : List ℕ} (n : ℕ) → XorOf p p0 p1 → XorOf (take n p) (take n p0) (take n p1)
 xorOf-take {p} {p0} {p1} n a = record { at = λ x. go x (decLt x n) }
@@ -54,7 +55,8 @@ module _ (in0 in1 : List ℕ) (e : length in0 ≡ length in1) where
   length-joined = length-tab (length in0) _
 
   -- where bytes follow the message and its share 0
-  append-at : (pad : List ℕ) (x : ℕ) → Dec (x < length in0) → getD (m ++ pad) x 0 ≡ xor (getD (in0 ++ pad) x 0) (getD in1 x 0)
+  append-at : (pad : List ℕ) (x : ℕ) → Dec (x < length in0)
+      → getD (m ++ pad) x 0 ≡ xor (getD (in0 ++ pad) x 0) (getD in1 x 0)
   unfolding joinedList
   append-at pad x (yes h) =
       List·getD-append m pad 0 x (rw length-joined h)
@@ -66,14 +68,18 @@ module _ (in0 in1 : List ℕ) (e : length in0 ≡ length in1) where
       let v : x ≡ length m + y = omega (arith, length-joined) in
       (ap (λ (k : ℕ). getD (m ++ pad) k 0) v ∙ getD-append-add m pad y 0)
       ∙ sym
-      (ap₂ xor (ap (λ (k : ℕ). getD (in0 ++ pad) k 0) w ∙ getD-append-add in0 pad y 0) (List·getD-eq-default in1 0 {n = x} (omega arith))
+      (ap₂ xor (ap (λ (k : ℕ). getD (in0 ++ pad) k 0) w ∙ getD-append-add in0 pad y 0)
+      (List·getD-eq-default in1 0 {n = x} (omega arith))
       ∙ xor-zero (getD pad y 0))
 
   -- the padding goes into share 0
   pub xorOf-padded : (rate suffix : ℕ) → XorOf (padded rate suffix m) (padded rate suffix in0) in1
   unfolding padded
   xorOf-padded rate suffix =
-      record { at = λ x. rw length-joined (append-at (padding suffix (rate - length in0 % rate)) x (decLt x (length in0))) }
+      record {
+        at = λ x. rw length-joined
+            (append-at (padding suffix (rate - 1 - length in0 % rate)) x (decLt x (length in0)));
+      }
 
 -- ---- lanes
 
@@ -87,7 +93,9 @@ value-tab-suc b n f =
 low-byte-xor : (x y v w : ℕ) → x < 256 → y < 256 → xor x y + xor v w * 256 ≡ xor (x + v * 256) (y + w * 256)
 unfolding xor
 low-byte-xor x y v w h k =
-    add-comm (xor x y) (xor v w * 256) ∙ sym (xor-block 8 v w x y h k) ∙ ap₂ xor (add-comm (v * 256) x) (add-comm (w * 256) y)
+    add-comm (xor x y) (xor v w * 256)
+    ∙ sym (xor-block 8 v w x y h k)
+    ∙ ap₂ xor (add-comm (v * 256) x) (add-comm (w * 256) y)
 
 value-xor : (n : ℕ) (f g : ℕ → ℕ) → ((k : ℕ) → f k < 256) → ((k : ℕ) → g k < 256)
     → value 256 (tab n (λ k. xor (f k) (g k))) ≡ xor (value 256 (tab n f)) (value 256 (tab n g))
@@ -95,7 +103,8 @@ unfolding value tab
 value-xor zero f g a b = sym (xor-zero 0)
 value-xor (suc n) f g a b =
     value-tab-suc 256 n (λ k. xor (f k) (g k))
-    ∙ ap (λ (v : ℕ). xor (f 0) (g 0) + v * 256) (value-xor n (λ k. f (suc k)) (λ k. g (suc k)) (λ k. a (suc k)) (λ k. b (suc k)))
+    ∙ ap (λ (v : ℕ). xor (f 0) (g 0) + v * 256)
+    (value-xor n (λ k. f (suc k)) (λ k. g (suc k)) (λ k. a (suc k)) (λ k. b (suc k)))
     ∙ low-byte-xor (f 0) (g 0) (value 256 (tab n (λ i. f (suc i)))) (value 256 (tab n (λ i. g (suc i)))) (a 0) (b 0)
     ∙ ap₂ xor (sym (value-tab-suc 256 n f)) (sym (value-tab-suc 256 n g))
 
@@ -114,7 +123,8 @@ sharing-lane {p} {p0} {p1} a b0 b1 j =
       joins = sym
           (laneOf-tab p j
           ∙ ap (value 256) (tab-cong 8 (λ k h. a .at (8 * j + k)))
-          ∙ value-xor 8 (λ k. getD p0 (8 * j + k) 0) (λ k. getD p1 (8 * j + k) 0) (λ k. b0 .at (8 * j + k)) (λ k. b1 .at (8 * j + k))
+          ∙ value-xor 8 (λ k. getD p0 (8 * j + k) 0) (λ k. getD p1 (8 * j + k) 0) (λ k. b0 .at (8 * j + k))
+          (λ k. b1 .at (8 * j + k))
           ∙ ap₂ xor (sym (laneOf-tab p0 j)) (sym (laneOf-tab p1 j)));
     }
 
@@ -124,5 +134,6 @@ sharing-lane {p} {p0} {p1} a b0 b1 j =
 pub byte-xor : (u v k : ℕ) → k < 8 → xor (u / 256 ^ k % 256) (v / 256 ^ k % 256) ≡ xor u v / 256 ^ k % 256
 unfolding low
 byte-xor u v k h =
-    let e : 2 ^ (8 * k) ≡ 256 ^ k = eqb→eq (2 ^ (8 * k)) (256 ^ k) (every-at 8 (λ k. eqb (2 ^ (8 * k)) (256 ^ k)) tt k h) in
+    let e : 2 ^ (8 * k) ≡ 256 ^ k =
+    eqb→eq (2 ^ (8 * k)) (256 ^ k) (every-at 8 (λ k. eqb (2 ^ (8 * k)) (256 ^ k)) tt k h) in
     sym (ap (λ (w : ℕ). w % 256) (rw e at (xor-shift (8 * k) u v)) ∙ low-xor 8 (u / 256 ^ k) (v / 256 ^ k))

@@ -5,7 +5,8 @@ ghost use lib.ListN.{length, take};
 ghost use Rattle.worksheet.specs.declared.Recorder.{Recorder as AnyRecorder};
 ghost use Rattle.worksheet.specs.Prog.{word, loop};
 ghost use Rattle.worksheet.specs.Ran.{Makes, Draws};
-ghost use Rattle.masked_keccak.specs.Rows.{sharedState};
+ghost use Rattle.masked_keccak.specs.SharedRows.{sharedState};
+ghost use Rattle.masked_fips202.specs.Lent.{BlockLent, InputLent};
 ghost use Rattle.masked_fips202.specs.MaskedSponge.{start as startOf, mixLanes, sharedBlock, maskedAbsorb};
 ghost use Rattle.masked_fips202.specs.MaskedBytes.{sharedLane, takeIn};
 use fips202::absorb::last_block;
@@ -32,7 +33,9 @@ fn start(ws: &[u64]) -> State
 // The first rate bytes of p and q are added to the shares s and t of the state.
 fn mix_lanes(rec: Recorder, s: State, t: State, p: &[u8], q: &[u8], rate: usize) -> EnteredStates
     requires { ⌜ (rate ≤ 200) × (rate % 8 ≡ 0) × (rate ≤ length (now p)) × (rate ≤ length (now q)) ⌝ }
-    ensures { λ o. ⌜ Makes (mixLanes (rate / 8) (sharedLane (take rate (now (p .entry))) (take rate (now (q .entry)))) (sharedState s t)) rec (sharedState (o .s0) (o .s1)) (o .rec) ⌝ }
+    ensures { λ o. ⌜ Makes
+        (mixLanes (rate / 8) (sharedLane (take rate (now (p .entry))) (take rate (now (q .entry)))) (sharedState s t))
+        rec (sharedState (o .s0) (o .s1)) (o .rec) ⌝ }
 {
     let mut rec = rec;
     let mut s0 = s;
@@ -68,8 +71,10 @@ fn take_in(
     rate: usize,
     ws: &[u64],
 ) -> EnteredStates
-    requires { ⌜ (rate ≤ 200) × (rate % 8 ≡ 0) × (rate ≤ length (now p)) × (rate ≤ length (now q)) × (600 ≤ length (now ws)) ⌝ }
-    ensures { λ o. ⌜ Draws word 600 (takeIn (rate / 8) (sharedLane (take rate (now (p .entry))) (take rate (now (q .entry)))) (sharedState s t)) rec (now (ws .entry)) (sharedState (o .s0) (o .s1)) (o .rec) ⌝ }
+    requires { ⌜ BlockLent rate (now p) (now q) (now ws) ⌝ }
+    ensures { λ o. ⌜ Draws word 600
+        (takeIn (rate / 8) (sharedLane (take rate (now (p .entry))) (take rate (now (q .entry)))) (sharedState s t))
+        rec (now (ws .entry)) (sharedState (o .s0) (o .s1)) (o .rec) ⌝ }
 {
     let m = mix_lanes(rec, s, t, p, q, rate);
     masked_keccak::permute(m.rec, m.s0, m.s1, ws)
@@ -85,8 +90,11 @@ fn whole_blocks(
     rate: usize,
     ws: &[u64],
 ) -> EnteredStates
-    requires { ⌜ (length (now in0) ≡ length (now in1)) × (0 < rate) × (rate ≤ 200) × (rate % 8 ≡ 0) × (600 * (length (now in0) / rate) ≤ length (now ws)) ⌝ }
-    ensures { λ o. ⌜ Draws word (600 * (length (now (in0 .entry)) / rate)) (loop (length (now (in0 .entry)) / rate) (λ i. takeIn (rate / 8) (sharedBlock rate (now (in0 .entry)) (now (in1 .entry)) i)) (sharedState s t)) rec (now (ws .entry)) (sharedState (o .s0) (o .s1)) (o .rec) ⌝ }
+    requires { ⌜ InputLent rate (now in0) (now in1) (now ws) ⌝ }
+    ensures { λ o. ⌜ Draws word (600 * (length (now (in0 .entry)) / rate))
+        (loop (length (now (in0 .entry)) / rate)
+        (λ i. takeIn (rate / 8) (sharedBlock rate (now (in0 .entry)) (now (in1 .entry)) i)) (sharedState s t))
+        rec (now (ws .entry)) (sharedState (o .s0) (o .s1)) (o .rec) ⌝ }
 {
     let mut rec = rec;
     let mut s0 = s;
@@ -112,8 +120,11 @@ pub fn masked_absorb(
     suffix: u8,
     ws: &[u64],
 ) -> EnteredStates
-    requires { ⌜ (length (now in0) ≡ length (now in1)) × (0 < rate) × (rate ≤ 200) × (rate % 8 ≡ 0) × (suffix < 128) × (25 + 600 * (length (now in0) / rate + 1) ≤ length (now ws)) ⌝ }
-    ensures { λ o. ⌜ Draws word (25 + 600 * (length (now (in0 .entry)) / rate + 1)) (maskedAbsorb rate suffix (now (in0 .entry)) (now (in1 .entry))) rec (now (ws .entry)) (sharedState (o .s0) (o .s1)) (o .rec) ⌝ }
+    requires { ⌜ (length (now in0) ≡ length (now in1)) × (0 < rate) × (rate ≤ 200) × (rate % 8 ≡ 0) × (suffix < 128)
+        × (25 + 600 * (length (now in0) / rate + 1) ≤ length (now ws)) ⌝ }
+    ensures { λ o. ⌜ Draws word (25 + 600 * (length (now (in0 .entry)) / rate + 1))
+        (maskedAbsorb rate suffix (now (in0 .entry)) (now (in1 .entry)))
+        rec (now (ws .entry)) (sharedState (o .s0) (o .s1)) (o .rec) ⌝ }
 {
     let s = start(ws);
     let n = in0.len() / rate;

@@ -4,14 +4,18 @@ ghost use Prim.Native.Nat.{_+_, _*_, _%_, _<_, _≤_};
 ghost use mathlib.Core.List.{[]};
 ghost use lib.Dec.{eqb};
 ghost use lib.ListN.{length};
+ghost use Rattle.refusals.specs.Refusals.{number};
 ghost use Rattle.worksheet.specs.Run.{run};
+ghost use Rattle.worksheet.specs.SharedList.{sharedList};
+ghost use Rattle.masked_fips202.specs.Lent.{HashLent};
 ghost use Rattle.masked_fips202.specs.MaskedSponge.{permutations as permutationsOf};
 ghost use Rattle.masked_fips202.specs.MaskedBytes.{maskedHash};
-ghost use Rattle.masked_fips202.specs.MaskedCalls.{hashCall, sha3-512Call, shake256Call};
+ghost use Rattle.masked_fips202.specs.MaskedCalls.{hashAnswer, MaskedHashed};
+ghost use Rattle.masked_fips202.specs.MaskedCalls.{maskedSha3-512Call, maskedShake256Call};
 use crate::masked_absorb::masked_absorb;
 use crate::masked_squeeze::further;
 use crate::masked_squeeze::masked_squeeze;
-use fips202::Answer;
+use refusals::Answer;
 use worksheet::Recorder;
 
 // The permutations for n bytes of input and d of output.
@@ -48,9 +52,10 @@ fn masked_sponge(
     out0: &mut [u8],
     out1: &mut [u8],
 )
-    requires { ⌜ (0 < rate) × (rate ≤ 200) × (rate % 8 ≡ 0) × (suffix < 128) × (length (now in0) ≡ length (now in1)) × (length (now out0) ≡ length (now out1)) × (length (now masks) ≡ 25 + 600 * permutationsOf rate (length (now in0)) (length (now out0))) ⌝ }
-    ensures { λ _. ⌜ now (out0 .exit) ≡ run (maskedHash rate suffix (now (in0 .entry)) (now (in1 .entry)) (length (now (out0 .entry)))) (now (masks .entry)) [] .value .s0 ⌝ }
-    ensures { λ _. ⌜ now (out1 .exit) ≡ run (maskedHash rate suffix (now (in0 .entry)) (now (in1 .entry)) (length (now (out0 .entry)))) (now (masks .entry)) [] .value .s1 ⌝ }
+    requires { ⌜ HashLent rate suffix (now in0) (now in1) (now masks) (now out0) (now out1) ⌝ }
+    ensures { λ _. ⌜ sharedList (now (out0 .exit)) (now (out1 .exit))
+        ≡ run (maskedHash rate suffix (now (in0 .entry)) (now (in1 .entry)) (length (now (out0 .entry))))
+        (now (masks .entry)) [] .value ⌝ }
 {
     let rec = Recorder { left: 0, value: 0 };
     let k = 25 + 600 * (in0.len() / rate + 1);
@@ -69,9 +74,12 @@ fn masked_hash(
     out1: &mut [u8],
 ) -> Answer
     requires { ⌜ (0 < rate) × (rate ≤ 200) × (rate % 8 ≡ 0) × (suffix < 128) ⌝ }
-    ensures { λ r. ⌜ r ≡ hashCall rate suffix (now (in0 .entry)) (now (in1 .entry)) (now (masks .entry)) (now (out0 .entry)) (now (out1 .entry)) .answer ⌝ }
-    ensures { λ _. ⌜ now (out0 .exit) ≡ hashCall rate suffix (now (in0 .entry)) (now (in1 .entry)) (now (masks .entry)) (now (out0 .entry)) (now (out1 .entry)) .out0 ⌝ }
-    ensures { λ _. ⌜ now (out1 .exit) ≡ hashCall rate suffix (now (in0 .entry)) (now (in1 .entry)) (now (masks .entry)) (now (out0 .entry)) (now (out1 .entry)) .out1 ⌝ }
+    ensures { λ r. ⌜ MaskedHashed
+        (hashAnswer rate (now (in0 .entry)) (now (in1 .entry)) (now (masks .entry))
+        (now (out0 .entry)) (now (out1 .entry)))
+        (maskedHash rate suffix (now (in0 .entry)) (now (in1 .entry)) (length (now (out0 .entry))))
+        (now (masks .entry)) (now (out0 .entry)) (now (out1 .entry))
+        (number r) (now (out0 .exit)) (now (out1 .exit)) ⌝ }
 {
     let n = in0.len();
     let d = out0.len();
@@ -95,9 +103,9 @@ pub fn masked_sha3_512(
     out0: &mut [u8],
     out1: &mut [u8],
 ) -> Answer
-    ensures { λ r. ⌜ r ≡ sha3-512Call (now (in0 .entry)) (now (in1 .entry)) (now (masks .entry)) (now (out0 .entry)) (now (out1 .entry)) .answer ⌝ }
-    ensures { λ _. ⌜ now (out0 .exit) ≡ sha3-512Call (now (in0 .entry)) (now (in1 .entry)) (now (masks .entry)) (now (out0 .entry)) (now (out1 .entry)) .out0 ⌝ }
-    ensures { λ _. ⌜ now (out1 .exit) ≡ sha3-512Call (now (in0 .entry)) (now (in1 .entry)) (now (masks .entry)) (now (out0 .entry)) (now (out1 .entry)) .out1 ⌝ }
+    ensures { λ r. ⌜ maskedSha3-512Call
+        (now (in0 .entry)) (now (in1 .entry)) (now (masks .entry)) (now (out0 .entry)) (now (out1 .entry))
+        (number r) (now (out0 .exit)) (now (out1 .exit)) ⌝ }
 {
     if out0.len() != 64 {
         return Answer::WrongLength;
@@ -112,9 +120,9 @@ pub fn masked_shake256(
     out0: &mut [u8],
     out1: &mut [u8],
 ) -> Answer
-    ensures { λ r. ⌜ r ≡ shake256Call (now (in0 .entry)) (now (in1 .entry)) (now (masks .entry)) (now (out0 .entry)) (now (out1 .entry)) .answer ⌝ }
-    ensures { λ _. ⌜ now (out0 .exit) ≡ shake256Call (now (in0 .entry)) (now (in1 .entry)) (now (masks .entry)) (now (out0 .entry)) (now (out1 .entry)) .out0 ⌝ }
-    ensures { λ _. ⌜ now (out1 .exit) ≡ shake256Call (now (in0 .entry)) (now (in1 .entry)) (now (masks .entry)) (now (out0 .entry)) (now (out1 .entry)) .out1 ⌝ }
+    ensures { λ r. ⌜ maskedShake256Call
+        (now (in0 .entry)) (now (in1 .entry)) (now (masks .entry)) (now (out0 .entry)) (now (out1 .entry))
+        (number r) (now (out0 .exit)) (now (out1 .exit)) ⌝ }
 {
     masked_hash(136, 0x1f, in0, in1, masks, out0, out1)
 }

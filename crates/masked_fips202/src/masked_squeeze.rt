@@ -1,11 +1,12 @@
 // Giving output out on two shares (document 01, The gadgets: Hash).
 ghost use mathlib.Core.Path.{_≡_};
-ghost use Prim.Native.Nat.{_-_, _*_, _/_, _%_, _<_, _≤_};
+ghost use Prim.Native.Nat.{_-_, _*_, _/_, _<_};
 ghost use lib.ListN.{length};
 ghost use Rattle.worksheet.specs.Prog.{word};
 ghost use Rattle.worksheet.specs.Ran.{Draws};
 ghost use Rattle.worksheet.specs.SharedList.{sharedList};
-ghost use Rattle.masked_keccak.specs.Rows.{sharedState};
+ghost use Rattle.masked_keccak.specs.SharedRows.{sharedState};
+ghost use Rattle.masked_fips202.specs.Lent.{OutputLent};
 ghost use Rattle.masked_fips202.specs.MaskedBytes.{squeezeBytes};
 use fips202::squeeze::extract;
 use keccak::state::State;
@@ -23,7 +24,7 @@ pub(crate) fn further(n: usize, rate: usize) -> usize
 }
 
 // The outputs are filled from the shares s and t of the state, with 600 masks for each further permutation.
-pub fn masked_squeeze(
+pub(crate) fn masked_squeeze(
     rec: Recorder,
     s: State,
     t: State,
@@ -32,8 +33,10 @@ pub fn masked_squeeze(
     out0: &mut [u8],
     out1: &mut [u8],
 ) -> Recorder
-    requires { ⌜ (length (now out0) ≡ length (now out1)) × (0 < rate) × (rate ≤ 200) × (rate % 8 ≡ 0) × (600 * ((length (now out0) - 1) / rate) ≤ length (now ws)) ⌝ }
-    ensures { λ r. ⌜ Draws word (600 * ((length (now (out0 .entry)) - 1) / rate)) (squeezeBytes (rate / 8) (length (now (out0 .entry))) (sharedState s t)) rec (now (ws .entry)) (sharedList (now (out0 .exit)) (now (out1 .exit))) r ⌝ }
+    requires { ⌜ OutputLent rate (now ws) (now out0) (now out1) ⌝ }
+    ensures { λ r. ⌜ Draws word (600 * ((length (now (out0 .entry)) - 1) / rate))
+        (squeezeBytes (rate / 8) (length (now (out0 .entry))) (sharedState s t))
+        rec (now (ws .entry)) (sharedList (now (out0 .exit)) (now (out1 .exit))) r ⌝ }
 {
     let m = further(out0.len(), rate);
     let mut rec = rec;

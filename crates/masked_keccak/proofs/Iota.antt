@@ -1,4 +1,4 @@
--- Iota on two shares.
+-- Iota on two shares: the constant goes into share 0 of lane 0, and all other lanes stay as chi gave them.
 use mathlib.Core.Path.{_≡_}
 use mathlib.Core.List.{List}
 use Prim.Native.Nat.{ℕ}

@@ -1,3 +1,3 @@
-pub mod Lanes
-pub mod Rows
+pub mod EnteredLanes
+pub mod ReadRows
 pub mod Iota

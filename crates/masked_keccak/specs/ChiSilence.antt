@@ -1,11 +1,12 @@
--- Couplings of chi: its lanes can be set apart by any differences, and an entry asks for one share of each of two lanes.
+-- Couplings of chi: its lanes can be set apart by any differences, and an entry asks for one share of each of two
+-- lanes.
 use Prim.Native.Nat.{ℕ, zero, suc, _+_, _*_, _<_}
 use mathlib.Core.Path.{_≡_, ap}
 use mathlib.Core.Bool.{Bool, false}
 use native.Mathlib.Omega.{arith}
 use Rattle.words.specs.Word.{Bits, xor, and, complement}
 use Rattle.words.specs.WordLaws.{xor-bits, and-bits, complement-bits}
-use Rattle.keccak.specs.Pass.{LaneBits}
+use Rattle.keccak.specs.LinearPass.{LaneBits}
 use Rattle.worksheet.specs.declared.Shares.{Shares}
 use Rattle.worksheet.specs.Prog.{_>>=_, entry}
 use Rattle.worksheet.specs.Couple.{Coupled, enter-c, Like, SameAt, here, there, coupled-bind}
@@ -17,8 +18,8 @@ use Rattle.worksheet.specs.Gates.{maskedNot}
 use Rattle.worksheet.specs.MaskedAndSilence.{readsLeft, readsRight}
 use Rattle.worksheet.specs.GatesSilence.{like-maskedNot, like-xorAnd, coupled-xorAnd, sameAt-xorAnd}
 use Rattle.keccak.specs.KeccakP.{along}
-use Rattle.masked_keccak.specs.MaskedKeccak.{chiLane, chi}
-use Rattle.masked_keccak.specs.Lanes.{LaneSharings}
+use Rattle.masked_keccak.specs.MaskedKeccak.{chiLane, maskedChi}
+use Rattle.masked_keccak.specs.SharedLanes.{LaneSharings}
 
 -- ---- one lane
 
@@ -39,12 +40,14 @@ abbrev pub chiReadsSecond : ℕ → Bool
 chiReadsSecond zero = false
 chiReadsSecond (suc i) = readsRight i
 
-module _ {X Y Z X′ Y′ Z′ : ℕ} {w u v w′ u′ v′ : Shares} (sw : Sharing 64 X w) (su : Sharing 64 Y u) (sv : Sharing 64 Z v)
+module _ {X Y Z X′ Y′ Z′ : ℕ} {w u v w′ u′ v′ : Shares}
+    (sw : Sharing 64 X w) (su : Sharing 64 Y u) (sv : Sharing 64 Z v)
     (sw′ : Sharing 64 X′ w′) (su′ : Sharing 64 Y′ u′) (sv′ : Sharing 64 Z′ v′) where
   pub coupled-chiLane : {d : ℕ} → Bits 64 d
       → Coupled (Apart 64 d (chiOf X Y Z) (chiOf X′ Y′ Z′)) 11 (chiLane w u v) (chiLane w′ u′ v′)
   unfolding chiLane maskedNot entry _>>=_
-  coupled-chiLane b = enter-c (coupled-xorAnd (omega arith) sw (sharing-notShares su) sv sw′ (sharing-notShares su′) sv′ b)
+  coupled-chiLane b =
+      enter-c (coupled-xorAnd (omega arith) sw (sharing-notShares su) sv sw′ (sharing-notShares su′) sv′ b)
 
   pub sameAt-chiLane : (i : ℕ) → i < 11 → share (chiReadsFirst i) u ≡ share (chiReadsFirst i) u′
       → share (chiReadsSecond i) v ≡ share (chiReadsSecond i) v′ → SameAt i (chiLane w u v) (chiLane w′ u′ v′)
@@ -57,8 +60,8 @@ module _ {X Y Z X′ Y′ Z′ : ℕ} {w u v w′ u′ v′ : Shares} (sw : Shar
 
 -- ---- 25 lanes
 
-pub like-chi : (s s′ : SharedList) → Like (25 * 11) (chi s) (chi s′)
-unfolding chi
+pub like-chi : (s s′ : SharedList) → Like (25 * 11) (maskedChi s) (maskedChi s′)
+unfolding maskedChi
 like-chi s s′ = like-times 25 (λ i h. like-chiLane _ _ _ _ _ _)
 
 -- lane i of chi, for the lanes X
@@ -69,13 +72,14 @@ pub chiAt-bits : {X : ℕ → ℕ} → LaneBits X → LaneBits (chiAt X)
 chiAt-bits b =
     record {
       at = λ i h.
-          xor-bits (b .at i h) (and-bits (complement-bits (b .at (along 1 i) (omega arith))) (b .at (along 2 i) (omega arith)));
+          xor-bits (b .at i h)
+          (and-bits (complement-bits (b .at (along 1 i) (omega arith))) (b .at (along 2 i) (omega arith)));
     }
 
 module _ {X X′ : ℕ → ℕ} {s s′ : SharedList} (l : LaneSharings X s) (r : LaneSharings X′ s′) where
   pub coupled-chi : {e : ℕ → ℕ} → LaneBits e
-      → Coupled (Turns (λ i. Apart 64 (e i) (chiAt X i) (chiAt X′ i)) 25) (25 * 11) (chi s) (chi s′)
-  unfolding chi
+      → Coupled (Turns (λ i. Apart 64 (e i) (chiAt X i) (chiAt X′ i)) 25) (25 * 11) (maskedChi s) (maskedChi s′)
+  unfolding maskedChi
   coupled-chi b =
       coupled-times 25 (λ i h.
       coupled-chiLane (l .at i h) (l .at (along 1 i) (omega arith)) (l .at (along 2 i) (omega arith))
@@ -84,8 +88,8 @@ module _ {X X′ : ℕ → ℕ} {s s′ : SharedList} (l : LaneSharings X s) (r 
   pub sameAt-chi : (i j : ℕ) → i < 25 → j < 11
       → share (chiReadsFirst j) (sharedAt s (along 1 i)) ≡ share (chiReadsFirst j) (sharedAt s′ (along 1 i))
       → share (chiReadsSecond j) (sharedAt s (along 2 i)) ≡ share (chiReadsSecond j) (sharedAt s′ (along 2 i))
-      → SameAt (i * 11 + j) (chi s) (chi s′)
-  unfolding chi
+      → SameAt (i * 11 + j) (maskedChi s) (maskedChi s′)
+  unfolding maskedChi
   sameAt-chi i j h g p q =
       sameAt-times 25 i (λ i h. like-chiLane _ _ _ _ _ _) h
       (sameAt-chiLane (l .at i h) (l .at (along 1 i) (omega arith)) (l .at (along 2 i) (omega arith))

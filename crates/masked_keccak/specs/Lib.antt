@@ -1,8 +1,8 @@
 pub mod MaskedKeccak
-pub mod Rows
-pub mod Uses
-pub mod Lanes
+pub mod SharedRows
+pub mod MaskedKeccakUses
+pub mod SharedLanes
 pub mod PassSilence
 pub mod ChiSilence
 pub mod Silence
-pub mod Joined
+pub mod JoinedLanes

@@ -23,17 +23,17 @@ chiLane w u v = do
   maskedXor w z
 
 -- chi in lane order
-unfoldable pub chi : SharedList → Prog (List Shares)
-chi s = times 25 (λ i. chiLane (sharedAt s i) (sharedAt s (along 1 i)) (sharedAt s (along 2 i)))
+unfoldable pub maskedChi : SharedList → Prog (List Shares)
+maskedChi s = times 25 (λ i. chiLane (sharedAt s i) (sharedAt s (along 1 i)) (sharedAt s (along 2 i)))
 
 -- a round; the constant goes into share 0
-unfoldable pub round : ℕ → SharedList → Prog SharedList
-round i s = do
+unfoldable pub maskedRound : ℕ → SharedList → Prog SharedList
+maskedRound i s = do
   a ← pass (s .s0)
   b ← pass (s .s1)
-  c ← chi (sharedList a b)
+  c ← maskedChi (sharedList a b)
   k ← entry (xor (getD c 0 none .s0) (constant i))
   ret (let t = unzip 25 (λ j. getD c j none) in sharedList (set (t .s0) 0 k) (t .s1))
 
 unfoldable pub maskedKeccakP : SharedList → Prog SharedList
-maskedKeccakP s = loop 24 round s
+maskedKeccakP s = loop 24 maskedRound s

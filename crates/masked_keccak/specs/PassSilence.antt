@@ -1,58 +1,40 @@
 -- Couplings of theta, rho and pi on the two shares of a state, each share alone.
 use Prim.Native.Nat.{ℕ, _+_, _*_, _<_}
-use mathlib.Core.Path.{_≡_, sym, ap₂, _∙_}
+use mathlib.Core.Path.{_≡_, sym, ap, ap₂, _∙_}
 use mathlib.Core.Bool.{Bool, true, false}
 use mathlib.Core.List.{List}
 use native.Mathlib.Omega.{arith}
 use lib.ListN.{getD}
-use Rattle.keccak.specs.Pass.{passAt, LaneBits, pass-is, pass-cong, pass-bits, pass-xor}
+use Rattle.words.specs.Tab.{tab, getD-tab}
+use Rattle.keccak.specs.LinearPass.{passAt, LaneBits, pass-is, pass-cong, pass-bits, pass-xor}
 use Rattle.keccak.specs.Aim.{aimed, aimed-bits, aimed-1, aimed-2}
 use Rattle.worksheet.specs.declared.Shares.{Shares}
-use Rattle.worksheet.specs.Prog.{Prog, ret, _>>=_, entry}
-use Rattle.worksheet.specs.Couple.{Coupled, ret-c, enter-c, Like, Silent, here, coupled-weaken, sameAt-recount, coupled-bind, coupled-map, sameAt-left, sameAt-right, sameAt-map}
-use Rattle.worksheet.specs.CoupleLoops.{coupled-times, like-times, silent-times}
+use Rattle.worksheet.specs.Prog.{Prog, entry}
+use Rattle.worksheet.specs.Couple.{Coupled, coupled-weaken}
 use Rattle.worksheet.specs.Places.{cut}
-use Rattle.worksheet.specs.Turns.{Turns}
+use Rattle.worksheet.specs.Pass.{enterBoth}
+use Rattle.worksheet.specs.PassLaws.{coupled-enterBoth, like-enterBoth, sameAt-share0, sameAt-share1}
 use Rattle.worksheet.specs.Stage.{EqualAt, Stage}
 use Rattle.worksheet.specs.Sharing.{shares}
 use Rattle.worksheet.specs.SharingLaws.{share, Sharing, Apart, apart-cong, keep, keep-bits, share-keep}
-use Rattle.worksheet.specs.SharedList.{SharedList, sharedList, sharedAt}
-use Rattle.keccak.specs.KeccakP.{along}
-use Rattle.masked_keccak.specs.MaskedKeccak.{pass}
-use Rattle.masked_keccak.specs.Lanes.{LaneSharings, LanesBoth, lane-bits, Differences, LanesApart, keepLanes, kept-lane, lanes-both, difference-bits}
+use Rattle.worksheet.specs.SharedList.{SharedList, sharedAt}
+use Rattle.keccak.specs.KeccakP.{along, theta, rho, pi}
+use Rattle.masked_keccak.specs.SharedLanes.{LaneSharings, LanesBoth, lane-bits, Differences, LanesApart}
+use Rattle.masked_keccak.specs.SharedLanes.{keepLanes, kept-lane, lanes-both, difference-bits}
 
--- ---- one share
+-- ---- both shares
 
 -- a list's lanes
 abbrev lanesOf : List ℕ → ℕ → ℕ
 lanesOf l k = getD l k 0
 
--- y and y′ are lane j of the outcomes
-record Outcome (l l′ : List ℕ) (j y y′ : ℕ) : Type 0 where
-  pub left : y ≡ passAt (lanesOf l) j
-  pub right : y′ ≡ passAt (lanesOf l′) j
+-- theta, rho and pi of a share
+abbrev linear : List ℕ → List ℕ
+linear l = pi (rho (theta l))
 
-coupled-pass : (l l′ : List ℕ) → Coupled (Turns (Outcome l l′) 25) (25 * 1) (pass l) (pass l′)
-unfolding pass entry
-coupled-pass l l′ = coupled-times 25 (λ j h. enter-c (ret-c (record { left = pass-is l j; right = pass-is l′ j })))
-
-like-pass : (l l′ : List ℕ) → Like (25 * 1) (pass l) (pass l′)
-unfolding pass entry
-like-pass l l′ = like-times 25 (λ j h. enter-c (ret-c tt))
-
-silent-pass : (l l′ : List ℕ) → ((k : ℕ) → k < 25 → getD l k 0 ≡ getD l′ k 0) → Silent (25 * 1) (pass l) (pass l′)
-unfolding pass entry
-silent-pass l l′ e =
-    silent-times 25 (λ j h. enter-c (ret-c tt))
-    (λ j h i g. sameAt-recount {i = 0} (omega arith) (here (pass-is l j ∙ pass-cong e j ∙ sym (pass-is l′ j)) (ret-c tt)))
-
--- ---- both shares
-
+-- the two passes of a round
 unfoldable pub passes : SharedList → Prog SharedList
-passes s = do
-  a ← pass (s .s0)
-  b ← pass (s .s1)
-  ret (sharedList a b)
+passes s = enterBoth 25 (linear (s .s0)) (linear (s .s1))
 
 -- the shares of lane i after the passes
 abbrev passedAt : SharedList → ℕ → Shares
@@ -62,26 +44,27 @@ record Passed (s s′ t t′ : SharedList) : Type 0 where
   pub left : (i : ℕ) → i < 25 → sharedAt t i ≡ passedAt s i
   pub right : (i : ℕ) → i < 25 → sharedAt t′ i ≡ passedAt s′ i
 
-like-passes : (s s′ : SharedList) → Like (25 * 1 + 25 * 1) (passes s) (passes s′)
-unfolding passes
-like-passes s s′ = coupled-bind (like-pass _ _) (λ a a′ t. coupled-map _ _ (λ b b′ u. u) (like-pass _ _))
+passed-lane : (l : List ℕ) {a : List ℕ} → a ≡ tab 25 (lanesOf (linear l)) → (i : ℕ) → i < 25
+    → getD a i 0 ≡ passAt (lanesOf l) i
+passed-lane l e i h = ap (λ (m : List ℕ). getD m i 0) e ∙ getD-tab 25 (lanesOf (linear l)) i 0 h ∙ pass-is l i
+
+same-lane : (l l′ : List ℕ) → ((k : ℕ) → k < 25 → getD l k 0 ≡ getD l′ k 0)
+    → (i : ℕ) → i < 25 → getD (linear l) i 0 ≡ getD (linear l′) i 0
+same-lane l l′ e i h = pass-is l i ∙ pass-cong e i ∙ sym (pass-is l′ i)
 
 coupled-passes : (s s′ : SharedList) → Coupled (Passed s s′) (25 * 1 + 25 * 1) (passes s) (passes s′)
 unfolding passes
 coupled-passes s s′ =
-    coupled-bind (coupled-pass (s .s0) (s′ .s0)) (λ a a′ t. coupled-map _ _ (λ b b′ u. both t u) (coupled-pass (s .s1) (s′ .s1)))
-  where
-    both : {a a′ b b′ : List ℕ} → Turns (Outcome (s .s0) (s′ .s0)) 25 a a′ → Turns (Outcome (s .s1) (s′ .s1)) 25 b b′
-        → Passed s s′ (sharedList a b) (sharedList a′ b′)
-    both t u =
-        record {
-          left = λ i h. ap₂ shares (t .at 0 0 i h .left) (u .at 0 0 i h .left);
-          right = λ i h. ap₂ shares (t .at 0 0 i h .right) (u .at 0 0 i h .right);
-        }
+    coupled-enterBoth 25 _ _ _ _ (λ x x′ y y′ t u.
+    record {
+      left = λ i h. ap₂ shares (passed-lane (s .s0) (t .left) i h) (passed-lane (s .s1) (u .left) i h);
+      right = λ i h. ap₂ shares (passed-lane (s′ .s0) (t .right) i h) (passed-lane (s′ .s1) (u .right) i h);
+    })
 
 -- ---- what the passes do to sharings and to differences
 
-pub sharing-pass : {X : ℕ → ℕ} {s : SharedList} → LaneSharings X s → (i : ℕ) → i < 25 → Sharing 64 (passAt X i) (passedAt s i)
+pub sharing-pass : {X : ℕ → ℕ} {s : SharedList} → LaneSharings X s → (i : ℕ) → i < 25
+    → Sharing 64 (passAt X i) (passedAt s i)
 sharing-pass {s = s} l i h =
     let b0 : LaneBits (lanesOf (s .s0)) = record { at = λ k g. l .at k g .bits0 } in
     let b1 : LaneBits (lanesOf (s .s1)) = record { at = λ k g. l .at k g .bits1 } in
@@ -97,7 +80,9 @@ apart-pass r i h =
     record {
       left = sharing-pass (lanes-both r .left) i h;
       right = sharing-pass (lanes-both r .right) i h;
-      by = pass-cong (λ k g. r .at k g .by) i ∙ pass-xor (record { at = λ k g. r .at k g .left .bits0 }) (difference-bits r) i h;
+      by =
+          pass-cong (λ k g. r .at k g .by) i
+          ∙ pass-xor (record { at = λ k g. r .at k g .left .bits0 }) (difference-bits r) i h;
     }
 
 both-passed : {s s′ t t′ : SharedList} → LanesBoth s s′ → Passed s s′ t t′ → LanesBoth t t′
@@ -135,7 +120,8 @@ aimOperands o =
     record {
       by = λ X X′. aimed (o .lane) (keep (o .p) (passAt X a) (passAt X′ a)) (keep (o .q) (passAt X b) (passAt X′ b));
       bits = λ v w.
-          aimed-bits (o .lane) (o .within) (keep-bits (o .p) (pass-bits v a (omega arith)) (pass-bits w a (omega arith)))
+          aimed-bits (o .lane) (o .within)
+          (keep-bits (o .p) (pass-bits v a (omega arith)) (pass-bits w a (omega arith)))
           (keep-bits (o .q) (pass-bits v b (omega arith)) (pass-bits w b (omega arith)));
     }
 
@@ -163,28 +149,25 @@ operands-aimed o r u =
 
 -- ---- as a stage
 
-entry-share0 : (i : ℕ) → i < 25 * 1 → EqualAt LanesApart passes passes i
-unfolding passes
-entry-share0 i h = (
-  keepLanes (λ k. false),
-  λ s s′ r.
-      sameAt-left (silent-pass (s .s0) (s′ .s0) (λ k g. kept-lane (λ k. false) r k g .same) i h)
-      (λ a a′. coupled-map _ _ (λ b b′ u. u) (like-pass _ _)),
-)
-
-entry-share1 : (i : ℕ) → i < 25 * 1 → EqualAt LanesApart passes passes (25 * 1 + i)
-unfolding passes
-entry-share1 i h = (
-  keepLanes (λ k. true),
-  λ s s′ r.
-      sameAt-right (like-pass _ _)
-      (λ a a′ t. sameAt-map _ _ (silent-pass (s .s1) (s′ .s1) (λ k g. kept-lane (λ k. true) r k g .same) i h)),
-)
-
+-- an entry is equal where the lanes of its share are
 pub passes-stage : Stage LanesApart OperandsKept (25 * 1 + 25 * 1) passes passes
+unfolding passes
 passes-stage =
     record {
-      like = like-passes;
-      entry = cut (EqualAt LanesApart passes passes) (25 * 1) (25 * 1) entry-share0 entry-share1;
+      like = λ s s′. like-enterBoth 25 _ _ _ _;
+      entry =
+          cut (EqualAt LanesApart passes passes) (25 * 1) (25 * 1)
+          (λ i h. (
+            keepLanes (λ k. false),
+            λ s s′ r.
+                sameAt-share0 25 _ _ _ _
+                (same-lane (s .s0) (s′ .s0) (λ k g. kept-lane (λ k. false) r k g .same)) i h,
+          ))
+          (λ i h. (
+            keepLanes (λ k. true),
+            λ s s′ r.
+                sameAt-share1 25 _ _ _ _
+                (same-lane (s .s1) (s′ .s1) (λ k g. kept-lane (λ k. true) r k g .same)) i h,
+          ));
       fresh = λ o. (aimOperands o, λ s s′ r. coupled-weaken (λ t t′ u. operands-aimed o r u) (coupled-passes s s′));
     }

@@ -11,27 +11,32 @@ use Rattle.words.specs.WordLaws.{xor-bits, zero-bits}
 use Rattle.words.specs.Tab.{tab, length-tab, getD-tab}
 use Rattle.keccak.specs.KeccakP.{constant}
 use Rattle.keccak.specs.Constant.{constant-bits}
-use Rattle.keccak.specs.Pass.{LaneBits}
+use Rattle.keccak.specs.LinearPass.{LaneBits}
 use Rattle.worksheet.specs.declared.Shares.{Shares}
-use Rattle.worksheet.specs.Prog.{Prog, ret, enter, _>>=_, entry, loop, bind-assoc}
-use Rattle.worksheet.specs.Couple.{Coupled, ret-c, enter-c, Like, SameAt, here, coupled-weaken, coupled-bind, sameAt-recount, sameAt-left, sameAt-right}
+use Rattle.worksheet.specs.Prog.{Prog, ret, enter, _>>=_, entry, loop}
+use Rattle.worksheet.specs.ProgLaws.{bind-assoc}
+use Rattle.worksheet.specs.Couple.{Coupled, ret-c, enter-c, Like, SameAt, here, coupled-weaken, coupled-bind}
+use Rattle.worksheet.specs.Couple.{sameAt-recount, sameAt-left, sameAt-right}
 use Rattle.worksheet.specs.CoupleLoops.{coupled-loop}
 use Rattle.worksheet.specs.Places.{cut, turns}
+use Rattle.worksheet.specs.Pass.{enterBoth}
 use Rattle.worksheet.specs.Turns.{Turns}
 use Rattle.worksheet.specs.Stage.{EqualAt, Stage, andThen, loop-stage}
 use Rattle.worksheet.specs.Sharing.{shares, none}
 use Rattle.worksheet.specs.SharingLaws.{Apart, share-keep, xorPublic, apart-xorPublic}
 use Rattle.worksheet.specs.SharedList.{SharedList, sharedList, sharedAt, unzip}
-use Rattle.masked_keccak.specs.MaskedKeccak.{pass, chi, round, maskedKeccakP}
-use Rattle.masked_keccak.specs.Lanes.{LanesBoth, lane-bits, Differences, LanesApart, keepLanes, lanes-both}
+use Rattle.masked_keccak.specs.MaskedKeccak.{pass, maskedChi, maskedRound, maskedKeccakP}
+use Rattle.masked_keccak.specs.SharedLanes.{LanesBoth, lane-bits, Differences, LanesApart, keepLanes, lanes-both}
 use Rattle.masked_keccak.specs.PassSilence.{passes, both-passes, passes-stage, Operands, OperandsKept}
-use Rattle.masked_keccak.specs.ChiSilence.{chiAt, chiAt-bits, chiReadsFirst, chiReadsSecond, like-chi, coupled-chi, sameAt-chi}
+use Rattle.masked_keccak.specs.ChiSilence.{chiAt, chiAt-bits, chiReadsFirst, chiReadsSecond, like-chi}
+use Rattle.masked_keccak.specs.ChiSilence.{coupled-chi, sameAt-chi}
 
 -- ---- chi and iota
 
 -- the state with the lanes c, and k added to share 0 of lane 0
 abbrev pub withConstant : ℕ → List Shares → SharedList
-withConstant k c = let t = unzip 25 (λ j. getD c j none) in sharedList (set (t .s0) 0 (xor (getD c 0 none .s0) k)) (t .s1)
+withConstant k c =
+    let t = unzip 25 (λ j. getD c j none) in sharedList (set (t .s0) 0 (xor (getD c 0 none .s0) k)) (t .s1)
 
 iota : ℕ → List Shares → Prog SharedList
 iota i c = enter (xor (getD c 0 none .s0) (constant i)) (ret (withConstant (constant i) c))
@@ -43,7 +48,8 @@ withConstant-zero k c =
     ap₂ shares (getD-set-same (tab 25 (λ j. f j .s0)) 0 _ 0 (omega (arith, length-tab 25 (λ j. f j .s0))))
     (getD-tab 25 (λ j. f j .s1) 0 0 (omega arith))
 
-pub withConstant-suc : (k : ℕ) (c : List Shares) (i : ℕ) → suc i < 25 → sharedAt (withConstant k c) (suc i) ≡ getD c (suc i) none
+pub withConstant-suc : (k : ℕ) (c : List Shares) (i : ℕ) → suc i < 25
+    → sharedAt (withConstant k c) (suc i) ≡ getD c (suc i) none
 unfolding unzip
 withConstant-suc k c i h =
     let f : ℕ → Shares = λ j. getD c j none in
@@ -81,7 +87,7 @@ anyOperands = record { lane = 0; within = omega arith; p = false; q = false }
 
 module _ (i : ℕ) where
   abbrev nonlinear : SharedList → Prog SharedList
-  nonlinear t = chi t >>= iota i
+  nonlinear t = maskedChi t >>= iota i
 
   module _ {s s′ : SharedList} (r : LanesBoth s s′) where
     coupled-nonlinear : (d : Differences) → Coupled (LanesApart d) (25 * 11 + 1) (nonlinear s) (nonlinear s′)
@@ -89,7 +95,9 @@ module _ (i : ℕ) where
     coupled-nonlinear d =
         let Y = iotaAt (constant i) (chiAt (r .X)) in
         let Y′ = iotaAt (constant i) (chiAt (r .X′)) in
-        let b = d .bits (iotaAt-bits i (chiAt-bits (lane-bits (r .left)))) (iotaAt-bits i (chiAt-bits (lane-bits (r .right)))) in
+        let b =
+        d .bits (iotaAt-bits i (chiAt-bits (lane-bits (r .left))))
+        (iotaAt-bits i (chiAt-bits (lane-bits (r .right)))) in
         coupled-bind (coupled-chi (r .left) (r .right) b) (λ c c′ t.
         enter-c (ret-c (record { X = Y; X′ = Y′; at = apart-iota (constant-bits i) t })))
 
@@ -108,7 +116,8 @@ module _ (i : ℕ) where
             (turns (EqualAt OperandsKept nonlinear nonlinear) 25 11 (λ l j h g. (
               record { lane = l; within = h; p = chiReadsFirst j; q = chiReadsSecond j },
               λ s s′ r.
-                  sameAt-left (sameAt-chi (r .both .left) (r .both .right) l j h g (r .first) (r .second)) (like-iota i),
+                  sameAt-left (sameAt-chi (r .both .left) (r .both .right) l j h g (r .first) (r .second))
+                  (like-iota i),
             )))
             (λ j h. (anyOperands, λ s s′ r. sameAt-recount (omega arith) (last-nonlinear (r .both))));
         fresh = λ d. (anyOperands, λ s s′ r. coupled-nonlinear (r .both) d);
@@ -116,21 +125,21 @@ module _ (i : ℕ) where
 
   -- ---- a round
 
-  round-is : (s : SharedList) → passes s >>= nonlinear ≡ round i s
-  unfolding passes round iota entry _>>=_
+  round-is : (s : SharedList) → passes s >>= nonlinear ≡ maskedRound i s
+  unfolding passes enterBoth pass maskedRound iota entry _>>=_
   round-is s =
       bind-assoc (pass (s .s0)) (λ a. pass (s .s1) >>= λ b. ret (sharedList a b)) nonlinear
       ∙ ap (λ (f : List ℕ → Prog SharedList). pass (s .s0) >>= f)
       (fun-ext (λ a. bind-assoc (pass (s .s1)) (λ b. ret (sharedList a b)) nonlinear))
 
-  pub round-stage : Stage LanesApart LanesApart 326 (round i) (round i)
+  pub round-stage : Stage LanesApart LanesApart 326 (maskedRound i) (maskedRound i)
   round-stage =
       subst (λ (f : SharedList → Prog SharedList). Stage LanesApart LanesApart 326 f f) (fun-ext round-is)
       (andThen passes-stage nonlinear-stage)
 
   -- fresh, however the states before are related
   coupled-round : (s s′ : SharedList) → LanesBoth s s′ → (d : Differences)
-      → Coupled (LanesApart d) 326 (round i s) (round i s′)
+      → Coupled (LanesApart d) 326 (maskedRound i s) (maskedRound i s′)
   coupled-round s s′ r d =
       rw (← round-is s, ← round-is s′) (coupled-bind (both-passes s s′ r) (λ t t′ q. coupled-nonlinear q d))
 

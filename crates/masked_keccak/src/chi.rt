@@ -4,8 +4,8 @@ ghost use lib.ListN.{length};
 ghost use Rattle.worksheet.specs.Prog.{word};
 ghost use Rattle.worksheet.specs.Ran.{MakesWith, Draws};
 ghost use Rattle.worksheet.specs.SharedList.{zip};
-ghost use Rattle.masked_keccak.specs.MaskedKeccak.{chiLane, chi as chiOf};
-ghost use Rattle.masked_keccak.specs.Rows.{sharedState, sharedRow, chiRow};
+ghost use Rattle.masked_keccak.specs.MaskedKeccak.{chiLane, maskedChi};
+ghost use Rattle.masked_keccak.specs.SharedRows.{sharedState, sharedRow, maskedChiRow};
 use keccak::row::Row;
 use keccak::state::State;
 use keccak::state::row_at;
@@ -35,7 +35,10 @@ pub struct EnteredRows {
 // A row of each share, with five masks.
 fn chi_row(rec: Recorder, x: Row, y: Row, ws: &[u64]) -> EnteredRows
     requires { ⌜ 5 ≤ length (now ws) ⌝ }
-    ensures { λ o. ⌜ Draws word 5 (chiRow (sharedRow x y)) rec (now (ws .entry)) (zip 5 (sharedRow (o .s0) (o .s1))) (o .rec) ⌝ }
+    ensures { λ o. ⌜
+        Draws word 5 (maskedChiRow (sharedRow x y)) rec (now (ws .entry))
+        (zip 5 (sharedRow (o .s0) (o .s1))) (o .rec)
+        ⌝ }
 {
     let a = Shares { s0: x.a, s1: y.a };
     let b = Shares { s0: x.b, s1: y.b };
@@ -76,7 +79,10 @@ pub struct EnteredStates {
 // With 25 masks.
 pub(crate) fn chi(rec: Recorder, a: State, b: State, ws: &[u64]) -> EnteredStates
     requires { ⌜ 25 ≤ length (now ws) ⌝ }
-    ensures { λ o. ⌜ Draws word 25 (chiOf (sharedState a b)) rec (now (ws .entry)) (zip 25 (sharedState (o .s0) (o .s1))) (o .rec) ⌝ }
+    ensures { λ o. ⌜
+        Draws word 25 (maskedChi (sharedState a b)) rec (now (ws .entry))
+        (zip 25 (sharedState (o .s0) (o .s1))) (o .rec)
+        ⌝ }
 {
     let ws1 = &ws[5..];
     let ws2 = &ws[10..];

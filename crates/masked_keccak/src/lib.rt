@@ -5,8 +5,8 @@ ghost use lib.ListN.{length};
 ghost use Rattle.keccak.specs.KeccakP.{constant};
 ghost use Rattle.worksheet.specs.Prog.{word};
 ghost use Rattle.worksheet.specs.Ran.{Draws};
-ghost use Rattle.masked_keccak.specs.MaskedKeccak.{round as roundOf, maskedKeccakP};
-ghost use Rattle.masked_keccak.specs.Rows.{sharedState};
+ghost use Rattle.masked_keccak.specs.MaskedKeccak.{maskedRound, maskedKeccakP};
+ghost use Rattle.masked_keccak.specs.SharedRows.{sharedState};
 use crate::chi::EnteredStates;
 use crate::chi::chi;
 use crate::pass::enter_lanes;
@@ -22,7 +22,10 @@ pub mod pass; // theta, rho and pi on one share
 // Round i, with its constant k and 25 masks.
 fn round(rec: Recorder, a: State, b: State, ws: &[u64], i: usize, k: u64) -> EnteredStates
     requires { ⌜ (25 ≤ length (now ws)) × (k ≡ constant i) ⌝ }
-    ensures { λ o. ⌜ Draws word 25 (roundOf i (sharedState a b)) rec (now (ws .entry)) (sharedState (o .s0) (o .s1)) (o .rec) ⌝ }
+    ensures { λ o. ⌜
+        Draws word 25 (maskedRound i (sharedState a b)) rec (now (ws .entry))
+        (sharedState (o .s0) (o .s1)) (o .rec)
+        ⌝ }
 {
     let p = pass(a);
     let q = pass(b);
@@ -44,7 +47,10 @@ fn round(rec: Recorder, a: State, b: State, ws: &[u64], i: usize, k: u64) -> Ent
 // The permutation of the state with the shares a and b, with 600 masks.
 pub fn permute(rec: Recorder, a: State, b: State, ws: &[u64]) -> EnteredStates
     requires { ⌜ 600 ≤ length (now ws) ⌝ }
-    ensures { λ o. ⌜ Draws word 600 (maskedKeccakP (sharedState a b)) rec (now (ws .entry)) (sharedState (o .s0) (o .s1)) (o .rec) ⌝ }
+    ensures { λ o. ⌜
+        Draws word 600 (maskedKeccakP (sharedState a b)) rec (now (ws .entry))
+        (sharedState (o .s0) (o .s1)) (o .rec)
+        ⌝ }
 {
     let mut rec = rec;
     let mut s = a;

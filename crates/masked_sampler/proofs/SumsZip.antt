@@ -1,4 +1,4 @@
--- Sums of one share of sharings that are kept in two arrays.
+-- Sums of one share of sharings that are kept in two arrays are sums of that array: they read its first terms only.
 use Prim.Native.Nat.{ℕ, _<_}
 use mathlib.Core.Path.{_≡_, ap}
 use mathlib.Core.List.{List}

@@ -47,3 +47,10 @@ sampler eta b = do
   s0 ← sums (2 * eta - 1) (λ j. getD z j none .s0)
   s1 ← sums (2 * eta - 1) (λ j. getD z j none .s1)
   ret (shares s0 s1)
+
+-- its entries and mask coefficients: four and one for a conversion, one for a sum
+unfoldable pub samplerEntries : ℕ → ℕ
+samplerEntries eta = 2 * eta * 4 + ((2 * eta - 1) * 1 + (2 * eta - 1) * 1)
+
+unfoldable pub samplerCoeffs : ℕ → ℕ
+samplerCoeffs eta = 2 * eta

@@ -1,5 +1,5 @@
--- Couplings of bit to coefficient: every entry can be made equal, whatever the bits are, and the result set apart by any
--- difference.
+-- Couplings of bit to coefficient: every entry can be made equal, whatever the bits are, and the result set apart by
+-- any difference.
 use Prim.Native.Nat.{ℕ, zero, suc, _+_, _-_, _*_, _%_, _<_}
 use mathlib.Core.Path.{_≡_, refl, sym, ap, _∙_}
 use mathlib.Core.Bool.{Bool}
@@ -69,7 +69,8 @@ coupled-bitToCoeff w b b′ d =
 pub coupled-bitToCoeff-share : (c : Bool) (w : ℕ) (b b′ : Shares)
     → Coupled (λ z z′. share c z ≡ share c z′) 4 (bitToCoeff w b) (bitToCoeff w b′)
 coupled-bitToCoeff-share c w b b′ =
-    coupled-weaken (λ z z′ a. share-coeffKeep c a) (coupled-bitToCoeff w b b′ (coeffKeep q c (coeffOf w b % q) (coeffOf w b′ % q)))
+    coupled-weaken (λ z z′ a. share-coeffKeep c a)
+    (coupled-bitToCoeff w b b′ (coeffKeep q c (coeffOf w b % q) (coeffOf w b′ % q)))
 
 pub silent-bitToCoeff : (w : ℕ) (b b′ : Shares) → Silent 4 (bitToCoeff w b) (bitToCoeff w b′)
 unfolding bitToCoeff mask entry _>>=_ byAdding identity coeffOf

@@ -1,5 +1,5 @@
--- Polynomials whose coefficients are made one by one with masks of their own, as stages: nothing is asked of the bits that they
--- are made from, and either share can be kept.
+-- Polynomials whose coefficients are made one by one with masks of their own, as stages: nothing is asked of the bits
+-- that they are made from, and either share can be kept.
 use Prim.Native.Nat.{ℕ, _*_, _<_}
 use mathlib.Core.Path.{_≡_}
 use mathlib.Core.Bool.{Bool}
@@ -13,9 +13,9 @@ use Rattle.worksheet.specs.Sharing.{none}
 use Rattle.worksheet.specs.SharingLaws.{share}
 use Rattle.worksheet.specs.SharedList.{SharedList, unzip}
 use Rattle.worksheet.specs.Choice.{SameShare, sameShare-unzip}
-use Rattle.masked_sampler.specs.Coefficient.{bitToCoeff, sampler}
+use Rattle.masked_sampler.specs.Coefficient.{bitToCoeff, sampler, samplerEntries}
 use Rattle.masked_sampler.specs.CoefficientSilence.{like-bitToCoeff, silent-bitToCoeff, coupled-bitToCoeff-share}
-use Rattle.masked_sampler.specs.SamplerSilence.{samplerEntries, like-sampler, silent-sampler, coupled-sampler-share}
+use Rattle.masked_sampler.specs.SamplerSilence.{like-sampler, silent-sampler, coupled-sampler-share}
 
 -- n coefficients in two shares
 abbrev pub polynomial : ℕ → (ℕ → Prog Shares) → Prog SharedList
@@ -56,7 +56,8 @@ bitsToCoeffs-stage n w =
 abbrev pub samples : ℕ → ℕ → (ℕ → ℕ → Shares) → Prog SharedList
 samples n eta b = polynomial n (λ i. sampler eta (b i))
 
-pub samples-stage : (n eta : ℕ) → 0 < eta → Stage Anything SameShare (n * samplerEntries eta) (samples n eta) (samples n eta)
+pub samples-stage : (n eta : ℕ) → 0 < eta
+    → Stage Anything SameShare (n * samplerEntries eta) (samples n eta) (samples n eta)
 samples-stage n eta pos =
     polynomial-stage n (λ b b′ i. like-sampler eta (b i) (b′ i)) (λ b b′ i. silent-sampler eta (b i) (b′ i) pos)
     (λ c b b′ i. coupled-sampler-share eta (b i) (b′ i) pos c)

@@ -15,12 +15,13 @@ use Rattle.codec.specs.Bytes.{bitsOf}
 use Rattle.codec.specs.BytesLaws.{length-bitsOf}
 use Rattle.codec.specs.Sample.{sum, samplePolyCbd}
 use Rattle.worksheet.specs.declared.Shares.{Shares}
-use Rattle.worksheet.specs.Prog.{entry, loop-cong, times-cong}
+use Rattle.worksheet.specs.Prog.{entry}
+use Rattle.worksheet.specs.ProgLaws.{loop-cong, times-cong}
 use Rattle.worksheet.specs.Uses.{Uses, ret-u, enter-u, uses-bind, uses-map, uses-loop, uses-times, uses-recount}
 use Rattle.worksheet.specs.Gives.{Gives, ret-g, enter-g, gives-bind, gives-loop, gives-times}
 use Rattle.worksheet.specs.Sharing.{shares, joined, none}
 use Rattle.worksheet.specs.CoeffSharing.{CoeffSharing, coeffSharing-addShares}
-use Rattle.masked_sampler.specs.Coefficient.{bitToCoeff, sums, weight, sampler}
+use Rattle.masked_sampler.specs.Coefficient.{bitToCoeff, sums, weight, sampler, samplerEntries, samplerCoeffs}
 use Rattle.masked_sampler.specs.CoefficientLaws.{uses-bitToCoeff, gives-bitToCoeff}
 
 pub weight-lt : (eta j : ℕ) → j < eta → weight eta j ≡ 1
@@ -48,7 +49,8 @@ uses-sums n x = uses-loop n (x 0) (λ j s. enter-u ret-u)
 
 gives-sums : (n : ℕ) (x : ℕ → ℕ) → Gives (λ s. s ≡ sumTo x n) (sums n x)
 unfolding sums entry sumTo
-gives-sums n x = gives-loop (λ j s. s ≡ sumTo x j) n (λ j h s e. enter-g (ret-g (ap (λ (t : ℕ). (t + x (j + 1)) % q) e))) refl
+gives-sums n x =
+    gives-loop (λ j s. s ≡ sumTo x j) n (λ j h s e. enter-g (ret-g (ap (λ (t : ℕ). (t + x (j + 1)) % q) e))) refl
 
 coeffSharing-sumTo : (X : ℕ → ℕ) (z : ℕ → Shares) (n : ℕ) → ((j : ℕ) → j < suc n → CoeffSharing q (X j) (z j))
     → CoeffSharing q (sumTo X n) (shares (sumTo (λ j. z j .s0) n) (sumTo (λ j. z j .s1) n))
@@ -84,8 +86,8 @@ sumTo-mod x (suc n) =
 
 -- ---- the sampler
 
-pub uses-sampler : (eta : ℕ) (b : ℕ → Shares) → Uses (8 * eta + 2 * (2 * eta - 1)) 0 (2 * eta) (sampler eta b)
-unfolding sampler
+pub uses-sampler : (eta : ℕ) (b : ℕ → Shares) → Uses (samplerEntries eta) 0 (samplerCoeffs eta) (sampler eta b)
+unfolding sampler samplerEntries samplerCoeffs
 uses-sampler eta b =
     uses-recount (omega arith) (omega arith) (omega arith)
     (uses-bind (uses-times (2 * eta) (λ j. uses-bitToCoeff (weight eta j) (b j))) (λ z.
@@ -107,7 +109,8 @@ sum-weighted eta x =
     let e : 2 * eta ≡ eta + eta = omega arith in
     let y : ℕ → ℕ = λ j. x (eta + j) in
     ap (λ (t : ℕ). t % q)
-    (rw (e, tab-add eta eta (λ j. x j * weight eta j)) (sum-append (tab eta (λ j. x j * weight eta j)) (tab eta (λ j. y j * weight eta (eta + j))))
+    (rw (e, tab-add eta eta (λ j. x j * weight eta j))
+    (sum-append (tab eta (λ j. x j * weight eta j)) (tab eta (λ j. y j * weight eta (eta + j))))
     ∙ ap₂ (λ (s t : List ℕ). sum s + sum t)
     (tab-cong eta (λ j h. ap (λ (w : ℕ). x j * w) (weight-lt eta j h)))
     (tab-cong eta (λ j h. ap (λ (w : ℕ). y j * w) (weight-ge eta (eta + j) (omega arith))))

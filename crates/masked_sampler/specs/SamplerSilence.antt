@@ -1,4 +1,5 @@
--- Couplings of the sampler: every entry can be made equal, whatever the bits are, and the result set apart by any difference.
+-- Couplings of the sampler: every entry can be made equal, whatever the bits are, and the result set apart by any
+-- difference.
 use Prim.Native.Nat.{ℕ, zero, suc, _+_, _-_, _*_, _%_, _<_}
 use mathlib.Core.Path.{_≡_, refl, ap, ap₂}
 use mathlib.Core.Bool.{Bool, true, false, cond}
@@ -9,14 +10,16 @@ use lib.ListN.{getD}
 use Rattle.words.specs.Residue.{q}
 use Rattle.worksheet.specs.declared.Shares.{Shares}
 use Rattle.worksheet.specs.Prog.{Prog, ret, _>>=_, entry, times}
-use Rattle.worksheet.specs.Couple.{Coupled, ret-c, enter-c, Like, Silent, SameAt, here, coupled-weaken, coupled-bind, coupled-map, sameAt-left, sameAt-right, sameAt-map}
+use Rattle.worksheet.specs.Couple.{Coupled, ret-c, enter-c, coupled-weaken, coupled-bind, coupled-map}
+use Rattle.worksheet.specs.Couple.{Like, Silent, SameAt, here, sameAt-left, sameAt-right, sameAt-map}
 use Rattle.worksheet.specs.CoupleLoops.{coupled-loop, like-loop, silent-loop, coupled-times, like-times, silent-times}
 use Rattle.worksheet.specs.Places.{cut}
 use Rattle.worksheet.specs.Turns.{Turns}
 use Rattle.worksheet.specs.Sharing.{shares, none}
 use Rattle.worksheet.specs.SharingLaws.{share}
-use Rattle.worksheet.specs.CoeffSharing.{CoeffApart, coeffApart-cong, coeffApart-addShares, coeffKeep, coeffKeep-lt, share-coeffKeep}
-use Rattle.masked_sampler.specs.Coefficient.{bitToCoeff, sums, weight, sampler}
+use Rattle.worksheet.specs.CoeffSharing.{CoeffApart, coeffApart-cong, coeffApart-addShares}
+use Rattle.worksheet.specs.CoeffSharing.{coeffKeep, coeffKeep-lt, share-coeffKeep}
+use Rattle.masked_sampler.specs.Coefficient.{bitToCoeff, sums, weight, sampler, samplerEntries}
 use Rattle.masked_sampler.specs.CoefficientLaws.{coeffOf}
 use Rattle.masked_sampler.specs.SamplerLaws.{sumTo}
 use Rattle.masked_sampler.specs.CoefficientSilence.{like-bitToCoeff, coupled-bitToCoeff, silent-bitToCoeff}
@@ -54,7 +57,8 @@ module _ (n : ℕ) (x x′ : ℕ → ℕ) where
       next : (j : ℕ) → j < n → {s s′ : ℕ} → s ≡ s′ → (s + x (j + 1)) % q ≡ (s′ + x′ (j + 1)) % q
       next j h r = ap₂ (λ (t u : ℕ). (t + u) % q) r (e (j + 1) (omega arith))
 
-      go : (j : ℕ) → j < n → (s s′ : ℕ) → s ≡ s′ → Silent 1 (entry ((s + x (j + 1)) % q)) (entry ((s′ + x′ (j + 1)) % q))
+      go : (j : ℕ) → j < n → (s s′ : ℕ) → s ≡ s′
+          → Silent 1 (entry ((s + x (j + 1)) % q)) (entry ((s′ + x′ (j + 1)) % q))
       go j h s s′ r zero g = here (next j h r) (ret-c tt)
       go j h s s′ r (suc i) g = absurd (omega arith)
 
@@ -72,9 +76,6 @@ coeffApart-sumTo d X X′ z z′ (suc n) r =
 -- what the result is a sharing of
 abbrev pub samplerOf : ℕ → (ℕ → Shares) → ℕ
 samplerOf eta b = sumTo (λ j. coeffOf (weight eta j) (b j) % q) (2 * eta - 1)
-
-abbrev pub samplerEntries : ℕ → ℕ
-samplerEntries eta = 2 * eta * 4 + ((2 * eta - 1) * 1 + (2 * eta - 1) * 1)
 
 -- the difference d in one summand
 abbrev inFirst : ℕ → ℕ → ℕ
@@ -106,14 +107,15 @@ module _ (eta : ℕ) (b b′ : ℕ → Shares) where
   like-rest z z′ = coupled-bind (like-sums _ _ _) (λ s s′ t. coupled-map _ _ (λ u u′ v. v) (like-sums _ _ _))
 
   pub like-sampler : Like (samplerEntries eta) (sampler eta b) (sampler eta b′)
-  unfolding sampler
+  unfolding sampler samplerEntries
   like-sampler = coupled-bind (like-times (2 * eta) (λ j h. like-bitToCoeff _ _ _)) (λ z z′ t. like-rest z z′)
 
   module _ (pos : 0 < eta) where
     -- the result is fresh
     pub coupled-sampler : {d : ℕ} → d < q
-        → Coupled (CoeffApart q d (samplerOf eta b) (samplerOf eta b′)) (samplerEntries eta) (sampler eta b) (sampler eta b′)
-    unfolding sampler
+        → Coupled (CoeffApart q d (samplerOf eta b) (samplerOf eta b′)) (samplerEntries eta)
+        (sampler eta b) (sampler eta b′)
+    unfolding sampler samplerEntries
     coupled-sampler {d} h =
         coupled-bind (converted (inFirst d)) (λ z z′ r.
         coupled-bind (coupled-sums _ _ _) (λ s s′ t.
@@ -136,10 +138,12 @@ module _ (eta : ℕ) (b b′ : ℕ → Shares) where
         coupled-weaken (λ z z′ a. share-coeffKeep c a)
         (coupled-sampler (coeffKeep-lt c (samplerOf eta b) (samplerOf eta b′) (omega arith)))
 
-    silent-rest : (c : Bool) (z z′ : List Shares) → ((j : ℕ) → j < 2 * eta → share c (getD z j none) ≡ share c (getD z′ j none))
+    silent-rest : (c : Bool) (z z′ : List Shares)
+        → ((j : ℕ) → j < 2 * eta → share c (getD z j none) ≡ share c (getD z′ j none))
         → (i : ℕ) → i < (2 * eta - 1) * 1 → SameAt (cond c ((2 * eta - 1) * 1 + i) i) (rest z) (rest z′)
     silent-rest false z z′ e i h =
-        sameAt-left (silent-sums _ _ _ (λ j g. e j (omega arith)) i h) (λ s s′. coupled-map _ _ (λ u u′ v. v) (like-sums _ _ _))
+        sameAt-left (silent-sums _ _ _ (λ j g. e j (omega arith)) i h)
+        (λ s s′. coupled-map _ _ (λ u u′ v. v) (like-sums _ _ _))
     silent-rest true z z′ e i h =
         sameAt-right (like-sums _ _ _) (λ s s′ t. sameAt-map _ _ (silent-sums _ _ _ (λ j g. e j (omega arith)) i h))
 
@@ -147,11 +151,13 @@ module _ (eta : ℕ) (b b′ : ℕ → Shares) where
     kept c j = coeffKeep q c (coeffOf (weight eta j) (b j) % q) (coeffOf (weight eta j) (b′ j) % q)
 
     pub silent-sampler : Silent (samplerEntries eta) (sampler eta b) (sampler eta b′)
-    unfolding sampler
+    unfolding sampler samplerEntries
     silent-sampler =
         cut At (2 * eta * 4) ((2 * eta - 1) * 1 + (2 * eta - 1) * 1)
-        (λ i h. sameAt-left (silent-times (2 * eta) (λ j g. like-bitToCoeff _ _ _) (λ j g. silent-bitToCoeff _ _ _) i h) like-rest)
-        (cut (λ i. At (2 * eta * 4 + i)) ((2 * eta - 1) * 1) ((2 * eta - 1) * 1) (λ i h. go false i h) (λ i h. go true i h))
+        (λ i h. sameAt-left
+        (silent-times (2 * eta) (λ j g. like-bitToCoeff _ _ _) (λ j g. silent-bitToCoeff _ _ _) i h) like-rest)
+        (cut (λ i. At (2 * eta * 4 + i)) ((2 * eta - 1) * 1) ((2 * eta - 1) * 1)
+        (λ i h. go false i h) (λ i h. go true i h))
       where
         At : ℕ → Type 0
         At i = SameAt i (sampler eta b) (sampler eta b′)

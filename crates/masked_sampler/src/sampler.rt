@@ -35,7 +35,10 @@ fn weight(eta: usize, j: usize) -> u16
 
 fn convert_bits(rec: Recorder, eta: usize, b: Shares, cs: &[u16]) -> EnteredTerms
     requires { ⌜ (eta ≤ 3) × (2 * eta ≤ length (now cs)) × Below q (now cs) ⌝ }
-    ensures { λ r. ⌜ Draws coeff (2 * eta) (conversions eta (bitOf b)) rec (now (cs .entry)) (zip (2 * eta) (sharedList (r .s0) (r .s1))) (r .rec) ⌝ }
+    ensures { λ r. ⌜
+        Draws coeff (2 * eta) (conversions eta (bitOf b)) rec (now (cs .entry))
+        (zip (2 * eta) (sharedList (r .s0) (r .s1))) (r .rec)
+        ⌝ }
 {
     let mut rec = rec;
     let mut s0 = [0u16; 6];
@@ -66,7 +69,10 @@ fn sum_terms(rec: Recorder, n: usize, x: [u16; 6]) -> EnteredCoeff
 
 pub fn sampler(rec: Recorder, eta: usize, b: Shares, cs: &[u16]) -> EnteredCoeffs
     requires { ⌜ (0 < eta) × (eta ≤ 3) × (2 * eta ≤ length (now cs)) × Below q (now cs) ⌝ }
-    ensures { λ r. ⌜ Draws coeff (2 * eta) (Coefficient.sampler eta (bitOf b)) rec (now (cs .entry)) (shares (r .s0) (r .s1)) (r .rec) ⌝ }
+    ensures { λ r. ⌜
+        Draws coeff (2 * eta) (Coefficient.sampler eta (bitOf b)) rec (now (cs .entry))
+        (shares (r .s0) (r .s1)) (r .rec)
+        ⌝ }
 {
     let n = 2 * eta - 1;
     let z = convert_bits(rec, eta, b, cs);

@@ -1,5 +1,6 @@
 -- The second shares of the secret, as the difference of two polynomials.
-use mathlib.Core.Path.{_≡_, ap, _∙_}
+use mathlib.Core.Path.{_≡_, sym, ap, _∙_}
+use mathlib.Core.Bool.{true}
 use mathlib.Core.List.{List}
 use Prim.Native.Nat.{ℕ}
 use native.Mathlib.Omega.{arith}
@@ -10,10 +11,19 @@ use Rattle.words.specs.Tab.{tab, tab-cong}
 use Rattle.ring.specs.Polynomial.{minus, sub}
 use Rattle.kpke.specs.Parameters.{mlKem768}
 use Rattle.kpke.specs.KPke.{coefficients}
+use Rattle.mlkem.specs.Reduced.{reduced}
+use Rattle.mlkem.specs.ReducedLaws.{reduced-below}
 use Rattle.mlkem.specs.Calls.{secondCoeffs}
 
-pub sub-secondCoeffs : (dk a : List ℕ) → length (coefficients 3 (take 1152 dk)) ≡ 768 → Below q a → sub (coefficients 3 (take 1152 dk)) a ≡ secondCoeffs mlKem768 dk a
+sub-secondCoeffs : (dk a : List ℕ) → length (coefficients 3 (take 1152 dk)) ≡ 768 → Below q a
+    → sub (coefficients 3 (take 1152 dk)) a ≡ secondCoeffs mlKem768 dk a
 unfolding sub secondCoeffs
 sub-secondCoeffs dk a h b =
     let s = coefficients 3 (take 1152 dk) in
     ap (λ (n : ℕ). tab n (λ i. minus (getD s i 0) (getD a i 0))) h ∙ tab-cong 768 (λ i g. omega (arith, b .at i))
+
+-- for the key's coefficients s and masks a that were tested
+pub secondCoeffs-of : (dk a : List ℕ) {s s1 : List ℕ} → s ≡ coefficients 3 (take 1152 dk) → length s ≡ 768
+    → reduced a ≡ true → s1 ≡ sub s a → s1 ≡ secondCoeffs mlKem768 dk a
+secondCoeffs-of dk a {s} es h r e =
+    e ∙ ap (λ (l : List ℕ). sub l a) es ∙ sub-secondCoeffs dk a (sym (ap length es) ∙ h) (reduced-below a r)

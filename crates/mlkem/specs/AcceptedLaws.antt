@@ -1,11 +1,12 @@
--- Import answers done for accepted keys alone, and the shares that it makes join to the key.
+-- Import answers done for accepted keys alone, and for each of them where its other arguments are in order; the
+-- shares that it makes join to the key.
 use mathlib.Core.Path.{_≡_, ap, _∙_}
 use mathlib.Core.Bool.{true}
 use mathlib.Core.List.{List, [], _++_}
 use Prim.Native.Nat.{ℕ, _+_, _*_, _-_, _%_, _<_}
 use native.Mathlib.Nat.{add-comm}
 use native.Mathlib.Omega.{arith}
-use lib.ListN.{length, getD, take}
+use lib.ListN.{getD, take}
 use Rattle.words.specs.Word.{xor}
 use Rattle.words.specs.WordLaws.{xor-comm, xor-xor-cancel}
 use Rattle.words.specs.Residue.{q}
@@ -13,53 +14,65 @@ use Rattle.words.specs.ResidueLaws.{sub-add-mod}
 use Rattle.words.specs.Bounded.{Below}
 use Rattle.words.specs.Tab.{getD-tab}
 use Rattle.fips202.specs.Sponge.{laneOf}
-use Rattle.mlkem.specs.declared.Answer.the-variants.{Done, WrongLength, PublicKeyRange, WrongHash, SecretRange, MaskRange}
-use Rattle.kpke.specs.Parameters.{Parameters, vectorBytes, ekBytes}
+use Rattle.refusals.specs.declared.Answer.the-variants.{
+  Done,
+  WrongLength,
+  PublicKeyRange,
+  WrongHash,
+  SecretRange,
+  MaskRange,
+}
+use Rattle.kpke.specs.Parameters.{Parameters, vectorBytes}
 use Rattle.kpke.specs.Functions.{H}
-use Rattle.mlkem.specs.MlKem.{same, secretPart, publicPart, hashPart, zPart}
-use Rattle.mlkem.specs.Refusals.{number, Row, answer, reduced}
-use Rattle.mlkem.specs.RefusalLaws.{passed, no-row, done-passed, sized-exact, exact-sized}
-use Rattle.mlkem.specs.TestLaws.{reduced-below}
+use Rattle.refusals.specs.Same.{same}
+use Rattle.mlkem.specs.MlKem.{secretPart, publicPart, hashPart, zPart}
+use Rattle.refusals.specs.Refusals.{number, Row, answer}
+use Rattle.mlkem.specs.Reduced.{reduced}
+use Rattle.refusals.specs.RefusalLaws.{passed, no-row, done-passed, sized-exact}
+use Rattle.mlkem.specs.ReducedLaws.{reduced-below}
 use Rattle.kpke.specs.KPke.{coefficients}
-use Rattle.mlkem.specs.Calls.{keyRows, importAnswer, Accepted, secondCoeffs, secondWords}
+use Rattle.mlkem.specs.Calls.{keyRows, importAnswer, ImportSized, Accepted, secondCoeffs, secondWords}
+use Rattle.mlkem.specs.CallLaws.{import-answer}
 
 module _ (p : Parameters) where
-  -- the tests of rows 2 to 4
-  record Tested (dk : List ℕ) : Type 0 where
+  -- rows 2 to 4 don't apply
+  record KeyRowsPassed (dk : List ℕ) : Type 0 where
     public : reduced (coefficients (p .k) (take (vectorBytes p) (publicPart p dk))) ≡ true
     hash : same (hashPart p dk) (H (publicPart p dk)) ≡ true
     secret : reduced (coefficients (p .k) (secretPart p dk)) ≡ true
 
-  tested : (dk : List ℕ) (rs : List Row) → answer (keyRows p dk ++ rs) ≡ Done → Tested dk
+  key-rows-passed : (dk : List ℕ) (rs : List Row) → answer (keyRows p dk ++ rs) ≡ Done → KeyRowsPassed dk
   unfolding keyRows
-  tested dk rs h =
-      let n : (0 < number PublicKeyRange) × (0 < number WrongHash) × (0 < number SecretRange) = (omega arith, omega arith, omega arith) in
+  key-rows-passed dk rs h =
+      let n : (0 < number PublicKeyRange) × (0 < number WrongHash) × (0 < number SecretRange) =
+      (omega arith, omega arith, omega arith) in
       let e = done-passed _ PublicKeyRange _ (n .0) h in
       let f = done-passed _ WrongHash _ (n .1) (e .1) in
       let g = done-passed _ SecretRange rs (n .2) (f .1) in
       record { public = e .0; hash = f .0; secret = g .0 }
 
-  rows-passed : {dk : List ℕ} (rs : List Row) → Tested dk → answer rs ≡ Done → answer (keyRows p dk ++ rs) ≡ Done
+  rows-passed : {dk : List ℕ} (rs : List Row) → KeyRowsPassed dk → answer rs ≡ Done → answer (keyRows p dk ++ rs) ≡ Done
   unfolding keyRows
-  rows-passed rs t h = passed PublicKeyRange _ (t .public) (passed WrongHash _ (t .hash) (passed SecretRange rs (t .secret) h))
+  rows-passed rs t h =
+      passed PublicKeyRange _ (t .public) (passed WrongHash _ (t .hash) (passed SecretRange rs (t .secret) h))
 
   module _ (dk a w s0 s1 z0 z1 h : List ℕ) where
     pub import-accepted : importAnswer p dk a w s0 s1 z0 z1 h ≡ Done → Accepted p dk
     unfolding importAnswer keyRows
     import-accepted e =
         let f = done-passed _ WrongLength _ (omega arith) e in
-        record { long = sized-exact _ (f .0) .0; rows = rows-passed [] (tested dk _ (f .1)) no-row }
+        record { long = sized-exact _ (f .0) .0; rows = rows-passed [] (key-rows-passed dk _ (f .1)) no-row }
 
-    pub accepted-import : Accepted p dk → length a ≡ 256 * p .k → length w ≡ 4 → length s0 ≡ 256 * p .k → length s1 ≡ 256 * p .k → length z0 ≡ 4
-        → length z1 ≡ 4 → length h ≡ ekBytes p + 32 → reduced a ≡ true → importAnswer p dk a w s0 s1 z0 z1 h ≡ Done
-    unfolding importAnswer keyRows
-    accepted-import x e₂ e₃ e₄ e₅ e₆ e₇ e₈ r =
-        passed WrongLength _ (exact-sized _ (x .long, (e₂, (e₃, (e₄, (e₅, (e₆, (e₇, (e₈, tt)))))))))
-        (rows-passed _ (tested dk [] (x .rows)) (passed MaskRange [] r no-row))
+    pub accepted-import : Accepted p dk → ImportSized p dk a w s0 s1 z0 z1 h → reduced a ≡ true
+        → importAnswer p dk a w s0 s1 z0 z1 h ≡ Done
+    unfolding keyRows
+    accepted-import x s r =
+        import-answer p Done s (rows-passed _ (key-rows-passed dk [] (x .rows)) (passed MaskRange [] r no-row))
 
   pub accepted-secret : {dk : List ℕ} → Accepted p dk → Below q (coefficients (p .k) (secretPart p dk))
   unfolding keyRows
-  accepted-secret {dk} x = reduced-below (coefficients (p .k) (secretPart p dk)) (tested dk [] (x .rows) .secret)
+  accepted-secret {dk} x =
+      reduced-below (coefficients (p .k) (secretPart p dk)) (key-rows-passed dk [] (x .rows) .secret)
 
   -- the split of an accepted key joins to it
   pub join-coefficients : {dk : List ℕ} (a : List ℕ) (i : ℕ) → Accepted p dk → Below q a → i < 256 * p .k
@@ -72,7 +85,8 @@ module _ (p : Parameters) where
       ∙ ap (λ (n : ℕ). n % q) (add-comm (getD a i 0) ((getD s i 0 + (q - getD a i 0)) % q))
       ∙ sub-add-mod (getD s i 0) (getD a i 0) q (m .at i) (omega (arith, b .at i))
 
-  pub join-words : (dk w : List ℕ) (i : ℕ) → i < 4 → xor (getD w i 0) (getD (secondWords p dk w) i 0) ≡ laneOf (zPart p dk) i
+  pub join-words : (dk w : List ℕ) (i : ℕ) → i < 4
+      → xor (getD w i 0) (getD (secondWords p dk w) i 0) ≡ laneOf (zPart p dk) i
   unfolding secondWords
   join-words dk w i h =
       ap (xor (getD w i 0)) (getD-tab 4 (λ i. xor (laneOf (zPart p dk) i) (getD w i 0)) i 0 h)

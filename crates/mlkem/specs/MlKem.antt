@@ -1,29 +1,22 @@
 -- FIPS 203, section 6: ML-KEM's internal algorithms.
-use mathlib.Core.Bool.{Bool, true, false, cond, _&&_}
-use mathlib.Core.List.{List, [], _∷_, _++_}
+use mathlib.Core.Bool.{cond}
+use mathlib.Core.List.{List, _++_}
 use Prim.Native.Nat.{ℕ, _+_}
-use lib.Dec.{eqb}
 use lib.ListN.{take, drop}
+use Rattle.refusals.specs.Same.{same}
 use Rattle.kpke.specs.Parameters.{Parameters, vectorBytes, ekBytes}
 use Rattle.kpke.specs.Functions.{H, J, G₁, G₂}
 use Rattle.kpke.specs.KPke.{ekPke, dkPke, encrypt, decrypt}
 
--- two strings are equal
-unfoldable pub same : List ℕ → List ℕ → Bool
-same [] [] = true
-same [] (y ∷ l) = false
-same (x ∷ k) [] = false
-same (x ∷ k) (y ∷ l) = eqb x y && same k l
-
 module _ (p : Parameters) where
-  -- Algorithm 16, ML-KEM.KeyGen_internal(d, z)
+  -- Algorithm 16, ML-KEM.KeyGen_internal(d, z): ek and dk
   unfoldable pub keyGenEk : List ℕ → List ℕ
   keyGenEk d = ekPke p d
 
   unfoldable pub keyGenDk : List ℕ → List ℕ → List ℕ
   keyGenDk d z = dkPke p d ++ (keyGenEk d ++ (H (keyGenEk d) ++ z))
 
-  -- Algorithm 17, ML-KEM.Encaps_internal(ek, m)
+  -- Algorithm 17, ML-KEM.Encaps_internal(ek, m): line 1's K, and c
   unfoldable pub encapsKey : List ℕ → List ℕ → List ℕ
   encapsKey ek m = G₁ (m ++ H ek)
 

@@ -1,23 +1,26 @@
 // ML-KEM.Encaps_internal (FIPS 203, algorithm 17).
 ghost use mathlib.Core.Path.{_≡_};
-ghost use lib.ListN.{length, drop};
+ghost use lib.ListN.{drop};
 ghost use Rattle.kpke.specs.Parameters.{mlKem768};
 ghost use Rattle.mlkem.specs.MlKem.{encapsKey, encapsCt};
-ghost use Rattle.mlkem.specs.Refusals.{after};
-ghost use Rattle.mlkem.specs.Calls.{encapsAnswer};
+ghost use Rattle.mlkem.specs.Calls.{EncapsSized, Encapsulated};
+ghost use Rattle.refusals.specs.Refusals.{number};
 ghost use Rattle.kpke.specs.Expanded.{Expanded};
-use crate::Answer;
-use crate::tests::exact;
-use crate::tests::vector_reduced;
+use crate::conditions::vector_reduced;
 use kpke::copy::copy_bytes;
 use kpke::encrypt::encrypt;
 use kpke::hashes::hash_g;
 use kpke::hashes::hash_h;
 use kpke::matrix::expand;
+use refusals::Answer;
+use refusals::exact;
 
-// For the matrix a.
+// Lines 1 and 2, for the matrix A-hat in a: K and the coins r are the halves of g.
 fn write_secret(a: &[u16], ek: &[u8], m: &[u8], ct: &mut [u8], k: &mut [u8])
-    requires { ⌜ Expanded 3 (drop 1152 (now ek)) (now a) × (length (now ek) ≡ 1184) × (length (now m) ≡ 32) × (length (now ct) ≡ 1088) × (length (now k) ≡ 32) ⌝ }
+    requires { ⌜
+        Expanded 3 (drop 1152 (now ek)) (now a)
+        × EncapsSized mlKem768 (now ek) (now m) (now ct) (now k)
+        ⌝ }
     ensures { λ _. ⌜ now (ct .exit) ≡ encapsCt mlKem768 (now (ek .entry)) (now (m .entry)) ⌝ }
     ensures { λ _. ⌜ now (k .exit) ≡ encapsKey mlKem768 (now (ek .entry)) (now (m .entry)) ⌝ }
 {
@@ -29,11 +32,20 @@ fn write_secret(a: &[u16], ek: &[u8], m: &[u8], ct: &mut [u8], k: &mut [u8])
     encrypt(a, ek, m, &g[32..], ct);
 }
 
+// Algorithm 17, row 1 passed.
 fn encaps_sized(ek: &[u8], m: &[u8], ct: &mut [u8], k: &mut [u8]) -> Answer
-    requires { ⌜ (length (now ek) ≡ 1184) × (length (now m) ≡ 32) × (length (now ct) ≡ 1088) × (length (now k) ≡ 32) ⌝ }
-    ensures { λ r. ⌜ r ≡ encapsAnswer mlKem768 (now (ek .entry)) (now (m .entry)) (now (ct .entry)) (now (k .entry)) ⌝ }
-    ensures { λ r. ⌜ now (ct .exit) ≡ after r (encapsCt mlKem768 (now (ek .entry)) (now (m .entry))) (now (ct .entry)) ⌝ }
-    ensures { λ r. ⌜ now (k .exit) ≡ after r (encapsKey mlKem768 (now (ek .entry)) (now (m .entry))) (now (k .entry)) ⌝ }
+    requires { ⌜ EncapsSized mlKem768 (now ek) (now m) (now ct) (now k) ⌝ }
+    ensures { λ r. ⌜
+        Encapsulated
+        mlKem768
+        (now (ek .entry))
+        (now (m .entry))
+        (now (ct .entry))
+        (now (k .entry))
+        (number r)
+        (now (ct .exit))
+        (now (k .exit))
+        ⌝ }
 {
     let mut a = [0u16; 2304];
     if !vector_reduced(&ek[0..1152]) {
@@ -46,10 +58,19 @@ fn encaps_sized(ek: &[u8], m: &[u8], ct: &mut [u8], k: &mut [u8]) -> Answer
     Answer::Done
 }
 
+// Algorithm 17, with the modulus check of section 7.2.
 pub fn encaps(ek: &[u8], m: &[u8], ct: &mut [u8], k: &mut [u8]) -> Answer
-    ensures { λ r. ⌜ r ≡ encapsAnswer mlKem768 (now (ek .entry)) (now (m .entry)) (now (ct .entry)) (now (k .entry)) ⌝ }
-    ensures { λ r. ⌜ now (ct .exit) ≡ after r (encapsCt mlKem768 (now (ek .entry)) (now (m .entry))) (now (ct .entry)) ⌝ }
-    ensures { λ r. ⌜ now (k .exit) ≡ after r (encapsKey mlKem768 (now (ek .entry)) (now (m .entry))) (now (k .entry)) ⌝ }
+    ensures { λ r. ⌜
+        Encapsulated
+        mlKem768
+        (now (ek .entry))
+        (now (m .entry))
+        (now (ct .entry))
+        (now (k .entry))
+        (number r)
+        (now (ct .exit))
+        (now (k .exit))
+        ⌝ }
 {
     let has = [ek.len(), m.len(), ct.len(), k.len()];
     if !exact(&has, &[1184, 32, 1088, 32]) {

@@ -7,16 +7,16 @@ ghost use Rattle.fips202.specs.Sponge.{sha3-256, sha3-512};
 ghost use Rattle.kpke.specs.Parameters.{mlKem768};
 ghost use Rattle.kpke.specs.Expanded.{Expanded};
 ghost use Rattle.mlkem.specs.MlKem.{keyGenEk, keyGenDk};
-ghost use Rattle.mlkem.specs.Refusals.{after};
-ghost use Rattle.mlkem.specs.Calls.{keyGenAnswer};
-use crate::Answer;
-use crate::tests::exact;
+ghost use Rattle.mlkem.specs.Calls.{KeyGenSized, KeysMade};
+ghost use Rattle.refusals.specs.Refusals.{number};
 use kpke::copy::copy_bytes;
 use kpke::hashes::hash_g_seed;
 use kpke::hashes::hash_h;
 use kpke::matrix::expand;
+use refusals::Answer;
+use refusals::exact;
 
-// Line 3, what follows K-PKE's key.
+// Line 3, what follows K-PKE's key: ek || H(ek) || z.
 fn write_rest(ek: &[u8], z: &[u8], rest: &mut [u8])
     requires { ⌜ (length (now z) ≡ 32) × (length (now rest) ≡ length (now ek) + 64) ⌝ }
     ensures { λ _. ⌜ now (rest .exit) ≡ now (ek .entry) ++ (sha3-256 (now (ek .entry)) ++ now (z .entry)) ⌝ }
@@ -28,21 +28,42 @@ fn write_rest(ek: &[u8], z: &[u8], rest: &mut [u8])
     copy_bytes(z, &mut rest[e..]);
 }
 
-// For the matrix a and the hash g that K-PKE's keys are made from.
+// Lines 1 to 3, for the matrix A-hat in a and the hash rho || sigma in g that K-PKE's keys are made from.
 fn write_keys(a: &[u16], g: &[u8], z: &[u8], ek: &mut [u8], dk: &mut [u8])
-    requires { ⌜ Expanded 3 (take 32 (now g)) (now a) × (length (now g) ≡ 64) × (length (now z) ≡ 32) × (length (now ek) ≡ 1184) × (length (now dk) ≡ 2400) ⌝ }
-    ensures { λ _. ⌜ ((d : List ℕ) → now (g .entry) ≡ sha3-512 (d ++ 3 ∷ []) → now (ek .exit) ≡ keyGenEk mlKem768 d) ⌝ }
-    ensures { λ _. ⌜ ((d : List ℕ) → now (g .entry) ≡ sha3-512 (d ++ 3 ∷ []) → now (dk .exit) ≡ keyGenDk mlKem768 d (now (z .entry))) ⌝ }
+    requires { ⌜
+        Expanded 3 (take 32 (now g)) (now a)
+        × (length (now g) ≡ 64)
+        × (length (now z) ≡ 32)
+        × (length (now ek) ≡ 1184)
+        × (length (now dk) ≡ 2400)
+        ⌝ }
+    ensures { λ _. ⌜
+        ((d : List ℕ) → now (g .entry) ≡ sha3-512 (d ++ 3 ∷ []) → now (ek .exit) ≡ keyGenEk mlKem768 d)
+        ⌝ }
+    ensures { λ _. ⌜
+        ((d : List ℕ)
+        → now (g .entry) ≡ sha3-512 (d ++ 3 ∷ [])
+        → now (dk .exit) ≡ keyGenDk mlKem768 d (now (z .entry)))
+        ⌝ }
 {
     kpke::key_making::write_keys(a, g, ek, &mut dk[0..1152]);
     write_rest(ek, z, &mut dk[1152..]);
 }
 
+// Algorithm 16, row 1 passed.
 fn keygen_sized(d: &[u8], z: &[u8], ek: &mut [u8], dk: &mut [u8]) -> Answer
-    requires { ⌜ (length (now d) ≡ 32) × (length (now z) ≡ 32) × (length (now ek) ≡ 1184) × (length (now dk) ≡ 2400) ⌝ }
-    ensures { λ r. ⌜ r ≡ keyGenAnswer mlKem768 (now (d .entry)) (now (z .entry)) (now (ek .entry)) (now (dk .entry)) ⌝ }
-    ensures { λ r. ⌜ now (ek .exit) ≡ after r (keyGenEk mlKem768 (now (d .entry))) (now (ek .entry)) ⌝ }
-    ensures { λ r. ⌜ now (dk .exit) ≡ after r (keyGenDk mlKem768 (now (d .entry)) (now (z .entry))) (now (dk .entry)) ⌝ }
+    requires { ⌜ KeyGenSized mlKem768 (now d) (now z) (now ek) (now dk) ⌝ }
+    ensures { λ r. ⌜
+        KeysMade
+        mlKem768
+        (now (d .entry))
+        (now (z .entry))
+        (now (ek .entry))
+        (now (dk .entry))
+        (number r)
+        (now (ek .exit))
+        (now (dk .exit))
+        ⌝ }
 {
     let mut g = [0u8; 64];
     let mut a = [0u16; 2304];
@@ -54,10 +75,19 @@ fn keygen_sized(d: &[u8], z: &[u8], ek: &mut [u8], dk: &mut [u8]) -> Answer
     Answer::Done
 }
 
+// Algorithm 16.
 pub fn keygen(d: &[u8], z: &[u8], ek: &mut [u8], dk: &mut [u8]) -> Answer
-    ensures { λ r. ⌜ r ≡ keyGenAnswer mlKem768 (now (d .entry)) (now (z .entry)) (now (ek .entry)) (now (dk .entry)) ⌝ }
-    ensures { λ r. ⌜ now (ek .exit) ≡ after r (keyGenEk mlKem768 (now (d .entry))) (now (ek .entry)) ⌝ }
-    ensures { λ r. ⌜ now (dk .exit) ≡ after r (keyGenDk mlKem768 (now (d .entry)) (now (z .entry))) (now (dk .entry)) ⌝ }
+    ensures { λ r. ⌜
+        KeysMade
+        mlKem768
+        (now (d .entry))
+        (now (z .entry))
+        (now (ek .entry))
+        (now (dk .entry))
+        (number r)
+        (now (ek .exit))
+        (now (dk .exit))
+        ⌝ }
 {
     let has = [d.len(), z.len(), ek.len(), dk.len()];
     if !exact(&has, &[32, 32, 1184, 2400]) {

@@ -1,16 +1,13 @@
-// Sampling from a lent stream.
-ghost use mathlib.Core.Path.{_≡_};
-ghost use Rattle.codec.specs.Sample.{sampleNtt};
-ghost use Rattle.mlkem.specs.Refusals.{after};
-ghost use Rattle.mlkem.specs.Calls.{sampleAnswer};
-use crate::Answer;
-use crate::tests::exact;
+// SampleNTT (FIPS 203, algorithm 7) of a lent stream.
+ghost use Rattle.mlkem.specs.Calls.{StreamSampled};
+ghost use Rattle.refusals.specs.Refusals.{number};
 use codec::Sampled;
 use codec::sample_ntt;
+use refusals::Answer;
+use refusals::exact;
 
 pub fn sample(stream: &[u8], out: &mut [u16]) -> Answer
-    ensures { λ r. ⌜ r ≡ sampleAnswer (now (stream .entry)) (now (out .entry)) ⌝ }
-    ensures { λ r. ⌜ now (out .exit) ≡ after r (sampleNtt (now (stream .entry))) (now (out .entry)) ⌝ }
+    ensures { λ r. ⌜ StreamSampled (now (stream .entry)) (now (out .entry)) (number r) (now (out .exit)) ⌝ }
 {
     if !exact(&[stream.len(), out.len()], &[840, 256]) {
         return Answer::WrongLength;

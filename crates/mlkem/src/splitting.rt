@@ -1,4 +1,4 @@
-// Import: a decapsulation key is tested and split.
+// Import: a decapsulation key (FIPS 203, algorithm 16) is tested, by section 7.3's hash check among others, and split.
 ghost use mathlib.Core.List.{_++_};
 ghost use mathlib.Core.Path.{_≡_};
 ghost use lib.ListN.{length, getD};
@@ -8,22 +8,24 @@ ghost use Rattle.fips202.specs.Sponge.{laneOf};
 ghost use Rattle.ring.specs.Polynomial.{sub};
 ghost use Rattle.kpke.specs.Parameters.{mlKem768};
 ghost use Rattle.mlkem.specs.MlKem.{publicPart, hashPart};
-ghost use Rattle.mlkem.specs.Refusals.{after};
-ghost use Rattle.mlkem.specs.Calls.{importAnswer, secondCoeffs, secondWords};
-use crate::Answer;
-use crate::tests::exact;
-use crate::tests::hash_matches;
-use crate::tests::reduced;
-use crate::tests::vector_reduced;
+ghost use Rattle.mlkem.specs.Calls.{ImportSized, Imported, secondWords};
+ghost use Rattle.refusals.specs.Refusals.{number};
+use crate::conditions::hash_matches;
+use crate::conditions::reduced;
+use crate::conditions::vector_reduced;
 use fips202::bytes::load;
 use kpke::copy::copy_bytes;
 use kpke::copy::copy_coefficients;
 use kpke::vector::decode_all;
+use refusals::Answer;
+use refusals::exact;
 use ring::sub_from;
 
 // The shares of the coefficients s, of which r is the first.
 fn split_coefficients(s: &[u16], r: &[u16], s0: &mut [u16], s1: &mut [u16])
-    requires { ⌜ (length (now s) ≡ 768) × (length (now r) ≡ 768) × (length (now s0) ≡ 768) × (length (now s1) ≡ 768) ⌝ }
+    requires { ⌜
+        (length (now s) ≡ 768) × (length (now r) ≡ 768) × (length (now s0) ≡ 768) × (length (now s1) ≡ 768)
+        ⌝ }
     ensures { λ _. ⌜ now (s0 .exit) ≡ now (r .entry) ⌝ }
     ensures { λ _. ⌜ now (s1 .exit) ≡ sub (now (s .entry)) (now (r .entry)) ⌝ }
 {
@@ -46,7 +48,7 @@ fn split_words(z: &[u8], w: &[u64], z0: &mut [u64], z1: &mut [u64])
     }
 }
 
-// For the key's secret coefficients s.
+// The two shares and the public part, for the key's secret coefficients s.
 fn write_split(
     dk: &[u8],
     s: &[u16],
@@ -58,18 +60,33 @@ fn write_split(
     z1: &mut [u64],
     public: &mut [u8],
 )
-    requires { ⌜ (length (now dk) ≡ 2400) × (length (now s) ≡ 768) × (length (now coeffs) ≡ 768) × (length (now words) ≡ 4) × (length (now s0) ≡ 768) × (length (now s1) ≡ 768) × (length (now z0) ≡ 4) × (length (now z1) ≡ 4) × (length (now public) ≡ 1216) ⌝ }
+    requires { ⌜
+        (length (now s) ≡ 768)
+        × ImportSized
+        mlKem768
+        (now dk)
+        (now coeffs)
+        (now words)
+        (now s0)
+        (now s1)
+        (now z0)
+        (now z1)
+        (now public)
+        ⌝ }
     ensures { λ _. ⌜ now (s0 .exit) ≡ now (coeffs .entry) ⌝ }
     ensures { λ _. ⌜ now (s1 .exit) ≡ sub (now (s .entry)) (now (coeffs .entry)) ⌝ }
     ensures { λ _. ⌜ now (z0 .exit) ≡ now (words .entry) ⌝ }
     ensures { λ _. ⌜ now (z1 .exit) ≡ secondWords mlKem768 (now (dk .entry)) (now (words .entry)) ⌝ }
-    ensures { λ _. ⌜ now (public .exit) ≡ publicPart mlKem768 (now (dk .entry)) ++ hashPart mlKem768 (now (dk .entry)) ⌝ }
+    ensures { λ _. ⌜
+        now (public .exit) ≡ publicPart mlKem768 (now (dk .entry)) ++ hashPart mlKem768 (now (dk .entry))
+        ⌝ }
 {
     split_coefficients(s, coeffs, s0, s1);
     split_words(&dk[2368..2400], words, z0, z1);
     copy_bytes(&dk[1152..2368], public);
 }
 
+// Import, row 1 passed.
 fn import_sized(
     dk: &[u8],
     coeffs: &[u16],
@@ -80,13 +97,36 @@ fn import_sized(
     z1: &mut [u64],
     public: &mut [u8],
 ) -> Answer
-    requires { ⌜ (length (now dk) ≡ 2400) × (length (now coeffs) ≡ 768) × (length (now words) ≡ 4) × (length (now s0) ≡ 768) × (length (now s1) ≡ 768) × (length (now z0) ≡ 4) × (length (now z1) ≡ 4) × (length (now public) ≡ 1216) ⌝ }
-    ensures { λ r. ⌜ r ≡ importAnswer mlKem768 (now (dk .entry)) (now (coeffs .entry)) (now (words .entry)) (now (s0 .entry)) (now (s1 .entry)) (now (z0 .entry)) (now (z1 .entry)) (now (public .entry)) ⌝ }
-    ensures { λ r. ⌜ now (s0 .exit) ≡ after r (now (coeffs .entry)) (now (s0 .entry)) ⌝ }
-    ensures { λ r. ⌜ now (s1 .exit) ≡ after r (secondCoeffs mlKem768 (now (dk .entry)) (now (coeffs .entry))) (now (s1 .entry)) ⌝ }
-    ensures { λ r. ⌜ now (z0 .exit) ≡ after r (now (words .entry)) (now (z0 .entry)) ⌝ }
-    ensures { λ r. ⌜ now (z1 .exit) ≡ after r (secondWords mlKem768 (now (dk .entry)) (now (words .entry))) (now (z1 .entry)) ⌝ }
-    ensures { λ r. ⌜ now (public .exit) ≡ after r (publicPart mlKem768 (now (dk .entry)) ++ hashPart mlKem768 (now (dk .entry))) (now (public .entry)) ⌝ }
+    requires { ⌜
+        ImportSized
+        mlKem768
+        (now dk)
+        (now coeffs)
+        (now words)
+        (now s0)
+        (now s1)
+        (now z0)
+        (now z1)
+        (now public)
+        ⌝ }
+    ensures { λ r. ⌜
+        Imported
+        mlKem768
+        (now (dk .entry))
+        (now (coeffs .entry))
+        (now (words .entry))
+        (now (s0 .entry))
+        (now (s1 .entry))
+        (now (z0 .entry))
+        (now (z1 .entry))
+        (now (public .entry))
+        (number r)
+        (now (s0 .exit))
+        (now (s1 .exit))
+        (now (z0 .exit))
+        (now (z1 .exit))
+        (now (public .exit))
+        ⌝ }
 {
     let mut s = [0u16; 768];
     let ek = &dk[1152..2336];
@@ -117,12 +157,24 @@ pub fn import(
     z1: &mut [u64],
     public: &mut [u8],
 ) -> Answer
-    ensures { λ r. ⌜ r ≡ importAnswer mlKem768 (now (dk .entry)) (now (coeffs .entry)) (now (words .entry)) (now (s0 .entry)) (now (s1 .entry)) (now (z0 .entry)) (now (z1 .entry)) (now (public .entry)) ⌝ }
-    ensures { λ r. ⌜ now (s0 .exit) ≡ after r (now (coeffs .entry)) (now (s0 .entry)) ⌝ }
-    ensures { λ r. ⌜ now (s1 .exit) ≡ after r (secondCoeffs mlKem768 (now (dk .entry)) (now (coeffs .entry))) (now (s1 .entry)) ⌝ }
-    ensures { λ r. ⌜ now (z0 .exit) ≡ after r (now (words .entry)) (now (z0 .entry)) ⌝ }
-    ensures { λ r. ⌜ now (z1 .exit) ≡ after r (secondWords mlKem768 (now (dk .entry)) (now (words .entry))) (now (z1 .entry)) ⌝ }
-    ensures { λ r. ⌜ now (public .exit) ≡ after r (publicPart mlKem768 (now (dk .entry)) ++ hashPart mlKem768 (now (dk .entry))) (now (public .entry)) ⌝ }
+    ensures { λ r. ⌜
+        Imported
+        mlKem768
+        (now (dk .entry))
+        (now (coeffs .entry))
+        (now (words .entry))
+        (now (s0 .entry))
+        (now (s1 .entry))
+        (now (z0 .entry))
+        (now (z1 .entry))
+        (now (public .entry))
+        (number r)
+        (now (s0 .exit))
+        (now (s1 .exit))
+        (now (z0 .exit))
+        (now (z1 .exit))
+        (now (public .exit))
+        ⌝ }
 {
     let has = [
         dk.len(),

@@ -1,11 +1,11 @@
 // Masked decapsulation and its trace on files.
+use buffers::split_key::pack_words;
+use cli_support::answers::is_refused;
 use cli_support::arguments;
 use cli_support::arguments::Natural;
 use cli_support::inputs::read_exact;
 use cli_support::messages;
 use cli_support::outputs::write_secret;
-use cli_support::refusals::is_refused;
-use cli_support::split_file::pack_words;
 use cli_support::split_file::read_split;
 use cli_support::strip_file;
 use cli_support::strip_file::read_strip;

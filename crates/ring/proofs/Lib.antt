@@ -1,2 +1,4 @@
 pub mod Powers
+pub mod Layers
+pub mod Products
 pub mod Shoup

@@ -1,4 +1,4 @@
--- Shoup's estimate of the quotient of a product by q.
+-- Shoup's estimate of the quotient of z x by q, from that of z 2^16: right or one too small, since x is below 2^16.
 use mathlib.Core.Path.{_≡_, ap}
 use Prim.Native.Nat.{ℕ, _+_, _*_, _/_, _%_, _^_, _<_, _≤_}
 use native.Mathlib.Nat.{mul-le-mul}
@@ -13,5 +13,6 @@ estimate z w r x e h k =
     let b : r * x ≤ 3328 * 65535 = mul-le-mul h k in
     (omega (arith, m, b), omega (arith, m, b))
 
-pub shoup : (z w x : ℕ) → w ≡ z * 2 ^ 16 / q → x < 2 ^ 16 → (w * x / 2 ^ 16 * q ≤ z * x) × (z * x < w * x / 2 ^ 16 * q + 2 * q)
+pub shoup : (z w x : ℕ) → w ≡ z * 2 ^ 16 / q → x < 2 ^ 16
+    → (w * x / 2 ^ 16 * q ≤ z * x) × (z * x < w * x / 2 ^ 16 * q + 2 * q)
 shoup z w x e h = estimate z w (z * 2 ^ 16 % q) x (omega arith) (omega arith) (omega arith)

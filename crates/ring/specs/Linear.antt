@@ -1,5 +1,5 @@
--- Linear maps on polynomials of n coefficients modulo q. The transform, its inverse and the product with a fixed polynomial are linear,
--- so that each may be worked out on the shares of a polynomial one by one.
+-- Linear maps on polynomials of n coefficients modulo q. The transform and its inverse are linear, so that each may be
+-- worked out on the shares of a polynomial one by one.
 use mathlib.Core.Path.{_≡_, refl, sym, ap, ap₂, _∙_}
 use mathlib.Core.List.{List}
 use Prim.Native.Nat.{ℕ, zero, suc, _+_, _-_, _*_, _/_, _%_, _^_, _<_}
@@ -13,8 +13,9 @@ use Rattle.words.specs.Iterate.{iterate}
 use Rattle.words.specs.Bounded.{Below}
 use Rattle.words.specs.BoundedLaws.{below-set, below-tab}
 use Rattle.ring.specs.Polynomial.{minus, add}
-use Rattle.ring.specs.Sum.{minus-mod, length-add, below-add, getD-add, add-swap, add-set}
-use Rattle.ring.specs.Transform.{zeta, gamma, butterfly, block, layer, ntt, inverseButterfly, inverseBlock, inverseLayer, inverseNtt, baseCaseMultiply, multiplyNtts}
+use Rattle.ring.specs.Sum.{minus-mod, length-add, getD-add, add-set}
+use Rattle.ring.specs.Transform.{zeta, butterfly, block, layer, ntt}
+use Rattle.ring.specs.Transform.{inverseButterfly, inverseBlock, inverseLayer, inverseNtt}
 
 -- F keeps the length and coefficients below q, and takes a sum to the sum of the results
 pub record Linear (n : ℕ) (F : List ℕ → List ℕ) : Type 0 where
@@ -38,7 +39,8 @@ sum-of-sums : (u v x x′ y y′ : ℕ)
 sum-of-sums u v x x′ y y′ =
     sym (mul-add-mod-self-right (u * ((x + x′) / q) + v * ((y + y′) / q)) q (u * ((x + x′) % q) + v * ((y + y′) % q)))
     ∙ ap (λ (n : ℕ). n % q)
-    (sym (regroup u v x x′ y y′ ((x + x′) / q) ((y + y′) / q) ((x + x′) % q) ((y + y′) % q) (div-add-mod' (x + x′) q) (div-add-mod' (y + y′) q)))
+    (sym (regroup u v x x′ y y′ ((x + x′) / q) ((y + y′) / q) ((x + x′) % q) ((y + y′) % q)
+    (div-add-mod' (x + x′) q) (div-add-mod' (y + y′) q)))
     ∙ add-mod (u * x + v * y) (u * x′ + v * y′) q
 
 module _ {h : ℕ → ℕ → ℕ} (c : Combination h) where
@@ -69,36 +71,25 @@ comp-linear F G a b =
       adds = λ f g h k. ap F (b .adds f g h k) ∙ a .adds (G f) (G g) (b .long f h) (b .long g k);
     }
 
-pub add-linear : {n : ℕ} (F G : List ℕ → List ℕ) → Linear n F → Linear n G → Linear n (λ f. add (F f) (G f))
-add-linear F G a b =
-    record {
-      long = λ f h. length-add (F f) (G f) ∙ a .long f h;
-      below = λ f e h. below-add (F f) (G f);
-      adds = λ f g h k.
-          ap₂ add (a .adds f g h k) (b .adds f g h k)
-          ∙ add-swap (F f) (F g) (G f) (G g)
-          (a .long f h ∙ sym (a .long g k)) (b .long f h ∙ sym (b .long g k));
-    }
-
-pub iterate-linear : {n : ℕ} (m : ℕ) (step : ℕ → List ℕ → List ℕ) → ((i : ℕ) → Linear n (step i)) → Linear n (iterate m step)
+pub iterate-linear : {n : ℕ} (m : ℕ) (step : ℕ → List ℕ → List ℕ) → ((i : ℕ) → Linear n (step i))
+    → Linear n (iterate m step)
 unfolding iterate
 iterate-linear zero step h = id-linear
 iterate-linear (suc m) step h = comp-linear (step m) (iterate m step) (h m) (iterate-linear m step h)
 
--- F, with linear combinations of the coefficients a and b stored at i and at j
-set-linear : {n : ℕ} (F : List ℕ → List ℕ) {h k : ℕ → ℕ → ℕ} (i j a b : ℕ) → Linear n F → Combination h → Combination k
-    → Linear n (λ f. set (set (F f) i (h (getD f a 0) (getD f b 0))) j (k (getD f a 0) (getD f b 0)))
-set-linear F {h} {k} i j a b l c d =
+-- linear combinations of the coefficients a and b, stored at i and at j
+set-linear : {n : ℕ} {h k : ℕ → ℕ → ℕ} (i j a b : ℕ) → Combination h → Combination k
+    → Linear n (λ f. set (set f i (h (getD f a 0) (getD f b 0))) j (k (getD f a 0) (getD f b 0)))
+set-linear i j a b c d =
     record {
-      long = λ f e. simp length-set (l .long f e);
-      below = λ f e h. below-set _ j (combination-lt d _ _) (below-set (F f) i (combination-lt c _ _) (l .below f e h));
+      long = λ f e. simp length-set e;
+      below = λ f e h. below-set _ j (combination-lt d _ _) (below-set f i (combination-lt c _ _) h);
       adds = λ f g e e′.
           let w = e ∙ sym e′ in
-          let v = l .long f e ∙ sym (l .long g e′) in
           ap₂ (λ (m : List ℕ) (x : ℕ). set m j x)
-          (ap₂ (λ (m : List ℕ) (x : ℕ). set m i x) (l .adds f g e e′) (combination-at c f g a b w) ∙ sym (add-set (F f) (F g) i _ _ v))
+          (ap (λ (x : ℕ). set (add f g) i x) (combination-at c f g a b w) ∙ sym (add-set f g i _ _ w))
           (combination-at d f g a b w)
-          ∙ sym (add-set (set (F f) i _) (set (F g) i _) j _ _ (length-set (F f) i _ ∙ v ∙ sym (length-set (F g) i _)));
+          ∙ sym (add-set (set f i _) (set g i _) j _ _ (length-set f i _ ∙ w ∙ sym (length-set g i _)));
     }
 
 -- each coefficient times z
@@ -122,7 +113,18 @@ scale-linear n z =
     times-z : Combination (λ x y. x * z % q)
     times-z = record { left = z; right = 0; is = λ x y. ap (λ (m : ℕ). m % q) (omega arith) }
 
--- ---- Algorithms 9 to 12
+-- ---- Algorithms 9 and 10
+
+-- seven layers of blocks of pairs: what the transform and its inverse share
+layers-linear : {n : ℕ} (pair : ℕ → ℕ → ℕ → List ℕ → List ℕ) (k len : ℕ → ℕ) (entry : ℕ → ℕ → ℕ)
+    → ((z len j : ℕ) → Linear n (pair z len j))
+    → Linear n
+    (iterate 7 (λ l.
+    iterate (k l) (λ b. iterate (len l) (λ j. pair (zeta (entry l b)) (len l) (b * (2 * len l) + j)))))
+layers-linear pair k len entry h =
+    iterate-linear 7 _ (λ l.
+    iterate-linear (k l) _ (λ b.
+    iterate-linear (len l) _ (λ j. h (zeta (entry l b)) (len l) (b * (2 * len l) + j))))
 
 -- the butterfly's two results
 plus-twisted : (z : ℕ) → Combination (λ x y. (x + z * y % q) % q)
@@ -138,13 +140,11 @@ minus-twisted z =
 
 butterfly-linear : {n : ℕ} (z len j : ℕ) → Linear n (butterfly z len j)
 unfolding butterfly
-butterfly-linear z len j = set-linear (λ f. f) (j + len) j j (j + len) id-linear (minus-twisted z) (plus-twisted z)
+butterfly-linear z len j = set-linear (j + len) j j (j + len) (minus-twisted z) (plus-twisted z)
 
 pub ntt-linear : {n : ℕ} → Linear n ntt
 unfolding block layer ntt
-ntt-linear =
-    iterate-linear 7 _
-    (λ l. iterate-linear (2 ^ l) _ (λ b. iterate-linear (2 ^ (7 - l)) _ (λ j. butterfly-linear (zeta (2 ^ l + b)) (2 ^ (7 - l)) (b * (2 * 2 ^ (7 - l)) + j))))
+ntt-linear = layers-linear butterfly (λ l. 2 ^ l) (λ l. 2 ^ (7 - l)) (λ l b. 2 ^ l + b) butterfly-linear
 
 -- the inverse's
 plus : Combination (λ x y. (x + y) % q)
@@ -152,34 +152,19 @@ plus = record { left = 1; right = 1; is = λ x y. omega arith }
 
 twisted-minus : (z : ℕ) → Combination (λ x y. z * minus y x % q)
 twisted-minus z =
-    record { left = z * (q - 1); right = z; is = λ x y. mul-mod-mod z (y + (q - 1) * x) q ∙ ap (λ (n : ℕ). n % q) (omega arith) }
+    record {
+      left = z * (q - 1);
+      right = z;
+      is = λ x y. mul-mod-mod z (y + (q - 1) * x) q ∙ ap (λ (n : ℕ). n % q) (omega arith);
+    }
 
 inverseButterfly-linear : {n : ℕ} (z len j : ℕ) → Linear n (inverseButterfly z len j)
 unfolding inverseButterfly
-inverseButterfly-linear z len j = set-linear (λ f. f) j (j + len) j (j + len) id-linear plus (twisted-minus z)
-
-layers-linear : {n : ℕ} → Linear n (iterate 7 (λ l. inverseLayer (2 ^ (6 - l)) (2 ^ (l + 1))))
-unfolding inverseBlock inverseLayer
-layers-linear =
-    iterate-linear 7 _
-    (λ l. iterate-linear (2 ^ (6 - l)) _ (λ b. iterate-linear (2 ^ (l + 1)) _ (λ j. inverseButterfly-linear (zeta (2 * 2 ^ (6 - l) - 1 - b)) (2 ^ (l + 1)) (b * (2 * 2 ^ (l + 1)) + j))))
+inverseButterfly-linear z len j = set-linear j (j + len) j (j + len) plus (twisted-minus z)
 
 pub inverseNtt-linear : Linear 256 inverseNtt
-unfolding inverseNtt
-inverseNtt-linear = comp-linear (λ f. tab 256 (λ i. getD f i 0 * 3303 % q)) _ (scale-linear 256 3303) layers-linear
-
--- the product's, by u and v
-by : (u v : ℕ) → Combination (λ x y. (x * u + y * v) % q)
-by u v = record { left = u; right = v; is = λ x y. ap (λ (n : ℕ). n % q) (omega arith) }
-
-module _ {n : ℕ} (g : List ℕ) where
-  turns-linear : (m : ℕ) → Linear n (λ f. iterate m (baseCaseMultiply f g) f)
-  unfolding iterate baseCaseMultiply
-  turns-linear zero = id-linear
-  turns-linear (suc m) =
-      set-linear (λ f. iterate m (baseCaseMultiply f g) f) (2 * m) (2 * m + 1) (2 * m) (2 * m + 1) (turns-linear m)
-      (by (getD g (2 * m) 0) (getD g (2 * m + 1) 0 * gamma m % q)) (by (getD g (2 * m + 1) 0) (getD g (2 * m) 0))
-
-  pub multiplyNtts-linear : Linear n (λ f. multiplyNtts f g)
-  unfolding multiplyNtts
-  multiplyNtts-linear = turns-linear 128
+unfolding inverseBlock inverseLayer inverseNtt
+inverseNtt-linear =
+    comp-linear (λ f. tab 256 (λ i. getD f i 0 * 3303 % q)) _ (scale-linear 256 3303)
+    (layers-linear inverseButterfly (λ l. 2 ^ (6 - l)) (λ l. 2 ^ (l + 1)) (λ l b. 2 * 2 ^ (6 - l) - 1 - b)
+    inverseButterfly-linear)

@@ -1,125 +1,129 @@
--- The coefficients of a product in the transform's domain; the product is linear in its second factor, for a first factor of any length up to 256.
+-- The product of transformed polynomials is made pair by pair, so that its coefficients and its linearity in either
+-- factor follow from one pair's.
 use mathlib.Core.Path.{_≡_, refl, sym, ap, ap₂, _∙_}
-use mathlib.Core.List.{List}
-use Prim.Native.Nat.{ℕ, zero, suc, _+_, _*_, _%_, _<_, _≤_}
-use native.Mathlib.Nat.{add-mod}
-use native.Mathlib.Decide.{decLt, ℕ-discrete}
+use mathlib.Core.List.{List, [], _∷_, _++_}
+use Prim.Native.Nat.{ℕ, zero, suc, _+_, _*_, _%_, _<_}
+use native.Mathlib.Decide.{decLt}
 use native.Mathlib.Omega.{arith}
-use lib.ListN.{length, getD, set, length-set}
-use lib.Seq.{getD-set-same, getD-set-other, ext-getD}
+use lib.ListN.{length, getD, set, length-append, List·getD-append}
+use lib.Seq.{getD-append-add}
 use Rattle.words.specs.Residue.{q}
-use Rattle.words.specs.ResidueLaws.{mul-mod-mod}
+use Rattle.words.specs.Tab.{tab}
 use Rattle.words.specs.Iterate.{iterate}
 use Rattle.ring.specs.Polynomial.{add}
-use Rattle.ring.specs.Sum.{length-add, getD-add}
-use Rattle.ring.specs.Transform.{gamma, baseCaseMultiply, multiplyNtts}
+use Rattle.ring.specs.Sum.{add-append}
+use Rattle.ring.specs.Transform.{gamma, pairOf, multiplyNtts}
 use Rattle.ring.specs.Linear.{Combination, combination-at}
 
--- coefficients 2 m and 2 m + 1 of f times g
-abbrev pub evenAt : List ℕ → List ℕ → ℕ → ℕ
-evenAt f g m = (getD f (2 * m) 0 * getD g (2 * m) 0 + getD f (2 * m + 1) 0 * (getD g (2 * m + 1) 0 * gamma m % q)) % q
+-- coefficient k of pair i of f times g: c0 for k = 0, c1 for k = 1
+abbrev pub coefficientOf : List ℕ → List ℕ → ℕ → ℕ → ℕ
+coefficientOf f g i k = getD (pairOf f g i) k 0
 
-abbrev pub oddAt : List ℕ → List ℕ → ℕ → ℕ
-oddAt f g m = (getD f (2 * m) 0 * getD g (2 * m + 1) 0 + getD f (2 * m + 1) 0 * getD g (2 * m) 0) % q
+-- s with pair i of f times g added
+abbrev pub addPair : List ℕ → List ℕ → ℕ → List ℕ → List ℕ
+addPair f g i s =
+    set (set s (2 * i) ((getD s (2 * i) 0 + coefficientOf f g i 0) % q))
+    (2 * i + 1)
+    ((getD s (2 * i + 1) 0 + coefficientOf f g i 1) % q)
 
-module _ (f g s : List ℕ) where
-  abbrev turns : ℕ → List ℕ
-  turns m = iterate m (baseCaseMultiply f g) s
+-- ---- lists of pairs
 
-  length-turns : (m : ℕ) → length (turns m) ≡ length s
-  unfolding iterate baseCaseMultiply
-  length-turns zero = refl
-  length-turns (suc m) = simp length-set (length-turns m)
+module _ (p : ℕ → List ℕ) (two : (i : ℕ) → length (p i) ≡ 2) where
+  length-pairs : (n : ℕ) → length (iterate n (λ i h. h ++ p i) []) ≡ 2 * n
+  unfolding iterate
+  length-pairs zero = refl
+  length-pairs (suc n) =
+      length-append (iterate n (λ i h. h ++ p i) []) (p n) ∙ omega (arith, length-pairs n, two n)
 
-  turn-even : (m : ℕ) → 2 * m < length s → getD (turns (suc m)) (2 * m) 0 ≡ evenAt f g m
-  unfolding iterate baseCaseMultiply
-  turn-even m h =
-      getD-set-other (set (turns m) (2 * m) (evenAt f g m)) (2 * m + 1) (2 * m) (oddAt f g m) 0 (omega arith)
-      ∙ getD-set-same (turns m) (2 * m) (evenAt f g m) 0 (omega (arith, length-turns m))
-
-  turn-odd : (m : ℕ) → 2 * m + 1 < length s → getD (turns (suc m)) (2 * m + 1) 0 ≡ oddAt f g m
-  unfolding iterate baseCaseMultiply
-  turn-odd m h =
-      getD-set-same (set (turns m) (2 * m) (evenAt f g m)) (2 * m + 1) (oddAt f g m) 0
-      (omega (arith, length-turns m, length-set (turns m) (2 * m) (evenAt f g m)))
-
-  -- the coefficients before them
-  turn-before : (m i : ℕ) → i < 2 * m → getD (turns (suc m)) i 0 ≡ getD (turns m) i 0
-  unfolding iterate baseCaseMultiply
-  turn-before m i h =
-      getD-set-other (set (turns m) (2 * m) (evenAt f g m)) (2 * m + 1) i (oddAt f g m) 0 (omega arith)
-      ∙ getD-set-other (turns m) (2 * m) i (evenAt f g m) 0 (omega arith)
-
-  -- further turns keep them
-  turns-kept : (n m i : ℕ) → i < 2 * m → m ≤ n → getD (turns n) i 0 ≡ getD (turns m) i 0
-  turns-kept zero m i h l = absurd (omega arith)
-  turns-kept (suc n) m i h l = go (decLt n m) (turns-kept n m i h)
+  getD-pairs : (n i k : ℕ) → i < n → k < 2 → getD (iterate n (λ i h. h ++ p i) []) (2 * i + k) 0 ≡ getD (p i) k 0
+  unfolding iterate
+  getD-pairs zero i k h l = absurd (omega arith)
+  getD-pairs (suc n) i k h l = go (decLt i n) (getD-pairs n i k)
     where
-      go : Dec (n < m) → (m ≤ n → getD (turns n) i 0 ≡ getD (turns m) i 0) → getD (turns (suc n)) i 0 ≡ getD (turns m) i 0
-      go (yes k) r = let e : m ≡ suc n = omega arith in rw e refl
-      go (no k) r = turn-before n i (omega arith) ∙ r (omega arith)
+      before : List ℕ
+      before = iterate n (λ i h. h ++ p i) []
 
-module _ (f g : List ℕ) (m : ℕ) (h : m < 128) (l : length f ≡ 256) where
-  pub getD-multiplyNtts-even : getD (multiplyNtts f g) (2 * m) 0 ≡ evenAt f g m
-  unfolding multiplyNtts
-  getD-multiplyNtts-even = turns-kept f g f 128 (suc m) (2 * m) (omega arith) (omega arith) ∙ turn-even f g f m (omega arith)
+      go : Dec (i < n) → (i < n → k < 2 → getD before (2 * i + k) 0 ≡ getD (p i) k 0)
+          → getD (before ++ p n) (2 * i + k) 0 ≡ getD (p i) k 0
+      go (yes b) r = List·getD-append before (p n) 0 (2 * i + k) (omega (arith, length-pairs n)) ∙ r b l
+      go (no b) r =
+          let e : i ≡ n = omega arith in
+          let at : 2 * i + k ≡ length before + k = omega (arith, length-pairs n) in
+          ap (λ (j : ℕ). getD (before ++ p n) j 0) at
+          ∙ getD-append-add before (p n) k 0
+          ∙ ap (λ (j : ℕ). getD (p j) k 0) (sym e)
 
-  pub getD-multiplyNtts-odd : getD (multiplyNtts f g) (2 * m + 1) 0 ≡ oddAt f g m
-  unfolding multiplyNtts
-  getD-multiplyNtts-odd = turns-kept f g f 128 (suc m) (2 * m + 1) (omega arith) (omega arith) ∙ turn-odd f g f m (omega arith)
+-- where each pair is a sum, so is the whole
+pairs-add : (n : ℕ) (p a b : ℕ → List ℕ) → ((i : ℕ) → length (a i) ≡ 2) → ((i : ℕ) → length (b i) ≡ 2)
+    → ((i : ℕ) → p i ≡ add (a i) (b i))
+    → iterate n (λ i h. h ++ p i) [] ≡ add (iterate n (λ i h. h ++ a i) []) (iterate n (λ i h. h ++ b i) [])
+unfolding iterate add tab
+pairs-add zero p a b k l e = refl
+pairs-add (suc n) p a b k l e =
+    ap₂ (λ (x y : List ℕ). x ++ y) (pairs-add n p a b k l e) (e n)
+    ∙ sym
+    (add-append (iterate n (λ i h. h ++ a i) []) (iterate n (λ i h. h ++ b i) []) (a n) (b n)
+    (length-pairs a k n ∙ sym (length-pairs b l n)))
 
-pub length-multiplyNtts : (f g : List ℕ) → length (multiplyNtts f g) ≡ length f
+-- ---- the product's coefficients
+
+pub length-multiplyNtts : (f g : List ℕ) → length (multiplyNtts f g) ≡ 256
 unfolding multiplyNtts
-length-multiplyNtts f g = length-turns f g f 128
+length-multiplyNtts f g = length-pairs (pairOf f g) (λ i. refl) 128
 
-even-combination : (u v z : ℕ) → Combination (λ x y. (u * x + v * (y * z % q)) % q)
-even-combination u v z =
-    record {
-      left = u;
-      right = v * z;
-      is = λ x y.
-          add-mod (u * x) (v * (y * z % q)) q
-          ∙ ap (λ (n : ℕ). (u * x % q + n) % q) (mul-mod-mod v (y * z) q)
-          ∙ sym (add-mod (u * x) (v * (y * z)) q)
-          ∙ ap (λ (n : ℕ). n % q) (omega arith);
-    }
+module _ (f g : List ℕ) (i : ℕ) (h : i < 128) where
+  pub getD-multiplyNtts-even : getD (multiplyNtts f g) (2 * i) 0 ≡ coefficientOf f g i 0
+  unfolding multiplyNtts
+  getD-multiplyNtts-even =
+      let e : 2 * i ≡ 2 * i + 0 = omega arith in
+      ap (λ (j : ℕ). getD (multiplyNtts f g) j 0) e ∙ getD-pairs (pairOf f g) (λ i. refl) 128 i 0 h (omega arith)
 
-odd-combination : (u v : ℕ) → Combination (λ x y. (u * y + v * x) % q)
-odd-combination u v = record { left = v; right = u; is = λ x y. ap (λ (n : ℕ). n % q) (omega arith) }
+  pub getD-multiplyNtts-odd : getD (multiplyNtts f g) (2 * i + 1) 0 ≡ coefficientOf f g i 1
+  unfolding multiplyNtts
+  getD-multiplyNtts-odd = getD-pairs (pairOf f g) (λ i. refl) 128 i 1 h (omega arith)
 
-module _ (f g h s : List ℕ) (e : length g ≡ length h) where
-  abbrev Adds : ℕ → ℕ → Type 0
-  Adds m i = getD (turns f (add g h) s m) i 0 ≡ (getD (turns f g s m) i 0 + getD (turns f h s m) i 0) % q
+-- ---- linear in either factor
 
-  -- the coefficients of one more turn
-  turn-add : (m i : ℕ) → i < 2 * suc m → i < length s → (i < 2 * m → Adds m i) → Dec (i < 2 * m) → Dec (i ≡ 2 * m) → Adds (suc m) i
-  turn-add m i l k r (yes p) d =
-      turn-before f (add g h) s m i p
-      ∙ r p
-      ∙ ap₂ (λ (x y : ℕ). (x + y) % q) (sym (turn-before f g s m i p)) (sym (turn-before f h s m i p))
-  turn-add m i l k r (no p) (yes d) =
-      let w : 2 * m < length s = omega arith in
-      rw d
-      (turn-even f (add g h) s m w
-      ∙ combination-at (even-combination (getD f (2 * m) 0) (getD f (2 * m + 1) 0) (gamma m)) g h (2 * m) (2 * m + 1) e
-      ∙ ap₂ (λ (x y : ℕ). (x + y) % q) (sym (turn-even f g s m w)) (sym (turn-even f h s m w)))
-  turn-add m i l k r (no p) (no d) =
-      let c : i ≡ 2 * m + 1 = omega arith in
-      let w : 2 * m + 1 < length s = omega arith in
-      rw c
-      (turn-odd f (add g h) s m w
-      ∙ combination-at (odd-combination (getD f (2 * m) 0) (getD f (2 * m + 1) 0)) g h (2 * m) (2 * m + 1) e
-      ∙ ap₂ (λ (x y : ℕ). (x + y) % q) (sym (turn-odd f g s m w)) (sym (turn-odd f h s m w)))
+-- c0 and c1 as combinations of the left factor's pair, and of the right one's
+left0 : (b0 b1 γ : ℕ) → Combination (λ a0 a1. (a0 * b0 + a1 * b1 * γ) % q)
+left0 b0 b1 γ = record { left = b0; right = b1 * γ; is = λ a0 a1. ap (λ (n : ℕ). n % q) (omega arith) }
 
-  turns-add : (m i : ℕ) → i < 2 * m → i < length s → Adds m i
-  turns-add zero i l k = absurd (omega arith)
-  turns-add (suc m) i l k = turn-add m i l k (λ p. turns-add m i p k) (decLt i (2 * m)) (ℕ-discrete i (2 * m))
+left1 : (b0 b1 : ℕ) → Combination (λ a0 a1. (a0 * b1 + a1 * b0) % q)
+left1 b0 b1 = record { left = b1; right = b0; is = λ a0 a1. ap (λ (n : ℕ). n % q) (omega arith) }
 
-pub multiplyNtts-add : (f g h : List ℕ) → length f ≤ 256 → length g ≡ length h → multiplyNtts f (add g h) ≡ add (multiplyNtts f g) (multiplyNtts f h)
-unfolding multiplyNtts
-multiplyNtts-add f g h l e =
-    ext-getD 0 _ _ (length-turns f (add g h) f 128 ∙ sym (length-add _ _ ∙ length-turns f g f 128))
-    (λ i k.
-    let w : i < length f = omega (arith, length-turns f (add g h) f 128) in
-    turns-add f g h f e 128 i (omega arith) w
-    ∙ sym (getD-add (turns f g f 128) (turns f h f 128) i (length-turns f g f 128 ∙ sym (length-turns f h f 128))))
+right0 : (a0 a1 γ : ℕ) → Combination (λ b0 b1. (a0 * b0 + a1 * b1 * γ) % q)
+right0 a0 a1 γ = record { left = a0; right = a1 * γ; is = λ b0 b1. ap (λ (n : ℕ). n % q) (omega arith) }
+
+right1 : (a0 a1 : ℕ) → Combination (λ b0 b1. (a0 * b1 + a1 * b0) % q)
+right1 a0 a1 = record { left = a1; right = a0; is = λ b0 b1. ap (λ (n : ℕ). n % q) (omega arith) }
+
+pair-left : (f g h : List ℕ) (i : ℕ) → length f ≡ length g → pairOf (add f g) h i ≡ add (pairOf f h i) (pairOf g h i)
+unfolding add tab
+pair-left f g h i e =
+    let b0 = getD h (2 * i) 0 in
+    let b1 = getD h (2 * i + 1) 0 in
+    ap₂ (λ (x y : ℕ). x ∷ y ∷ [])
+    (combination-at (left0 b0 b1 (gamma i)) f g (2 * i) (2 * i + 1) e)
+    (combination-at (left1 b0 b1) f g (2 * i) (2 * i + 1) e)
+
+pair-right : (f g h : List ℕ) (i : ℕ) → length g ≡ length h → pairOf f (add g h) i ≡ add (pairOf f g i) (pairOf f h i)
+unfolding add tab
+pair-right f g h i e =
+    let a0 = getD f (2 * i) 0 in
+    let a1 = getD f (2 * i + 1) 0 in
+    ap₂ (λ (x y : ℕ). x ∷ y ∷ [])
+    (combination-at (right0 a0 a1 (gamma i)) g h (2 * i) (2 * i + 1) e)
+    (combination-at (right1 a0 a1) g h (2 * i) (2 * i + 1) e)
+
+module _ (f g h : List ℕ) where
+  pub multiplyNtts-add-left : length f ≡ length g
+      → multiplyNtts (add f g) h ≡ add (multiplyNtts f h) (multiplyNtts g h)
+  unfolding multiplyNtts
+  multiplyNtts-add-left e =
+      pairs-add 128 (pairOf (add f g) h) (pairOf f h) (pairOf g h) (λ i. refl) (λ i. refl) (λ i. pair-left f g h i e)
+
+  pub multiplyNtts-add-right : length g ≡ length h
+      → multiplyNtts f (add g h) ≡ add (multiplyNtts f g) (multiplyNtts f h)
+  unfolding multiplyNtts
+  multiplyNtts-add-right e =
+      pairs-add 128 (pairOf f (add g h)) (pairOf f g) (pairOf f h) (λ i. refl) (λ i. refl) (λ i. pair-right f g h i e)

@@ -1,4 +1,4 @@
-// FIPS 203's arithmetic on plain values: coefficients modulo q, polynomials, transform and product (sections 2.4 and 4.3).
+// FIPS 203's arithmetic on plain values: coefficients modulo q, polynomials, transform, product (sections 2.4, 4.3).
 mod multiply;
 mod polynomial;
 mod residue;

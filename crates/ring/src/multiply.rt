@@ -1,14 +1,15 @@
-// Products of polynomials in the transformed domain.
+// Products of polynomials in the transformed domain (FIPS 203, section 4.3.1).
 use crate::residue::product;
 use crate::residue::reduce;
-use crate::tables::GAMMAS;
+use crate::tables::ZETAS;
 ghost use mathlib.Core.Path.{_≡_};
 ghost use Prim.Native.Nat.{_+_, _*_, _%_, _<_};
-ghost use lib.ListN.{length, getD, set};
+ghost use lib.ListN.{length};
 ghost use Rattle.words.specs.Residue.{q};
 ghost use Rattle.ring.specs.Polynomial.{add};
-ghost use Rattle.ring.specs.Transform.{gamma, multiplyNtts};
-ghost use Rattle.ring.specs.MultiplyLaws.{evenAt, oddAt};
+ghost use Rattle.words.specs.Tab.{tab};
+ghost use Rattle.ring.specs.Transform.{zeta, gamma, multiplyNtts};
+ghost use Rattle.ring.specs.MultiplyLaws.{addPair};
 
 // s + u x + v y modulo q
 fn combination(s: u16, u: u16, x: u16, v: u16, y: u16) -> u16
@@ -17,27 +18,44 @@ fn combination(s: u16, u: u16, x: u16, v: u16, y: u16) -> u16
     reduce((s as u32) + (product(u, x) as u32) + (v as u32) * (y as u32))
 }
 
-// Algorithm 12: coefficients 2 i and 2 i + 1 of f g are added to s.
+// Algorithm 12, BaseCaseMultiply: c0 and c1 of pair i of f g are added to s.
 fn base_case_multiply(s: &mut [u16], f: &[u16], g: &[u16], i: usize, z: u16)
-    requires { ⌜ (2 * i + 1 < length (now s)) × (2 * i + 1 < length (now f)) × (2 * i + 1 < length (now g)) × (z ≡ gamma i) ⌝ }
-    ensures { λ _. ⌜ now (s .exit) ≡ set (set (now (s .entry)) (2 * i) ((getD (now (s .entry)) (2 * i) 0 + evenAt (now (f .entry)) (now (g .entry)) i) % q)) (2 * i + 1) ((getD (now (s .entry)) (2 * i + 1) 0 + oddAt (now (f .entry)) (now (g .entry)) i) % q) ⌝ }
+    requires { ⌜ (2 * i + 1 < length (now s))
+        × (2 * i + 1 < length (now f))
+        × (2 * i + 1 < length (now g))
+        × (z ≡ gamma i) ⌝ }
+    ensures { λ _. ⌜ now (s .exit) ≡ addPair (now (f .entry)) (now (g .entry)) i (now (s .entry)) ⌝ }
 {
     let a0 = f[2 * i];
     let a1 = f[2 * i + 1];
     let b0 = g[2 * i];
     let b1 = g[2 * i + 1];
-    let c0 = s[2 * i];
-    let c1 = s[2 * i + 1];
-    s[2 * i] = combination(c0, a0, b0, a1, product(b1, z));
-    s[2 * i + 1] = combination(c1, a0, b1, a1, b0);
+    let s0 = s[2 * i];
+    let s1 = s[2 * i + 1];
+    s[2 * i] = combination(s0, a0, b0, a1, product(b1, z));
+    s[2 * i + 1] = combination(s1, a0, b1, a1, b0);
 }
 
-// Algorithm 11: s becomes s + f g.
+// The constants of Algorithm 11, zeta^(2 BitRev7(i) + 1): pair 2 j has entry 64 + j of the roots' table, pair 2 j + 1
+// its negative.
+fn gammas_of(zetas: &[u16], gammas: &mut [u16])
+    requires { ⌜ (now zetas ≡ tab 128 zeta) × (length (now gammas) ≡ 128) ⌝ }
+    ensures { λ _. ⌜ now (gammas .exit) ≡ tab 128 gamma ⌝ }
+{
+    for j in 0..64 {
+        gammas[2 * j] = zetas[64 + j];
+        gammas[2 * j + 1] = 3329 - zetas[64 + j];
+    }
+}
+
+// Algorithm 11, MultiplyNTTs, added up: s becomes s + f g.
 pub fn multiply_add(s: &mut [u16], f: &[u16], g: &[u16])
     requires { ⌜ (length (now s) ≡ 256) × (length (now f) ≡ 256) × (length (now g) ≡ 256) ⌝ }
     ensures { λ _. ⌜ now (s .exit) ≡ add (now (s .entry)) (multiplyNtts (now (f .entry)) (now (g .entry))) ⌝ }
 {
-    let gammas = GAMMAS;
+    let zetas = ZETAS;
+    let mut gammas = [0u16; 128];
+    gammas_of(&zetas, &mut gammas);
     for i in 0..128 {
         base_case_multiply(s, f, g, i, gammas[i]);
     }

@@ -1,4 +1,4 @@
-// Numbers modulo q, without division.
+// Numbers modulo q (FIPS 203, section 2.3), without division.
 ghost use mathlib.Core.Path.{_≡_};
 ghost use Prim.Native.Nat.{_+_, _*_, _/_, _%_, _^_, _<_, _≤_};
 ghost use Rattle.words.specs.Residue.{q};
@@ -63,8 +63,8 @@ fn low_difference(x: u32, y: u32) -> u16
     std::num::wrapping_sub_u16((x % 65536) as u16, (y % 65536) as u16)
 }
 
-// what `multiple` takes beside z
-pub fn scaled(z: u16) -> u16
+// Shoup's quotient: what `multiple` takes beside z
+pub fn shoup_quotient(z: u16) -> u16
     requires { ⌜ z < q ⌝ }
     ensures { λ r. ⌜ r ≡ z * 2 ^ 16 / q ⌝ }
 {

@@ -1,46 +1,56 @@
--- Demand 3: under any two accepted keys with one public part and one stored hash, and for any ciphertext, equally many choices
--- give a value at a step.
+-- Demand 3: under any two accepted keys with one public part and one stored hash, and for any ciphertext, equally many
+-- choices give a value at a step.
 use Prim.Native.Nat.{ℕ, zero, suc, _^_, _<_, _≤_}
 use mathlib.Core.Path.{_≡_, refl, sym, ap, ap₂, _∙_}
-use mathlib.Core.List.{List, [], _∷_}
+use mathlib.Core.List.{List, [], _∷_, _++_}
 use native.Mathlib.Decide.{decLt}
 use native.Mathlib.Nat.{zero-add}
 use native.Mathlib.Omega.{arith}
-use lib.ListN.{length, drop, replicate, length-take, length-drop}
+use lib.ListN.{length, drop, replicate}
+use lib.Seq.{drop-at}
 use Rattle.words.specs.Bounded.{Below}
 use Rattle.words.specs.BoundedLaws.{below-take, below-drop}
+use Rattle.words.specs.Part.{length-part}
 use Rattle.words.specs.Residue.{q}
 use Rattle.worksheet.specs.Prog.{word, coeff, Prog, _>>=_, mask, times}
 use Rattle.worksheet.specs.Sum.{when}
 use Rattle.worksheet.specs.Count.{hit, tally, strips}
 use Rattle.worksheet.specs.CountLaws.{hits, tally-cong, strips-hit, hits-drawn}
-use Rattle.worksheet.specs.Uses.{Uses, length-entries}
+use Rattle.worksheet.specs.Uses.{Uses, uses-recount, length-entries}
 use Rattle.worksheet.specs.Couple.{Like, SameAt, draw-c, ret-c, equal-hits, sameAt-right, sameAt-recount}
 use Rattle.worksheet.specs.CoupleLoops.{like-times}
 use Rattle.worksheet.specs.Matching.{identity}
 use Rattle.worksheet.specs.SharedList.{SharedList, sharedList}
 use Rattle.kpke.specs.Parameters.{mlKem768}
-use Rattle.mlkem.specs.Fits.{fits768}
+use Rattle.stages.specs.Fits.{fits768}
 use Rattle.mlkem.specs.MlKem.{publicPart, hashPart}
 use Rattle.kpke.specs.KPke.{matrixFull}
 use Rattle.mlkem.specs.Calls.{secondCoeffs, secondWords, rhoOf}
-use Rattle.mlkem.specs.Worksheet.{worksheet}
-use Rattle.mlkem.specs.WorksheetUses.{uses-worksheet}
-use Rattle.mlkem.specs.Split.{split}
+use Rattle.mlkem.specs.SplitKey.{SplitKey, split}
+use Rattle.stages.specs.Counts768.{counts768}
+use Rattle.stages.specs.Worksheet.{worksheet}
+use Rattle.stages.specs.WorksheetUses.{uses-worksheet}
 use Rattle.mlkem.specs.AcceptedLaws.{accepted-secret}
 use Rattle.silence.specs.Claim.{Key, Ciphertext, gives, choices}
 use Rattle.silence.specs.WorksheetSilence.{worksheet-stage}
 use Rattle.silence.specs.SplitSilence.{coupled-firsts}
 
--- ---- a key's parts
+-- ---- a key's public part and hash, as import stores them
+
+abbrev stored : List ℕ → List ℕ
+stored dk = publicPart mlKem768 dk ++ hashPart mlKem768 dk
 
 module _ {dk : List ℕ} (key : Key dk) where
-  length-hashPart : length (hashPart mlKem768 dk) ≡ 32
-  length-hashPart =
-      length-take 32 (drop 2336 dk) ∙ omega (arith, length-drop 2336 dk, key .accepts .long)
+  stored-hash : drop 1184 (stored dk) ≡ hashPart mlKem768 dk
+  stored-hash =
+      drop-at (publicPart mlKem768 dk) (hashPart mlKem768 dk) 1184
+      (length-part 1152 1184 dk (omega (arith, key .accepts .long)))
 
-  below-hashPart : Below 256 (hashPart mlKem768 dk)
-  below-hashPart = below-take 32 (below-drop 2336 (key .bytes))
+  length-hash : length (drop 1184 (stored dk)) ≡ 32
+  length-hash = ap length stored-hash ∙ length-part 2336 32 dk (omega (arith, key .accepts .long))
+
+  below-hash : Below 256 (drop 1184 (stored dk))
+  below-hash = rw stored-hash (below-take 32 (below-drop 2336 (key .bytes)))
 
 -- ---- the first shares drawn, the key split with them, and the worksheet
 
@@ -54,30 +64,36 @@ like-words : Like 0 (times 4 (λ j. mask word)) (times 4 (λ j. mask word))
 unfolding mask
 like-words = like-times 4 (λ j h. draw-c identity (λ x l. ret-c tt))
 
--- the split by its public parts
-split-public : (dk a w : List ℕ) {ek h : List ℕ} → publicPart mlKem768 dk ≡ ek → hashPart mlKem768 dk ≡ h
-    → split mlKem768 dk a w
-    ≡ record { s = sharedList a (secondCoeffs mlKem768 dk a); z = sharedList w (secondWords mlKem768 dk w); ek = ek; h = h }
+-- the split with the public part `public`
+abbrev splitWith : List ℕ → List ℕ → List ℕ → List ℕ → SplitKey
+splitWith dk a w public =
+    record {
+      s = sharedList a (secondCoeffs mlKem768 dk a);
+      z = sharedList w (secondWords mlKem768 dk w);
+      public = public;
+    }
+
+split-stored : (dk a w : List ℕ) {public : List ℕ} → stored dk ≡ public
+    → split mlKem768 dk a w ≡ splitWith dk a w public
 unfolding split
-split-public dk a w e f =
-    ap₂
-    (λ (ek h : List ℕ).
-    record { s = sharedList a (secondCoeffs mlKem768 dk a); z = sharedList w (secondWords mlKem768 dk w); ek = ek; h = h })
-    e f
+split-stored dk a w e = ap (splitWith dk a w) e
 
 module _ {dk dk′ c : List ℕ} (key : Key dk) (key′ : Key dk′) (ct : Ciphertext c)
     (e : publicPart mlKem768 dk ≡ publicPart mlKem768 dk′) (f : hashPart mlKem768 dk ≡ hashPart mlKem768 dk′) where
   sameAt-drawn : (t : ℕ) → t < 187794 → SameAt t (drawn dk c) (drawn dk′ c)
   sameAt-drawn t h =
       let x =
-      worksheet-stage mlKem768 fits768 (publicPart mlKem768 dk) (hashPart mlKem768 dk) c (length-hashPart key)
-      (below-hashPart key) (ct .long) (ct .bytes) .entry t h
+      worksheet-stage mlKem768 fits768 (stored dk) c (length-hash key) (below-hash key) (ct .long) (ct .bytes) .entry t
+      (rw (counts768 .steps) h)
       in
       sameAt-recount (zero-add t)
-      (sameAt-right (coupled-firsts mlKem768 dk dk′ (x .0 .0) (accepted-secret mlKem768 (key .accepts)) (accepted-secret mlKem768 (key′ .accepts))) (λ a a′ r.
+      (sameAt-right
+      (coupled-firsts mlKem768 dk dk′ (x .0 .0) (accepted-secret mlKem768 (key .accepts))
+      (accepted-secret mlKem768 (key′ .accepts))) (λ a a′ r.
       sameAt-recount (zero-add t)
       (sameAt-right like-words (λ w w′ u.
-      rw (split-public dk a w refl refl, split-public dk′ a′ w′ (sym e) (sym f)) (x .1 _ _ (record { main = r; side = tt }))))))
+      rw (split-stored dk a w refl, split-stored dk′ a′ w′ (ap₂ (λ (l m : List ℕ). l ++ m) (sym e) (sym f)))
+      (x .1 _ _ (record { main = r; side = tt }))))))
 
 -- ---- the count
 
@@ -90,12 +106,15 @@ hit-past (suc i) v (x ∷ l) h = hit-past i v l (omega arith)
 
 abbrev counted : List ℕ → List ℕ → ℕ → ℕ → ℕ
 counted dk c t v =
-    tally (replicate 768 q) (λ a. tally (replicate 4 (2 ^ 64)) (λ w. strips 11750 7424 (λ ws cs. gives dk c t v a w ws cs)))
+    tally (replicate 768 q)
+    (λ a. tally (replicate 4 (2 ^ 64)) (λ w. strips 11750 7424 (λ ws cs. gives dk c t v a w ws cs)))
 
 module _ {dk c : List ℕ} (key : Key dk) (ct : Ciphertext c) where
   uses-split : (a w : List ℕ) → Uses 187794 11750 7424 (worksheet mlKem768 (split mlKem768 dk a w) c)
   unfolding split
-  uses-split a w = uses-worksheet mlKem768 _ c (length-hashPart key) (ct .long)
+  uses-split a w =
+      uses-recount (counts768 .steps) (counts768 .stripWords) (counts768 .stripCoeffs)
+      (uses-worksheet mlKem768 _ c (length-hash key) (ct .long))
 
   hits-drawn-counted : (t v : ℕ) → hits t v (drawn dk c) ≡ counted dk c t v
   hits-drawn-counted t v =

@@ -1,36 +1,36 @@
--- The hash of four shared words and a public string, as a stage: nothing is asked of the words.
-use Prim.Native.Nat.{ℕ, _+_, _<_, _≤_}
+-- SHA3-512 and SHAKE256 of four shared words and a public string, as stages: nothing is asked of the words.
+use Prim.Native.Nat.{ℕ, _+_}
 use mathlib.Core.Path.{_≡_, ap, _∙_}
-use mathlib.Core.List.{List, _++_}
-use native.Mathlib.Omega.{arith}
-use lib.ListN.{length, replicate}
+use mathlib.Core.List.{List}
+use lib.ListN.{length}
 use Rattle.words.specs.Bounded.{Below}
-use Rattle.words.specs.BoundedLaws.{below-append, below-zeros}
 use Rattle.worksheet.specs.Stage.{Stage, comap}
 use Rattle.worksheet.specs.SharedList.{SharedList}
 use Rattle.worksheet.specs.Choice.{KeptShared}
-use Rattle.masked_fips202.specs.MaskedSpongeSilence.{SharedBytes, maskedSponge-stage}
+use Rattle.masked_fips202.specs.MaskedSpongeSilence.{SharedBytes, maskedSha3-512Words-stage, maskedShake256Words-stage}
+use Rattle.masked_fips202.specs.MaskedWords.{maskedSha3-512Words, maskedShake256Words, sha3-512Entries, shake256Entries}
 use Rattle.masked_sampler.specs.PolynomialSilence.{Anything}
-use Rattle.mlkem.specs.Worksheet.{bytesOf, four, hashShared}
-use Rattle.mlkem.specs.WordBytes.{below-bytesOf}
-use Rattle.mlkem.specs.StripLengths.{hashEntries}
-use Rattle.mlkem.specs.WorksheetUses.{length-bytesOf-four}
+use Rattle.stages.specs.Moves.{withPublic}
+use Rattle.stages.specs.MovesLaws.{length-withPublic, below-withPublic0, below-withPublic1}
 
 module _ (len : ℕ) (public : List ℕ) (long : length public ≡ len) (bytes : Below 256 public) where
   abbrev inputs : SharedList → SharedBytes (32 + len)
   inputs w =
       record {
-        in0 = bytesOf (four (w .s0)) ++ public;
-        in1 = bytesOf (four (w .s1)) ++ replicate (length public) 0;
-        long = length-bytesOf-four (w .s0) public ∙ ap (λ (t : ℕ). 32 + t) long;
-        below0 = below-append (bytesOf (four (w .s0))) (below-bytesOf (four (w .s0))) bytes;
-        below1 =
-            below-append (bytesOf (four (w .s1))) (below-bytesOf (four (w .s1))) (below-zeros (length public) (omega arith));
+        in0 = withPublic w public .s0;
+        in1 = withPublic w public .s1;
+        long = length-withPublic w public ∙ ap (λ (t : ℕ). 32 + t) long;
+        below0 = below-withPublic0 w public bytes;
+        below1 = below-withPublic1 w public;
       }
 
-  pub hashShared-stage : (rate suffix : ℕ) → suffix < 128 → 8 ≤ rate → rate ≤ 200 → (n : ℕ)
-      → Stage Anything (KeptShared n) (hashEntries rate (32 + len) n) (λ w. hashShared rate suffix w public n)
-      (λ w. hashShared rate suffix w public n)
-  unfolding hashShared
-  hashShared-stage rate suffix h l u n =
-      comap Anything inputs inputs (λ e. e) (λ e a b r. tt) (maskedSponge-stage rate suffix (32 + len) h l u n)
+  pub sha3-512-stage : Stage Anything (KeptShared 8) (sha3-512Entries (32 + len))
+      (λ w. maskedSha3-512Words (withPublic w public .s0) (withPublic w public .s1))
+      (λ w. maskedSha3-512Words (withPublic w public .s0) (withPublic w public .s1))
+  sha3-512-stage = comap Anything inputs inputs (λ e. e) (λ e a b r. tt) (maskedSha3-512Words-stage (32 + len))
+
+  pub shake256-stage : (n : ℕ)
+      → Stage Anything (KeptShared n) (shake256Entries (32 + len) n)
+      (λ w. maskedShake256Words (withPublic w public .s0) (withPublic w public .s1) n)
+      (λ w. maskedShake256Words (withPublic w public .s0) (withPublic w public .s1) n)
+  shake256-stage n = comap Anything inputs inputs (λ e. e) (λ e a b r. tt) (maskedShake256Words-stage (32 + len) n)

@@ -1,10 +1,12 @@
 pub mod Claim
+pub mod Recount
 pub mod Pair
 pub mod HashSilence
 pub mod DecryptionSilence
 pub mod NoiseSilence
 pub mod ReencryptionSilence
-pub mod PlanesSilence
+pub mod EncryptionSilence
+pub mod ComparisonSilence
 pub mod WorksheetSilence
 pub mod SplitSilence
 pub mod Demand3

@@ -13,7 +13,8 @@ module _ {A B C D G H I J E F K L : Type 0} {R : E → A → B → Type 0} {S : 
     (put : C → G → I) (put′ : D → H → J) where
   pub pair-stage : {S₁ : L → C → D → Type 0} {Q₁ : L → G → H → Type 0} → Stage R S m f f′ → Stage R Q n g g′
       → ((d : L) (c : C) (c′ : D) (x : G) (x′ : H) → S₁ d c c′ → Q₁ d x x′ → U d (put c x) (put′ c′ x′))
-      → ((d : L) → (e : E) × ((a : A) (b : B) → R e a b → Coupled (S₁ d) m (f a) (f′ b) × Coupled (Q₁ d) n (g a) (g′ b)))
+      →
+      ((d : L) → (e : E) × ((a : A) (b : B) → R e a b → Coupled (S₁ d) m (f a) (f′ b) × Coupled (Q₁ d) n (g a) (g′ b)))
       → Stage R U (m + n) (paired put f g) (paired put′ f′ g′)
   pair-stage s t h c =
       record {
@@ -24,7 +25,8 @@ module _ {A B C D G H I J E F K L : Type 0} {R : E → A → B → Type 0} {S : 
             let x = s .entry i l in
             (x .0, λ a b r. sameAt-left (x .1 a b r) (λ y y′. coupled-map _ _ (λ z z′ u. u) (t .like a b))))
             (λ i l.
-            let x = t .entry i l in (x .0, λ a b r. sameAt-right (s .like a b) (λ y y′ u. sameAt-map _ _ (x .1 a b r))));
+            let x = t .entry i l in
+            (x .0, λ a b r. sameAt-right (s .like a b) (λ y y′ u. sameAt-map _ _ (x .1 a b r))));
         fresh = λ d.
             let x = c d in (
               x .0,

@@ -1,4 +1,5 @@
--- The split that import makes, under two keys: the first shares can be matched so that either share of the secret is equal.
+-- The split that import makes, under two keys: the first shares can be matched so that either share of the secret is
+-- equal.
 use Prim.Native.Nat.{ℕ, _+_, _-_, _*_, _%_, _<_}
 use mathlib.Core.Path.{_≡_, refl, sym, _∙_}
 use mathlib.Core.Bool.{Bool, true, false}
@@ -61,10 +62,15 @@ module _ (p : Parameters) (dk dk′ : List ℕ) where
       → SameShare c (sharedList a (secondCoeffs p dk a)) (sharedList a′ (secondCoeffs p dk′ a′))
   unfolding secondCoeffs
   sameShare-split false {a} {a′} r =
-      record { same = tab-of 0 a (256 * p .k) (r .long) (r .at 0 0) ∙ sym (tab-of 0 a′ (256 * p .k) (r .long′) (λ i h. refl)) }
+      record {
+        same =
+            tab-of 0 a (256 * p .k) (r .long) (r .at 0 0)
+            ∙ sym (tab-of 0 a′ (256 * p .k) (r .long′) (λ i h. refl));
+      }
   sameShare-split true r = record { same = tab-cong (256 * p .k) (r .at 0 0) }
 
-  pub coupled-firsts : (c : Bool) → Below q (coefficients (p .k) (secretPart p dk)) → Below q (coefficients (p .k) (secretPart p dk′))
+  pub coupled-firsts : (c : Bool) → Below q (coefficients (p .k) (secretPart p dk))
+      → Below q (coefficients (p .k) (secretPart p dk′))
       → Coupled (λ a a′. SameShare c (sharedList a (secondCoeffs p dk a)) (sharedList a′ (secondCoeffs p dk′ a′))) 0
       (times (256 * p .k) (λ i. mask coeff)) (times (256 * p .k) (λ i. mask coeff))
   coupled-firsts c t t′ =

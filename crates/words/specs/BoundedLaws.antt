@@ -11,7 +11,8 @@ use Rattle.words.specs.Bounded.{Below}
 
 module _ {b : ℕ} where
   pub below-positive : {l : List ℕ} → Below b l → 0 < b
-  below-positive {l} h = subst (λ (x : ℕ). x < b) (List·getD-eq-default l 0 {n = length l} (omega arith)) (h .at (length l))
+  below-positive {l} h =
+      subst (λ (x : ℕ). x < b) (List·getD-eq-default l 0 {n = length l} (omega arith)) (h .at (length l))
 
   pub below-nil : 0 < b → Below b []
   below-nil p = record { at = λ k. p }
@@ -60,6 +61,7 @@ module _ {b : ℕ} where
   below-set (x ∷ l) (suc i) h g = below-cons (below-head g) (below-set l i h (below-tail g))
 
   -- g takes numbers below a to numbers below b
-  pub below-map : {a : ℕ} (g : ℕ → ℕ) → 0 < b → ((x : ℕ) → x < a → g x < b) → (l : List ℕ) → Below a l → Below b (map g l)
+  pub below-map : {a : ℕ} (g : ℕ → ℕ) → 0 < b → ((x : ℕ) → x < a → g x < b) → (l : List ℕ) → Below a l
+      → Below b (map g l)
   below-map g p h [] k = below-nil p
   below-map g p h (x ∷ l) k = below-cons (h x (k .at 0)) (below-map g p h l (record { at = λ i. k .at (suc i) }))

@@ -55,9 +55,12 @@ unfolding digit low
 xor-digit k x y = sym (low-xor 1 (x / 2 ^ k) (y / 2 ^ k)) ∙ ap (λ (z : ℕ). z % 2) (sym (xor-shift k x y))
 
 pub digit-formula : (k : ℕ) (e : Formula) (ρ : List ℕ) → digit k (onWords e ρ) ≡ onBits e (map (digit k) ρ)
-digit-formula k (at i) ρ = sym (List·getD-map (digit k) ρ i 0) ∙ ap (λ (d : ℕ). getD (map (digit k) ρ) i d) (digit-zero k)
-digit-formula k (e ⊕ f) ρ = digit-xor k (onWords e ρ) (onWords f ρ) ∙ ap₂ differ (digit-formula k e ρ) (digit-formula k f ρ)
-digit-formula k (e ⊗ f) ρ = digit-and k (onWords e ρ) (onWords f ρ) ∙ ap₂ min (digit-formula k e ρ) (digit-formula k f ρ)
+digit-formula k (at i) ρ =
+    sym (List·getD-map (digit k) ρ i 0) ∙ ap (λ (d : ℕ). getD (map (digit k) ρ) i d) (digit-zero k)
+digit-formula k (e ⊕ f) ρ =
+    digit-xor k (onWords e ρ) (onWords f ρ) ∙ ap₂ differ (digit-formula k e ρ) (digit-formula k f ρ)
+digit-formula k (e ⊗ f) ρ =
+    digit-and k (onWords e ρ) (onWords f ρ) ∙ ap₂ min (digit-formula k e ρ) (digit-formula k f ρ)
 
 up-to : (n x y : ℕ) → x ≤ n → y ≤ n → ((k : ℕ) → digit k x ≡ digit k y) → x ≡ y
 up-to zero x y h g e = omega arith

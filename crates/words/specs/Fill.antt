@@ -1,4 +1,4 @@
--- A loop that fills a list of n elements from the front by those of tab n f, and one that replaces the elements of l₀ so.
+-- A loop that fills a list of n elements from the front by those of tab n f, and one that replaces those of l₀ so.
 --
 -- How a proof cites it, where turn i of a loop stores f i at place i:
 --     the invariant    Filled n f i out; Replaced or Mapped where a turn also reads the old elements
@@ -12,7 +12,8 @@ use Prim.Native.Nat.{ℕ, _+_, _-_, _<_, _≤_}
 use native.Mathlib.Decide.{decLt}
 use native.Mathlib.Numerals.{add-one}
 use native.Mathlib.Omega.{arith}
-use lib.ListN.{length, getD, take, drop, set, replicate, length-set, length-append, length-drop, length-replicate, getD-replicate}
+use lib.ListN.{length, getD, take, drop, set, replicate, length-set, length-append, length-drop, length-replicate}
+use lib.ListN.{getD-replicate}
 use lib.Seq.{take-suc-set, take-all, take-at, getD-take, getD-set-other}
 use Rattle.words.specs.Tab.{tab, length-tab, getD-tab, tab-add, tab-of, tab-getD}
 
@@ -27,7 +28,8 @@ module _ {A : Type 0} where
   unfolding tab
   filled-start h = record { within = omega arith; long = h; front = refl }
 
-  pub filled-turn : {n : ℕ} {f : ℕ → A} {i : ℕ} {l : List A} {v : A} → Filled n f i l → i < n → v ≡ f i → Filled n f (i + 1) (set l i v)
+  pub filled-turn : {n : ℕ} {f : ℕ → A} {i : ℕ} {l : List A} {v : A} → Filled n f i l → i < n → v ≡ f i
+      → Filled n f (i + 1) (set l i v)
   unfolding tab
   filled-turn {n} {f} {i} {l} {v} a h e =
       record {
@@ -37,7 +39,8 @@ module _ {A : Type 0} where
       }
 
   -- the elements from i to e, put in place at once
-  pub filled-part : {n : ℕ} {f : ℕ → A} {i e : ℕ} {l p : List A} → Filled n f i l → i ≤ e → e ≤ n → p ≡ tab (e - i) (λ k. f (i + k))
+  pub filled-part : {n : ℕ} {f : ℕ → A} {i e : ℕ} {l p : List A} → Filled n f i l → i ≤ e → e ≤ n
+      → p ≡ tab (e - i) (λ k. f (i + k))
       → Filled n f e (take i l ++ (p ++ drop (e - i) (drop i l)))
   filled-part {n} {f} {i} {e} {l} {p} a h g q =
       let r = drop (e - i) (drop i l) in
@@ -57,7 +60,8 @@ module _ {A : Type 0} where
       sym (take-all n l (omega arith)) ∙ (rw e at (a .front))
 
   -- a copy of s
-  pub filled-copy : (d : A) {s : List A} {i : ℕ} {l : List A} → Filled (length s) (λ k. getD s k d) i l → length s ≤ i → l ≡ s
+  pub filled-copy : (d : A) {s : List A} {i : ℕ} {l : List A} → Filled (length s) (λ k. getD s k d) i l → length s ≤ i
+      → l ≡ s
   filled-copy d {s} a h = filled-end a h ∙ sym (tab-of d s (length s) refl (λ k g. refl))
 
   -- one element everywhere
@@ -76,7 +80,8 @@ module _ {A : Type 0} where
   pub replaced-start : {n : ℕ} {f : ℕ → A} {d : A} {l : List A} → length l ≡ n → Replaced n f d l 0 l
   replaced-start h = record { filled = filled-start h; rest = λ k g. refl }
 
-  pub replaced-turn : {n : ℕ} {f : ℕ → A} {d : A} {l₀ : List A} {i : ℕ} {l : List A} {v : A} → Replaced n f d l₀ i l → i < n → v ≡ f i
+  pub replaced-turn : {n : ℕ} {f : ℕ → A} {d : A} {l₀ : List A} {i : ℕ} {l : List A} {v : A} → Replaced n f d l₀ i l
+      → i < n → v ≡ f i
       → Replaced n f d l₀ (i + 1) (set l i v)
   replaced-turn {d = d} {i = i} {l} {v} a h e =
       record {
@@ -84,7 +89,8 @@ module _ {A : Type 0} where
         rest = λ k g. getD-set-other l i k v d (omega arith) ∙ a .rest k (omega arith);
       }
 
-  pub replaced-end : {n : ℕ} {f : ℕ → A} {d : A} {l₀ : List A} {i : ℕ} {l : List A} → Replaced n f d l₀ i l → n ≤ i → l ≡ tab n f
+  pub replaced-end : {n : ℕ} {f : ℕ → A} {d : A} {l₀ : List A} {i : ℕ} {l : List A} → Replaced n f d l₀ i l → n ≤ i
+      → l ≡ tab n f
   replaced-end a h = filled-end (a .filled) h
 
   -- from i on the elements of l₀ are those of tab n f
@@ -103,9 +109,12 @@ module _ {A : Type 0} where
   pub mapped-start : {g : A → A} {d : A} {l : List A} → Mapped g d l 0 l
   mapped-start = record { replaced = replaced-start refl }
 
-  pub mapped-turn : {g : A → A} {d : A} {l₀ : List A} {i : ℕ} {l : List A} {v : A} → Mapped g d l₀ i l → i < length l₀ → v ≡ g (getD l i d)
+  pub mapped-turn : {g : A → A} {d : A} {l₀ : List A} {i : ℕ} {l : List A} {v : A} → Mapped g d l₀ i l → i < length l₀
+      → v ≡ g (getD l i d)
       → Mapped g d l₀ (i + 1) (set l i v)
-  mapped-turn {g} {i = i} a h e = record { replaced = replaced-turn (a .replaced) h (e ∙ ap g (a .replaced .rest i (omega arith))) }
+  mapped-turn {g} {i = i} a h e =
+      record { replaced = replaced-turn (a .replaced) h (e ∙ ap g (a .replaced .rest i (omega arith))) }
 
-  pub mapped-end : {g : A → A} {d : A} {l₀ : List A} {i : ℕ} {l : List A} → Mapped g d l₀ i l → length l₀ ≤ i → l ≡ map g l₀
+  pub mapped-end : {g : A → A} {d : A} {l₀ : List A} {i : ℕ} {l : List A} → Mapped g d l₀ i l → length l₀ ≤ i
+      → l ≡ map g l₀
   mapped-end {g} {d} {l₀} a h = replaced-end (a .replaced) h ∙ tab-getD g d l₀

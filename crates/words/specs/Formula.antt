@@ -1,5 +1,5 @@
--- Identities of xor and and, for every width at once. A formula stands for a word made of other words; two formulas that agree on
--- all zeros and ones of their words, which is computed, agree on all words.
+-- Identities of xor and and, for every width at once. A formula stands for a word made of other words; two formulas
+-- that agree on all zeros and ones of their words, which is computed, agree on all words.
 use mathlib.Core.Path.{_≡_, refl, sym, ap₂, _∙_}
 use mathlib.Core.List.{List, [], _∷_, map}
 use mathlib.Core.Bool.{Bool, true, false, _&&_}
@@ -113,7 +113,8 @@ module _ (e f : Formula) where
       sym (div-add-mod' (onWords e ρ) 2)
       ∙ ap₂ (λ (x y : ℕ). x * 2 + y)
       (formula-half e ρ
-      ∙ up-to k (map half ρ) (agree-half e f ρ t) (rw (← formula-half e ρ) (half-le h)) (rw (← formula-half f ρ) (half-le g))
+      ∙ up-to k (map half ρ) (agree-half e f ρ t) (rw (← formula-half e ρ) (half-le h))
+      (rw (← formula-half f ρ) (half-le g))
       ∙ sym (formula-half f ρ))
       (formula-odd e ρ ∙ eqb→eq _ _ (onAllBits-at (λ l. eqb (onBits e l) (onBits f l)) ρ t) ∙ sym (formula-odd f ρ))
       ∙ div-add-mod' (onWords f ρ) 2

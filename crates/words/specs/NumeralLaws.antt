@@ -14,7 +14,8 @@ use lib.ListN.{length, getD, replicate, length-append, length-replicate, List·g
 use lib.Seq.{getD-append-add}
 use Rattle.words.specs.Tab.{tab, tab-of}
 use Rattle.words.specs.Bounded.{Below}
-use Rattle.words.specs.BoundedLaws.{below-positive, below-nil, below-cons, below-head, below-tail, below-append, below-zeros}
+use Rattle.words.specs.BoundedLaws.{below-positive, below-nil, below-cons, below-head, below-tail, below-append}
+use Rattle.words.specs.BoundedLaws.{below-zeros}
 use Rattle.words.specs.Numeral.{digits, value}
 
 pub length-digits : (b n x : ℕ) → length (digits b n x) ≡ n
@@ -35,7 +36,8 @@ pub value-head : {b x : ℕ} (v : ℕ) → x < b → (x + v * b) % b ≡ x
 value-head {b} {x} v h = ap (λ (n : ℕ). n % b) (omega arith) ∙ digits-mod v h
 
 -- the digits of v, and those of x above them
-pub digits-append : (b n m v x : ℕ) → 0 < b → v < b ^ n → digits b (n + m) (v + x * b ^ n) ≡ digits b n v ++ digits b m x
+pub digits-append : (b n m v x : ℕ) → 0 < b → v < b ^ n
+    → digits b (n + m) (v + x * b ^ n) ≡ digits b n v ++ digits b m x
 unfolding digits
 digits-append b zero m v x h l =
     let e : v + x * b ^ 0 ≡ x = omega (arith, pow-zero b, ap (λ (k : ℕ). x * k) (pow-zero b)) in
@@ -56,7 +58,8 @@ pub digits-value : (b : ℕ) (l : List ℕ) → Below b l → digits b (length l
 unfolding digits value
 digits-value b [] h = refl
 digits-value b (x ∷ l) h =
-    rw (value-tail (value b l) (below-head h), value-head (value b l) (below-head h)) (ap (λ (m : List ℕ). x ∷ m) (digits-value b l (below-tail h)))
+    rw (value-tail (value b l) (below-head h), value-head (value b l) (below-head h))
+    (ap (λ (m : List ℕ). x ∷ m) (digits-value b l (below-tail h)))
 
 pub value-digits : (b n x : ℕ) → 0 < b → value b (digits b n x) ≡ x % b ^ n
 unfolding digits value
@@ -83,7 +86,8 @@ unfolding digits
 getD-digits b zero x i h = absurd (omega arith)
 getD-digits b (suc n) x zero h = rw (pow-zero, div-one)
 getD-digits b (suc n) x (suc i) h =
-    getD-digits b n (x / b) i (omega arith) ∙ ap (λ (y : ℕ). y % b) (div-div-eq-div-mul x b (b ^ i) ∙ ap (λ (m : ℕ). x / m) (sym (pow-succ' b i)))
+    getD-digits b n (x / b) i (omega arith)
+    ∙ ap (λ (y : ℕ). y % b) (div-div-eq-div-mul x b (b ^ i) ∙ ap (λ (m : ℕ). x / m) (sym (pow-succ' b i)))
 
 -- digit i of the d digits of x and of a list m after them, where m's are the d digits of each number of l
 pub getD-digits-append : (b d x : ℕ) (l m : List ℕ) (i : ℕ) → 0 < d
@@ -113,7 +117,8 @@ pub value-append : (b : ℕ) (l m : List ℕ) → value b (l ++ m) ≡ value b l
 unfolding value
 value-append b [] m = rw (pow-zero b, mul-one (value b m)) (omega arith)
 value-append b (x ∷ l) m =
-    rw (value-append b l m, pow-suc b (length l), ← mul-assoc (value b m) (b ^ length l) b, add-mul (value b l) (value b m * b ^ length l) b)
+    let e = b ^ length l in
+    rw (value-append b l m, pow-suc b (length l), ← mul-assoc (value b m) e b, add-mul (value b l) (value b m * e) b)
     (omega arith)
 
 pub value-zeros : (b n : ℕ) → value b (replicate n 0) ≡ 0
@@ -122,7 +127,8 @@ value-zeros b zero = refl
 value-zeros b (suc n) = rw (value-zeros b n, zero-mul b)
 
 -- above its last digit a numeral goes on by zeros
-pub digits-value-zeros : (b : ℕ) (l : List ℕ) (n : ℕ) → Below b l → digits b (length l + n) (value b l) ≡ l ++ replicate n 0
+pub digits-value-zeros : (b : ℕ) (l : List ℕ) (n : ℕ) → Below b l
+    → digits b (length l + n) (value b l) ≡ l ++ replicate n 0
 digits-value-zeros b l n h =
     ap₂ (digits b)
     (sym (length-append l (replicate n 0) ∙ ap (λ (k : ℕ). length l + k) (length-replicate n 0)))

@@ -43,8 +43,10 @@ module _ {A : Type 0} where
     overwritten-end h = o .is ∙ ap (λ (x : List A). p ++ x) (drop-of-length-le l₀ h) ∙ append-nil p
 
   -- the elements from a on become those of t
-  pub overwritten-last : {p l₀ l r t : List A} (o : Overwritten p l₀ l) (a : ℕ) → length p ≡ a → a + length t ≡ length l₀ → r ≡ t
+  pub overwritten-last : {p l₀ l r t : List A} (o : Overwritten p l₀ l) (a : ℕ) → length p ≡ a
+      → a + length t ≡ length l₀ → r ≡ t
       → take a l ++ (r ++ drop (length l - a) (drop a l)) ≡ p ++ t
   overwritten-last {p} {t = t} o a h f k =
-      overwritten-end (overwritten-part o a _ h (f ∙ sym (overwritten-length o)) (omega (arith, overwritten-length o)) k)
+      overwritten-end
+      (overwritten-part o a _ h (f ∙ sym (overwritten-length o)) (omega (arith, overwritten-length o)) k)
       (omega (arith, length-append p t))

@@ -14,7 +14,8 @@ use Rattle.words.specs.Digit.{digit}
 use Rattle.words.specs.DigitLaws.{digit-lt, digit-zero, digit-low, digit-half}
 use Rattle.words.specs.Plane.{plane}
 
-pub plane-cong : (n j k : ℕ) (v w : ℕ → ℕ) → ((i : ℕ) → i < n → digit j (v i) ≡ digit k (w i)) → plane n v j ≡ plane n w k
+pub plane-cong : (n j k : ℕ) (v w : ℕ → ℕ) → ((i : ℕ) → i < n → digit j (v i) ≡ digit k (w i))
+    → plane n v j ≡ plane n w k
 unfolding plane
 plane-cong n j k v w e = ap (value 2) (tab-cong n e)
 
@@ -35,8 +36,11 @@ module _ (n : ℕ) (v : ℕ → ℕ) where
 
   pub plane-bits : (j : ℕ) → Bits n (plane n v j)
   unfolding plane
-  plane-bits j = record { lt = rw (length-tab n (λ i. digit j (v i))) at (value-lt 2 (tab n (λ i. digit j (v i))) (planes-below j)) }
+  plane-bits j =
+      let l = tab n (λ i. digit j (v i)) in
+      record { lt = rw (length-tab n (λ i. digit j (v i))) at (value-lt 2 l (planes-below j)) }
 
   pub digit-plane : (i j : ℕ) → i < n → digit i (plane n v j) ≡ digit j (v i)
   unfolding plane
-  digit-plane i j h = digit-value (tab n (λ i. digit j (v i))) (planes-below j) i ∙ getD-tab n (λ i. digit j (v i)) i 0 h
+  digit-plane i j h =
+      digit-value (tab n (λ i. digit j (v i))) (planes-below j) i ∙ getD-tab n (λ i. digit j (v i)) i 0 h

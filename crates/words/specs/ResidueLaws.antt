@@ -1,7 +1,8 @@
 -- Numbers modulo m: the laws of sums, products and differences, for every modulus.
 use mathlib.Core.Path.{_≡_, sym, ap, _∙_}
 use Prim.Native.Nat.{ℕ, _+_, _-_, _*_, _/_, _%_, _<_, _≤_}
-use native.Mathlib.Nat.{add-mod, mod-add-mod, mod-eq-of-lt, mul-comm, mul-add-mod-self-right, div-add-mod', add-mod-right}
+use native.Mathlib.Nat.{add-mod, mod-add-mod, mod-eq-of-lt, mul-comm, mul-add-mod-self-right, div-add-mod'}
+use native.Mathlib.Nat.{add-mod-right}
 use native.Mathlib.Omega.{arith}
 
 pub mod-mul-mod : (a b m : ℕ) → a % m * b % m ≡ a * b % m
@@ -10,18 +11,22 @@ mod-mul-mod a b m =
     ∙ ap (λ (n : ℕ). n % m) (omega (arith, ap (λ (n : ℕ). n * b) (div-add-mod' a m)))
 
 pub mul-mod-mod : (a b m : ℕ) → a * (b % m) % m ≡ a * b % m
-mul-mod-mod a b m = ap (λ (n : ℕ). n % m) (mul-comm a (b % m)) ∙ mod-mul-mod b a m ∙ ap (λ (n : ℕ). n % m) (mul-comm b a)
+mul-mod-mod a b m =
+    ap (λ (n : ℕ). n % m) (mul-comm a (b % m)) ∙ mod-mul-mod b a m ∙ ap (λ (n : ℕ). n % m) (mul-comm b a)
 
 -- sums of two, regrouped
 pub add-swap-mod : (a b c d m : ℕ) → ((a + b) % m + (c + d) % m) % m ≡ ((a + c) % m + (b + d) % m) % m
-add-swap-mod a b c d m = sym (add-mod (a + b) (c + d) m) ∙ ap (λ (n : ℕ). n % m) (omega arith) ∙ add-mod (a + c) (b + d) m
+add-swap-mod a b c d m =
+    sym (add-mod (a + b) (c + d) m) ∙ ap (λ (n : ℕ). n % m) (omega arith) ∙ add-mod (a + c) (b + d) m
 
 -- what is added and taken away again
 pub add-sub-mod : (x c m : ℕ) → x < m → c ≤ m → ((x + c) % m + (m - c)) % m ≡ x
-add-sub-mod x c m h g = mod-add-mod (x + c) m (m - c) ∙ ap (λ (n : ℕ). n % m) (omega arith) ∙ add-mod-right x m ∙ mod-eq-of-lt h
+add-sub-mod x c m h g =
+    mod-add-mod (x + c) m (m - c) ∙ ap (λ (n : ℕ). n % m) (omega arith) ∙ add-mod-right x m ∙ mod-eq-of-lt h
 
 pub sub-add-mod : (x c m : ℕ) → x < m → c ≤ m → ((x + (m - c)) % m + c) % m ≡ x
-sub-add-mod x c m h g = mod-add-mod (x + (m - c)) m c ∙ ap (λ (n : ℕ). n % m) (omega arith) ∙ add-mod-right x m ∙ mod-eq-of-lt h
+sub-add-mod x c m h g =
+    mod-add-mod (x + (m - c)) m c ∙ ap (λ (n : ℕ). n % m) (omega arith) ∙ add-mod-right x m ∙ mod-eq-of-lt h
 
 -- a summand is determined by the sum
 pub add-mod-cancel : (a x y m : ℕ) → a ≤ m → x < m → y < m → (a + x) % m ≡ (a + y) % m → x ≡ y

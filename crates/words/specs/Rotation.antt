@@ -1,7 +1,8 @@
 -- The laws of rotation, for every width n and every number of places k up to n.
 use mathlib.Core.Path.{_≡_, sym, ap, ap₂, _∙_, subst}
 use Prim.Native.Nat.{ℕ, zero, suc, _+_, _-_, _*_, _/_, _%_, _^_, _<_, _≤_}
-use native.Mathlib.Nat.{mul-mod-left, add-zero, sub-zero, mul-one, div-one, mod-lt, mod-self, mod-eq-of-lt, div-eq-of-lt}
+use native.Mathlib.Nat.{mul-mod-left, add-zero, sub-zero, mul-one, div-one, mod-lt, mod-self, mod-eq-of-lt}
+use native.Mathlib.Nat.{div-eq-of-lt}
 use native.Mathlib.Omega.{arith}
 use lib.Arith.{digits-lt}
 use lib.Pow.{mod-pow-add, shl-shr, shr-lt, pow-add, pow-pos, high, low, split}
@@ -65,9 +66,11 @@ module _ {n : ℕ} (k : ℕ) (h : k ≤ n) where
 pub rotl-or : (n x k : ℕ) → Bits n x → k < n → bitOr (x * 2 ^ k % 2 ^ n) (x / 2 ^ ((n - k) % n)) ≡ rotl n x k
 unfolding rotl
 rotl-or n x zero a l =
-    rw (sub-zero, mod-self, mul-one x, div-one x, mod-eq-of-lt (a .lt), div-eq-of-lt (a .lt)) (or-self x ∙ sym (add-zero x))
+    rw (sub-zero, mod-self, mul-one x, div-one x, mod-eq-of-lt (a .lt), div-eq-of-lt (a .lt))
+    (or-self x ∙ sym (add-zero x))
 rotl-or n x (suc i) a l =
     let k = suc i in
     let e : n - k + k ≡ n = omega arith in
     let m : (n - k) % n ≡ n - k = mod-eq-of-lt (omega arith) in
-    rw (m, rw e at (shl-mod x (n - k) k)) (or-shifted (x % 2 ^ (n - k)) k (x / 2 ^ (n - k)) (high-lt n x k (omega arith) a))
+    rw (m, rw e at (shl-mod x (n - k) k))
+    (or-shifted (x % 2 ^ (n - k)) k (x / 2 ^ (n - k)) (high-lt n x k (omega arith) a))

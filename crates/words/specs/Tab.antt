@@ -1,5 +1,5 @@
 -- The list f 0, f 1, .., f (n - 1).
-use mathlib.Core.Path.{_≡_, refl, sym, ap, ap₂, _∙_}
+use mathlib.Core.Path.{_≡_, refl, sym, ap₂, _∙_}
 use mathlib.Core.List.{List, [], _∷_, _++_, map, append-nil, append-assoc}
 use Prim.Native.Nat.{ℕ, zero, suc, _+_, _<_, _≤_}
 use native.Mathlib.Nat.{add-zero, add-suc}
@@ -40,7 +40,8 @@ module _ {A : Type 0} where
       rw (add-suc n m, tab-add n m f) (append-assoc (tab n f) (tab m (λ i. f (n + i))) (f (n + m) ∷ []))
 
   -- a list is tabulated by its elements
-  pub tab-of : (d : A) (l : List A) (n : ℕ) {f : ℕ → A} → length l ≡ n → ((i : ℕ) → i < n → getD l i d ≡ f i) → l ≡ tab n f
+  pub tab-of : (d : A) (l : List A) (n : ℕ) {f : ℕ → A} → length l ≡ n → ((i : ℕ) → i < n → getD l i d ≡ f i)
+      → l ≡ tab n f
   tab-of d l n {f} e h =
       ext-getD d l (tab n f) (e ∙ sym (length-tab n f))
       (λ i g. let k : i < n = omega arith in h i k ∙ sym (getD-tab n f i d k))
@@ -48,16 +49,14 @@ module _ {A : Type 0} where
   -- n elements from a on
   pub tab-part : (d : A) (a n : ℕ) (l : List A) → a + n ≤ length l → take n (drop a l) ≡ tab n (λ i. getD l (a + i) d)
   tab-part d a n l h =
-      tab-of d _ n (length-take n (drop a l) ∙ omega (arith, length-drop a l)) (λ i g. getD-take n (drop a l) i d g ∙ getD-drop a l i d)
+      tab-of d _ n (length-take n (drop a l) ∙ omega (arith, length-drop a l))
+      (λ i g. getD-take n (drop a l) i d g ∙ getD-drop a l i d)
 
   pub part-tab : (a n m : ℕ) (f : ℕ → A) → a + n ≤ m → take n (drop a (tab m f)) ≡ tab n (λ i. f (a + i))
   part-tab a n m f h =
-      tab-part (f 0) a n (tab m f) (omega (arith, length-tab m f)) ∙ tab-cong n (λ i g. getD-tab m f (a + i) (f 0) (omega arith))
-
-pub map-tab : {A B : Type 0} (g : A → B) (n : ℕ) (f : ℕ → A) → map g (tab n f) ≡ tab n (λ i. g (f i))
-map-tab {A} {B} g n f =
-    tab-of (g (f 0)) _ n (lib.ListN.length-map (tab n f) g ∙ length-tab n f)
-    (λ i h. lib.ListN.List·getD-map g (tab n f) i (f 0) ∙ ap g (getD-tab n f i (f 0) h))
+      tab-part (f 0) a n (tab m f) (omega (arith, length-tab m f))
+      ∙ tab-cong n (λ i g. getD-tab m f (a + i) (f 0) (omega arith))
 
 pub tab-getD : {A B : Type 0} (g : A → B) (d : A) (l : List A) → tab (length l) (λ i. g (getD l i d)) ≡ map g l
-tab-getD g d l = sym (tab-of (g d) (map g l) (length l) (lib.ListN.length-map l g) (λ i h. lib.ListN.List·getD-map g l i d))
+tab-getD g d l =
+    sym (tab-of (g d) (map g l) (length l) (lib.ListN.length-map l g) (λ i h. lib.ListN.List·getD-map g l i d))

@@ -31,9 +31,12 @@ every-true zero p h = refl
 every-true (suc n) p h = rw (every-true n p (λ i l. h i (omega arith)), h n (omega arith))
 
 -- entry k of the table passes the test f k
-pub table-at : (f : ℕ → ℕ → Bool) (xs : List ℕ) → T (every (length xs) (λ k. f k (getD xs k 0))) → (k : ℕ) → k < length xs → T (f k (getD xs k 0))
+pub table-at : (f : ℕ → ℕ → Bool) (xs : List ℕ) → T (every (length xs) (λ k. f k (getD xs k 0))) → (k : ℕ)
+    → k < length xs → T (f k (getD xs k 0))
 table-at f xs t k h = every-at (length xs) (λ k. f k (getD xs k 0)) t k h
 
 -- a table of the values of f
-pub table-tab : (f : ℕ → ℕ) (xs : List ℕ) → T (every (length xs) (λ k. eqb (getD xs k 0) (f k))) → xs ≡ tab (length xs) f
-table-tab f xs t = tab-of 0 xs (length xs) refl (λ k h. eqb→eq (getD xs k 0) (f k) (table-at (λ k x. eqb x (f k)) xs t k h))
+pub table-tab : (f : ℕ → ℕ) (xs : List ℕ) → T (every (length xs) (λ k. eqb (getD xs k 0) (f k)))
+    → xs ≡ tab (length xs) f
+table-tab f xs t =
+    tab-of 0 xs (length xs) refl (λ k h. eqb→eq (getD xs k 0) (f k) (table-at (λ k x. eqb x (f k)) xs t k h))

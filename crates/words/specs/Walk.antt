@@ -4,8 +4,8 @@
 --     the invariant    Walked (length a) (λ k. getD a k 0 ≡ getD b k 0) i
 --     before the loop  walked-start
 --     a turn           walked-turn INVARIANT (omega arith) (c .if1 .left)
---     after the loop   walked-equal 0 INVARIANT (omega arith) LENGTHS says a ≡ b; where the test is another, walked-below
---                      or walked-every or, for any P, walked-end
+--     after the loop   walked-equal 0 INVARIANT (omega arith) LENGTHS says a ≡ b; where the test is another,
+--                      walked-below or walked-every or, for any P, walked-end
 --     inside it        refuted or every-false says that the test of the whole is false
 use mathlib.Core.Path.{_≡_, refl}
 use mathlib.Core.Bool.{Bool, true, false, _&&_}

@@ -5,7 +5,8 @@ use Prim.Native.Nat.{ℕ, _+_, _-_, _*_, _/_, _^_, _≤_}
 use native.Mathlib.Nat.{mod-eq-of-lt, mod-lt, lt-of-lt-of-le}
 use native.Mathlib.Omega.{arith}
 use lib.Pow.{pow-pos, pow-mono, ones-lt, shr-lt}
-use lib.Bits.{bitXor, bitAnd, xor-lt, and-lt, xor-self, xor-zero-r, xor-zero-l, xor-add-and, and-mask, xor-mod, xor-shr, and-shr}
+use lib.Bits.{bitXor, bitAnd, xor-lt, and-lt, xor-self, xor-zero-r, xor-zero-l, xor-add-and, and-mask, xor-mod, xor-shr}
+use lib.Bits.{and-shr}
 use Rattle.words.specs.Word.{Bits, xor, and, ones, complement, or, low}
 use Rattle.words.specs.Formula.{boole, at, _⊕_, _⊗_}
 
@@ -13,9 +14,6 @@ use Rattle.words.specs.Formula.{boole, at, _⊕_, _⊗_}
 
 pub xor-comm : (a b : ℕ) → xor a b ≡ xor b a
 xor-comm a b = boole (at 0 ⊕ at 1) (at 1 ⊕ at 0) (a ∷ b ∷ []) tt
-
-pub xor-assoc : (a b c : ℕ) → xor (xor a b) c ≡ xor a (xor b c)
-xor-assoc a b c = boole (at 0 ⊕ at 1 ⊕ at 2) (at 0 ⊕ (at 1 ⊕ at 2)) (a ∷ b ∷ c ∷ []) tt
 
 pub xor-right-comm : (a b c : ℕ) → xor (xor a b) c ≡ xor (xor a c) b
 xor-right-comm a b c = boole (at 0 ⊕ at 1 ⊕ at 2) (at 0 ⊕ at 2 ⊕ at 1) (a ∷ b ∷ c ∷ []) tt
@@ -45,23 +43,10 @@ xor-swap a b c d = boole ((at 0 ⊕ at 1) ⊕ (at 2 ⊕ at 3)) ((at 0 ⊕ at 2) 
 pub and-comm : (a b : ℕ) → and a b ≡ and b a
 and-comm a b = boole (at 0 ⊗ at 1) (at 1 ⊗ at 0) (a ∷ b ∷ []) tt
 
-pub and-assoc : (a b c : ℕ) → and (and a b) c ≡ and a (and b c)
-and-assoc a b c = boole (at 0 ⊗ at 1 ⊗ at 2) (at 0 ⊗ (at 1 ⊗ at 2)) (a ∷ b ∷ c ∷ []) tt
-
-pub and-xor-left : (a b c : ℕ) → and (xor a b) c ≡ xor (and a c) (and b c)
-and-xor-left a b c = boole ((at 0 ⊕ at 1) ⊗ at 2) (at 0 ⊗ at 2 ⊕ at 1 ⊗ at 2) (a ∷ b ∷ c ∷ []) tt
-
-pub and-xor-right : (a b c : ℕ) → and a (xor b c) ≡ xor (and a b) (and a c)
-and-xor-right a b c = boole (at 0 ⊗ (at 1 ⊕ at 2)) (at 0 ⊗ at 1 ⊕ at 0 ⊗ at 2) (a ∷ b ∷ c ∷ []) tt
-
 -- the complement of one of two shares is the complement of what they join to
 pub complement-xor : (n a b : ℕ) → xor (complement n a) b ≡ complement n (xor a b)
 unfolding complement
 complement-xor n a b = boole (at 0 ⊕ at 2 ⊕ at 1) (at 0 ⊕ at 1 ⊕ at 2) (a ∷ b ∷ ones n ∷ []) tt
-
-pub complement-complement : (n a : ℕ) → complement n (complement n a) ≡ a
-unfolding complement
-complement-complement n a = xor-xor-cancel a (ones n)
 
 -- ---- widths
 

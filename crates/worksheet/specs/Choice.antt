@@ -24,7 +24,8 @@ pub record Kept (n : ℕ) (q : Bool) (z z′ : Shares) : Type 0 where
   pub both : Both n z z′
   pub same : share q z ≡ share q z′
 
-pub both-bits : {n : ℕ} {z z′ : Shares} → Bits n (z .s0) → Bits n (z .s1) → Bits n (z′ .s0) → Bits n (z′ .s1) → Both n z z′
+pub both-bits : {n : ℕ} {z z′ : Shares} → Bits n (z .s0) → Bits n (z .s1) → Bits n (z′ .s0) → Bits n (z′ .s1)
+    → Both n z z′
 both-bits a b a′ b′ = record { left = sharing-joined a b; right = sharing-joined a′ b′ }
 
 pub apart-both : {n d X X′ : ℕ} {z z′ : Shares} → Apart n d X X′ z z′ → Both n z z′
@@ -75,7 +76,8 @@ listShare true s = s .s1
 pub record SameShare (q : Bool) (s s′ : SharedList) : Type 0 where
   pub same : listShare q s ≡ listShare q s′
 
-pub sameShare-at : (q : Bool) {s s′ : SharedList} → SameShare q s s′ → (i : ℕ) → share q (sharedAt s i) ≡ share q (sharedAt s′ i)
+pub sameShare-at : (q : Bool) {s s′ : SharedList} → SameShare q s s′ → (i : ℕ)
+    → share q (sharedAt s i) ≡ share q (sharedAt s′ i)
 sameShare-at false r i = ap (λ (l : List ℕ). getD l i 0) (r .same)
 sameShare-at true r i = ap (λ (l : List ℕ). getD l i 0) (r .same)
 

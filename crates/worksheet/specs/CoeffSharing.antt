@@ -41,8 +41,10 @@ add-coeffKeep : {m X X′ : ℕ} → X < m → X′ < m → (X + coeffKeep m tru
 add-coeffKeep {m} {X} {X′} h g =
     add-mod-mod X (X′ + (m - X)) m ∙ ap (λ (t : ℕ). t % m) (omega arith) ∙ add-mod-right X′ m ∙ mod-eq-of-lt g
 
-pub share-coeffKeep : (c : Bool) {m X X′ : ℕ} {z z′ : Shares} → CoeffApart m (coeffKeep m c X X′) X X′ z z′ → share c z ≡ share c z′
-share-coeffKeep false {m = m} {z = z} a = sym (a .by ∙ ap (λ (t : ℕ). t % m) (add-zero (z .s0)) ∙ mod-eq-of-lt (a .left .lt0))
+pub share-coeffKeep : (c : Bool) {m X X′ : ℕ} {z z′ : Shares} → CoeffApart m (coeffKeep m c X X′) X X′ z z′
+    → share c z ≡ share c z′
+share-coeffKeep false {m = m} {z = z} a =
+    sym (a .by ∙ ap (λ (t : ℕ). t % m) (add-zero (z .s0)) ∙ mod-eq-of-lt (a .left .lt0))
 share-coeffKeep true {m = m} {X = X} {X′ = X′} {z = z} {z′ = z′} a =
     add-mod-cancel (z′ .s0) (z .s1) (z′ .s1) m (omega (arith, a .right .lt0)) (a .left .lt1) (a .right .lt1)
     (ap (λ (t : ℕ). (t + z .s1) % m) (a .by)
@@ -71,7 +73,8 @@ coeffSharing-addShares {m} {a = a} {b = b} s t =
           add-swap-mod (a .s0) (b .s0) (a .s1) (b .s1) m ∙ ap₂ (λ (x y : ℕ). (x + y) % m) (s .sums) (t .sums);
     }
 
-pub coeffApart-addShares : {m d e X Y X′ Y′ : ℕ} {a b a′ b′ : Shares} → CoeffApart m d X X′ a a′ → CoeffApart m e Y Y′ b b′
+pub coeffApart-addShares : {m d e X Y X′ Y′ : ℕ} {a b a′ b′ : Shares} → CoeffApart m d X X′ a a′
+    → CoeffApart m e Y Y′ b b′
     → CoeffApart m ((d + e) % m) ((X + Y) % m) ((X′ + Y′) % m) (addShares m a b) (addShares m a′ b′)
 coeffApart-addShares {m} {d} {e} {a = a} {b = b} s t =
     record {

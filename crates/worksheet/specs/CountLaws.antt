@@ -7,7 +7,8 @@ use native.Mathlib.Numerals.{add-one}
 use native.Mathlib.Omega.{arith}
 use lib.Dec.{eqb}
 use lib.ListN.{length, getD, replicate, replicate-append-replicate}
-use Rattle.worksheet.specs.Prog.{Mask, word, coeff, bound, Prog, ret, draw, enter, _>>=_, mask, loop, snoc, times, bind-assoc}
+use Rattle.worksheet.specs.Prog.{Mask, word, coeff, bound, Prog, ret, draw, enter, _>>=_, mask, loop, snoc, times}
+use Rattle.worksheet.specs.ProgLaws.{bind-assoc}
 use Rattle.worksheet.specs.Run.{run}
 use Rattle.worksheet.specs.Sum.{sum, when}
 use Rattle.worksheet.specs.SumLaws.{sum-cong, sum-swap, sum-zero}
@@ -43,13 +44,15 @@ unfolding tally
 tally-zero [] = refl
 tally-zero (b ∷ bs) = sum-cong b (λ x lt. tally-zero bs) ∙ sum-zero b
 
-tally-sum : (bs : List ℕ) (n : ℕ) (f : List ℕ → ℕ → ℕ) → tally bs (λ xs. sum n (λ y. f xs y)) ≡ sum n (λ y. tally bs (λ xs. f xs y))
+tally-sum : (bs : List ℕ) (n : ℕ) (f : List ℕ → ℕ → ℕ)
+    → tally bs (λ xs. sum n (λ y. f xs y)) ≡ sum n (λ y. tally bs (λ xs. f xs y))
 unfolding tally
 tally-sum [] n f = refl
 tally-sum (b ∷ bs) n f =
     sum-cong b (λ x lt. tally-sum bs n (λ xs y. f (x ∷ xs) y)) ∙ sum-swap b n (λ x y. tally bs (λ xs. f (x ∷ xs) y))
 
-tally-snoc : (bs : List ℕ) (b : ℕ) (f : List ℕ → ℕ) → tally (bs ++ b ∷ []) f ≡ tally bs (λ xs. sum b (λ y. f (xs ++ y ∷ [])))
+tally-snoc : (bs : List ℕ) (b : ℕ) (f : List ℕ → ℕ)
+    → tally (bs ++ b ∷ []) f ≡ tally bs (λ xs. sum b (λ y. f (xs ++ y ∷ [])))
 unfolding tally
 tally-snoc [] b f = refl
 tally-snoc (a ∷ bs) b f = sum-cong a (λ x lt. tally-snoc bs b (λ xs. f (x ∷ xs)))
@@ -63,10 +66,12 @@ strips-total (coeff-u {w = w} {c = c} u) =
     ∙ sum-cong (bound coeff) (λ x lt. strips-total (u x))
 strips-total (enter-u u) = strips-total u
 
-strips-when : {A : Type 0} {e w c : ℕ} {p : Prog A} → Uses e w c p → (b : Bool) → strips w c (λ ws cs. when b 1) ≡ when b (total p)
+strips-when : {A : Type 0} {e w c : ℕ} {p : Prog A} → Uses e w c p → (b : Bool)
+    → strips w c (λ ws cs. when b 1) ≡ when b (total p)
 strips-when u true = strips-total u
 strips-when {w = w} {c = c} u false =
-    tally-cong (replicate w (bound word)) (λ ws. tally-zero (replicate c (bound coeff))) ∙ tally-zero (replicate w (bound word))
+    tally-cong (replicate w (bound word)) (λ ws. tally-zero (replicate c (bound coeff)))
+    ∙ tally-zero (replicate w (bound word))
 
 -- the strips that give v at entry i are as many as `hits` says
 pub strips-hit : {A : Type 0} {e w c : ℕ} {p : Prog A} → Uses e w c p → (i v : ℕ)

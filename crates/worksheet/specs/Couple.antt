@@ -9,8 +9,8 @@ use Rattle.worksheet.specs.Sum.{when}
 use Rattle.worksheet.specs.SumLaws.{Perm, sum-cong, sum-perm}
 use Rattle.worksheet.specs.CountLaws.{total, hits}
 
--- The draws can be matched so that the results are related by R; the permutation of each draw may depend on all that was
--- drawn before. Both programs make n entries.
+-- The draws can be matched so that the results are related by R; the permutation of each draw may depend on all that
+-- was drawn before. Both programs make n entries.
 pub data Coupled {A B : Type 0} (R : A → B → Type 0) : ℕ → Prog A → Prog B → Type 0 where
   ret-c : {a : A} {b : B} → R a b → Coupled R 0 (ret a) (ret b)
   draw-c : {n : ℕ} {m : Mask} {k : ℕ → Prog A} {k′ : ℕ → Prog B} (π : Perm (bound m))
@@ -61,14 +61,16 @@ module _ {A B : Type 0} where
   coupled-weaken h (draw-c π k) = draw-c π (λ x lt. coupled-weaken h (k x lt))
   coupled-weaken h (enter-c c) = enter-c (coupled-weaken h c)
 
-  pub coupled-recount : {R : A → B → Type 0} {m n : ℕ} {p : Prog A} {p′ : Prog B} → m ≡ n → Coupled R m p p′ → Coupled R n p p′
+  pub coupled-recount : {R : A → B → Type 0} {m n : ℕ} {p : Prog A} {p′ : Prog B} → m ≡ n → Coupled R m p p′
+      → Coupled R n p p′
   coupled-recount e c = rw e at c
 
   pub sameAt-recount : {i j : ℕ} {p : Prog A} {p′ : Prog B} → i ≡ j → SameAt i p p′ → SameAt j p p′
   sameAt-recount e s = rw e at s
 
   -- every value of the first program is related to one of the second
-  pub gives-coupled : {R : A → B → Type 0} {n : ℕ} {p : Prog A} {p′ : Prog B} → Coupled R n p p′ → Gives (λ a. (b : B) × R a b) p
+  pub gives-coupled : {R : A → B → Type 0} {n : ℕ} {p : Prog A} {p′ : Prog B} → Coupled R n p p′
+      → Gives (λ a. (b : B) × R a b) p
   gives-coupled (ret-c {b = b} r) = ret-g (b, r)
   gives-coupled (draw-c π h) = draw-g (λ x lt. gives-coupled (h x lt))
   gives-coupled (enter-c c) = enter-g (gives-coupled c)
@@ -77,7 +79,8 @@ module _ {A B : Type 0} where
 
 module _ {A B C D : Type 0} {f : A → Prog C} {f′ : B → Prog D} where
   pub coupled-bind : {R : A → B → Type 0} {S : C → D → Type 0} {m n : ℕ} {p : Prog A} {p′ : Prog B}
-      → Coupled R m p p′ → ((a : A) (b : B) → R a b → Coupled S n (f a) (f′ b)) → Coupled S (m + n) (p >>= f) (p′ >>= f′)
+      → Coupled R m p p′ → ((a : A) (b : B) → R a b → Coupled S n (f a) (f′ b))
+      → Coupled S (m + n) (p >>= f) (p′ >>= f′)
   unfolding _>>=_
   coupled-bind {n = n} (ret-c {a = a} {b = b} r) h = rw (zero-add n) (h a b r)
   coupled-bind (draw-c π k) h = draw-c π (λ x lt. coupled-bind (k x lt) h)

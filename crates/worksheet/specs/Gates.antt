@@ -1,6 +1,6 @@
 -- Complement, exclusive or and Or of sharings, at any width w (document 01, The gadgets).
 use Prim.Native.Nat.{ℕ}
-use Rattle.words.specs.Word.{xor, and, complement}
+use Rattle.words.specs.Word.{xor, complement}
 use Rattle.worksheet.specs.declared.Shares.{Shares}
 use Rattle.worksheet.specs.Prog.{Prog, ret, _>>=_, entry}
 use Rattle.worksheet.specs.Sharing.{shares}

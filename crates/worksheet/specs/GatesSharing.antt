@@ -24,7 +24,8 @@ module _ {n X Y : ℕ} {u v : Shares} (s : Sharing n X u) (t : Sharing n Y v) wh
   unfolding maskedAnd maskLow mask entry _>>=_
   sharing-maskedAnd =
       draw-g (λ x h.
-      enter-g (enter-g (enter-g (enter-g (enter-g (enter-g (enter-g (enter-g (ret-g (sharing-result s t (low-bits x)))))))))))
+      enter-g
+      (enter-g (enter-g (enter-g (enter-g (enter-g (enter-g (enter-g (ret-g (sharing-result s t (low-bits x)))))))))))
 
 module _ {n X Y : ℕ} {u v : Shares} (s : Sharing n X u) (t : Sharing n Y v) where
   pub sharing-maskedOr : Gives (Sharing n (or n X Y)) (maskedOr n u v)

@@ -8,12 +8,15 @@ use Rattle.words.specs.Word.{Bits, xor, and, complement, or}
 use Rattle.words.specs.WordLaws.{xor-bits, and-bits, zero-bits}
 use Rattle.worksheet.specs.declared.Shares.{Shares}
 use Rattle.worksheet.specs.Prog.{Prog, _>>=_, entry}
-use Rattle.worksheet.specs.Couple.{Coupled, ret-c, enter-c, Like, SameAt, here, there, coupled-bind, sameAt-left, sameAt-right}
+use Rattle.worksheet.specs.Couple.{Coupled, ret-c, enter-c, Like, SameAt, here, there, coupled-bind, sameAt-left}
+use Rattle.worksheet.specs.Couple.{sameAt-right}
 use Rattle.worksheet.specs.Places.{cut}
 use Rattle.worksheet.specs.SharingLaws.{share, Sharing, Apart, sharing-bits, apart-xor, share-keep, keep-bits}
-use Rattle.worksheet.specs.SharingLaws.{xorShares, apart-xorShares, apart-xor-add, sharing-notShares, apart-notShares, share-notShares}
+use Rattle.worksheet.specs.SharingLaws.{xorShares, apart-xorShares, apart-xor-add, sharing-notShares}
+use Rattle.worksheet.specs.SharingLaws.{apart-notShares, share-notShares}
 use Rattle.worksheet.specs.MaskedAnd.{maskedAnd}
-use Rattle.worksheet.specs.MaskedAndSilence.{like-maskedAnd, coupled-maskedAnd, sameAt-maskedAnd, readsLeft, readsRight}
+use Rattle.worksheet.specs.MaskedAndSilence.{like-maskedAnd, coupled-maskedAnd, sameAt-maskedAnd, readsLeft}
+use Rattle.worksheet.specs.MaskedAndSilence.{readsRight}
 use Rattle.worksheet.specs.Gates.{maskedNot, maskedXor, maskedOr}
 
 -- ---- complement
@@ -43,7 +46,8 @@ unfolding maskedXor entry _>>=_
 coupled-maskedXor a b = enter-c (enter-c (ret-c (apart-xorShares a b)))
 
 -- entry i is share i of the sum
-pub sameAt-maskedXor : (u v u′ v′ : Shares) (i : ℕ) → i < 2 → share (ltb 0 i) (xorShares u v) ≡ share (ltb 0 i) (xorShares u′ v′)
+pub sameAt-maskedXor : (u v u′ v′ : Shares) (i : ℕ) → i < 2
+    → share (ltb 0 i) (xorShares u v) ≡ share (ltb 0 i) (xorShares u′ v′)
     → SameAt i (maskedXor u v) (maskedXor u′ v′)
 unfolding maskedXor entry _>>=_
 sameAt-maskedXor u v u′ v′ zero h e = here e (enter-c (ret-c tt))
@@ -59,7 +63,8 @@ pub record Settled (n Z Z′ i : ℕ) (t t′ : Shares → Prog Shares) : Type 0
   pub same : (z z′ : Shares) → Apart n by Z Z′ z z′ → SameAt i (t z) (t′ z′)
 
 pub settled-maskedNot : {n Z Z′ : ℕ} (i : ℕ) → i < 1 → Settled n Z Z′ i (maskedNot n) (maskedNot n)
-settled-maskedNot {n} zero k = record { by = 0; bits = zero-bits; same = λ z z′ r. sameAt-maskedNot n z z′ (share-keep false r) }
+settled-maskedNot {n} zero k =
+    record { by = 0; bits = zero-bits; same = λ z z′ r. sameAt-maskedNot n z z′ (share-keep false r) }
 settled-maskedNot (suc i) k = absurd (omega arith)
 
 pub settled-maskedXor : {n W Z W′ Z′ : ℕ} {w w′ : Shares} → Sharing n W w → Sharing n W′ w′ → Bits n Z → Bits n Z′
@@ -73,8 +78,8 @@ settled-maskedXor {w = w} {w′ = w′} s s′ b b′ i k =
       same = λ z z′ r. sameAt-maskedXor w z w′ z′ i k (share-keep (ltb 0 i) (apart-xor-add s s′ r));
     }
 
-module _ {n X Y X′ Y′ : ℕ} {u v u′ v′ : Shares} (h : n ≤ 64) (su : Sharing n X u) (sv : Sharing n Y v) (su′ : Sharing n X′ u′)
-    (sv′ : Sharing n Y′ v′) where
+module _ {n X Y X′ Y′ : ℕ} {u v u′ v′ : Shares} (h : n ≤ 64)
+    (su : Sharing n X u) (sv : Sharing n Y v) (su′ : Sharing n X′ u′) (sv′ : Sharing n Y′ v′) where
   -- And's entries by the shares that they read, those of t by the mask
   pub sameAt-maskedAnd-bind : {m : ℕ} {t t′ : Shares → Prog Shares} → ((z z′ : Shares) → Like m (t z) (t′ z′))
       → ((i : ℕ) → i < m → Settled n (and X Y) (and X′ Y′) i t t′)
@@ -109,12 +114,14 @@ module _ {n W X Y W′ X′ Y′ : ℕ} {w u v w′ u′ v′ : Shares} (h : n �
       → share (readsRight i) v ≡ share (readsRight i) v′ → SameAt i (xorAnd n w u v) (xorAnd n w′ u′ v′)
   sameAt-xorAnd =
       sameAt-maskedAnd-bind h su sv su′ sv′ (λ z z′. like-maskedXor w z w′ z′)
-      (settled-maskedXor sw sw′ (and-bits (sharing-bits su) (sharing-bits sv)) (and-bits (sharing-bits su′) (sharing-bits sv′)))
+      (settled-maskedXor sw sw′ (and-bits (sharing-bits su) (sharing-bits sv))
+      (and-bits (sharing-bits su′) (sharing-bits sv′)))
 
 -- ---- Or
 
 -- after the complements of u and v
-like-notAnd : (n : ℕ) (u v u′ v′ : Shares) → Like 9 (maskedAnd n u v >>= maskedNot n) (maskedAnd n u′ v′ >>= maskedNot n)
+like-notAnd : (n : ℕ) (u v u′ v′ : Shares)
+    → Like 9 (maskedAnd n u v >>= maskedNot n) (maskedAnd n u′ v′ >>= maskedNot n)
 like-notAnd n u v u′ v′ = coupled-bind (like-maskedAnd n u v u′ v′) (λ z z′ r. like-maskedNot n z z′)
 
 pub like-maskedOr : (n : ℕ) (u v u′ v′ : Shares) → Like 11 (maskedOr n u v) (maskedOr n u′ v′)
@@ -134,10 +141,11 @@ orReadsRight zero = false
 orReadsRight (suc zero) = false
 orReadsRight (suc (suc i)) = readsRight i
 
-module _ {n X Y X′ Y′ : ℕ} {u v u′ v′ : Shares} (h : n ≤ 64) (su : Sharing n X u) (sv : Sharing n Y v) (su′ : Sharing n X′ u′)
-    (sv′ : Sharing n Y′ v′) where
+module _ {n X Y X′ Y′ : ℕ} {u v u′ v′ : Shares} (h : n ≤ 64)
+    (su : Sharing n X u) (sv : Sharing n Y v) (su′ : Sharing n X′ u′) (sv′ : Sharing n Y′ v′) where
   -- the result is fresh
-  pub coupled-maskedOr : {d : ℕ} → Bits n d → Coupled (Apart n d (or n X Y) (or n X′ Y′)) 11 (maskedOr n u v) (maskedOr n u′ v′)
+  pub coupled-maskedOr : {d : ℕ} → Bits n d
+      → Coupled (Apart n d (or n X Y) (or n X′ Y′)) 11 (maskedOr n u v) (maskedOr n u′ v′)
   unfolding maskedOr or
   coupled-maskedOr w =
       coupled-bind (coupled-maskedNot (apart-xor su su′)) (λ a a′ p.
@@ -151,5 +159,7 @@ module _ {n X Y X′ Y′ : ℕ} {u v u′ v′ : Shares} (h : n ≤ 64) (su : S
   sameAt-maskedOr (suc zero) k p q = there (here (ap (complement n) q) (like-notAnd n _ _ _ _))
   sameAt-maskedOr (suc (suc i)) k p q =
       there (there
-      (sameAt-maskedAnd-bind h (sharing-notShares su) (sharing-notShares sv) (sharing-notShares su′) (sharing-notShares sv′)
-      (like-maskedNot n) settled-maskedNot i (omega arith) (share-notShares n (readsLeft i) u u′ p) (share-notShares n (readsRight i) v v′ q)))
+      (sameAt-maskedAnd-bind h (sharing-notShares su) (sharing-notShares sv) (sharing-notShares su′)
+      (sharing-notShares sv′)
+      (like-maskedNot n) settled-maskedNot i (omega arith) (share-notShares n (readsLeft i) u u′ p)
+      (share-notShares n (readsRight i) v v′ q)))

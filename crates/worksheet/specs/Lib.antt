@@ -1,11 +1,14 @@
 pub mod Prog
+pub mod ProgLaws
 pub mod Run
+pub mod RunLaws
 pub mod Recording
 pub mod Ran
 pub mod RanLoops
 pub mod RanChain
 pub mod Uses
 pub mod Turns
+pub mod Flatten
 pub mod Gives
 pub mod Sum
 pub mod SumLaws

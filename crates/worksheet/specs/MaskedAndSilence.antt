@@ -1,4 +1,5 @@
--- Couplings of And: its result can be set apart by any difference, and an entry asks at most for one share of u and one of v.
+-- Couplings of And: its result can be set apart by any difference, and an entry asks at most for one share of u and one
+-- of v.
 use Prim.Native.Nat.{ℕ, zero, suc, _<_, _≤_}
 use mathlib.Core.Path.{_≡_, refl, ap₂, _∙_}
 use mathlib.Core.Bool.{Bool, true}
@@ -34,7 +35,8 @@ pub like-maskedAnd : (w : ℕ) (u v u′ v′ : Shares) → Like 8 (maskedAnd w 
 unfolding maskedAnd maskLow mask entry _>>=_ identity
 like-maskedAnd w u v u′ v′ = draw-c identity (λ x h. coupled-enterAll (entries _ u v) (entries _ u′ v′) refl (ret-c tt))
 
-pub sharing-result : {n X Y r : ℕ} {u v : Shares} → Sharing n X u → Sharing n Y v → Bits n r → Sharing n (and X Y) (result r u v)
+pub sharing-result : {n X Y r : ℕ} {u v : Shares} → Sharing n X u → Sharing n Y v → Bits n r
+    → Sharing n (and X Y) (result r u v)
 sharing-result {r = r} {u = u} {v = v} s t b =
     record {
       bits0 = xor-bits (and-bits (s .bits0) (t .bits0)) (xor-bits (and-bits (s .bits0) (t .bits1)) b);
@@ -48,7 +50,8 @@ same-one a a′ r = boole (at 0 ⊕ at 2) (at 1 ⊕ (at 2 ⊕ (at 0 ⊕ at 1))) 
 
 same-two : (a b a′ b′ r : ℕ) → xor a (xor b r) ≡ xor a′ (xor b′ (xor r (xor (xor a b) (xor a′ b′))))
 same-two a b a′ b′ r =
-    boole (at 0 ⊕ (at 1 ⊕ at 4)) (at 2 ⊕ (at 3 ⊕ (at 4 ⊕ ((at 0 ⊕ at 1) ⊕ (at 2 ⊕ at 3))))) (a ∷ b ∷ a′ ∷ b′ ∷ r ∷ []) tt
+    boole (at 0 ⊕ (at 1 ⊕ at 4)) (at 2 ⊕ (at 3 ⊕ (at 4 ⊕ ((at 0 ⊕ at 1) ⊕ (at 2 ⊕ at 3)))))
+    (a ∷ b ∷ a′ ∷ b′ ∷ r ∷ []) tt
 
 apart-two : (a b a′ b′ d r : ℕ) → xor a′ (xor b′ (xor r (xor (xor (xor a b) (xor a′ b′)) d))) ≡ xor (xor a (xor b r)) d
 apart-two a b a′ b′ d r =
@@ -64,10 +67,11 @@ readsRight zero = true
 readsRight (suc zero) = true
 readsRight (suc (suc i)) = ltb 3 i
 
-module _ {n X Y X′ Y′ : ℕ} {u v u′ v′ : Shares} (h : n ≤ 64) (su : Sharing n X u) (sv : Sharing n Y v) (su′ : Sharing n X′ u′)
-    (sv′ : Sharing n Y′ v′) where
+module _ {n X Y X′ Y′ : ℕ} {u v u′ v′ : Shares} (h : n ≤ 64)
+    (su : Sharing n X u) (sv : Sharing n Y v) (su′ : Sharing n X′ u′) (sv′ : Sharing n Y′ v′) where
   -- the result is fresh
-  pub coupled-maskedAnd : {d : ℕ} → Bits n d → Coupled (Apart n d (and X Y) (and X′ Y′)) 8 (maskedAnd n u v) (maskedAnd n u′ v′)
+  pub coupled-maskedAnd : {d : ℕ} → Bits n d
+      → Coupled (Apart n d (and X Y) (and X′ Y′)) 8 (maskedAnd n u v) (maskedAnd n u′ v′)
   unfolding maskedAnd entry _>>=_
   coupled-maskedAnd {d} w =
       let a = and-bits (su .bits0) (sv .bits0) in
@@ -78,13 +82,19 @@ module _ {n X Y X′ Y′ : ℕ} {u v u′ v′ : Shares} (h : n ≤ 64) (su : S
       coupled-maskLow h c _ _ (λ r k.
       coupled-enterAll (entries r u v) (entries _ u′ v′) refl
       (ret-c
-      (record { left = sharing-result su sv k; right = sharing-result su′ sv′ (xor-bits k c); by = apart-two _ _ _ _ d r })))
+      (record {
+        left = sharing-result su sv k;
+        right = sharing-result su′ sv′ (xor-bits k c);
+        by = apart-two _ _ _ _ d r;
+      })))
 
   -- entry i, by a mask matched with its sum with c
-  by-mask : {c : ℕ} → Bits n c → (i : ℕ) → i < 8 → ((r : ℕ) → getD (entries r u v) i 0 ≡ getD (entries (xor r c) u′ v′) i 0)
+  by-mask : {c : ℕ} → Bits n c → (i : ℕ) → i < 8
+      → ((r : ℕ) → getD (entries r u v) i 0 ≡ getD (entries (xor r c) u′ v′) i 0)
       → SameAt i (maskedAnd n u v) (maskedAnd n u′ v′)
   unfolding maskedAnd entry _>>=_
-  by-mask w i k e = sameAt-maskLow h w _ _ (λ r b. sameAt-enterAll (entries r u v) (entries _ u′ v′) i refl k (e r) (ret-c tt))
+  by-mask w i k e =
+      sameAt-maskLow h w _ _ (λ r b. sameAt-enterAll (entries r u v) (entries _ u′ v′) i refl k (e r) (ret-c tt))
 
   -- every entry, where the two shares that it reads are equal (entries 1, 3, 5 and 7 don't need that)
   pub sameAt-maskedAnd : (i : ℕ) → i < 8 → share (readsLeft i) u ≡ share (readsLeft i) u′

@@ -6,7 +6,8 @@ use native.Mathlib.Nat.{mul-zero, div-add-mod', div-lt-iff-lt-mul, mod-lt}
 use native.Mathlib.Omega.{arith}
 
 -- of n entries and then m
-pub cut : (P : ℕ → Type 0) (n m : ℕ) → ((i : ℕ) → i < n → P i) → ((i : ℕ) → i < m → P (n + i)) → (k : ℕ) → k < n + m → P k
+pub cut : (P : ℕ → Type 0) (n m : ℕ) → ((i : ℕ) → i < n → P i) → ((i : ℕ) → i < m → P (n + i)) → (k : ℕ) → k < n + m
+    → P k
 cut P n m l r k h = go (decLt k n)
   where
     go : Dec (k < n) → P k

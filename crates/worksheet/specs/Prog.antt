@@ -1,10 +1,8 @@
 -- Programs that draw masks and enter values.
 -- A strip is a list of masks, lent in advance and drawn strictly in order: one strip of words, one of coefficients.
 -- An entry, or step, is a value that is written down; the worksheet is the list of all entries, and steps count from 0.
-use Prim.Native.Nat.{ℕ, zero, suc, _^_, _<_}
-use mathlib.Core.Path.{_≡_, refl, ap, ap₂, fun-ext}
+use Prim.Native.Nat.{ℕ, zero, suc, _^_}
 use mathlib.Core.List.{List, [], _∷_, _++_}
-use native.Mathlib.Omega.{arith}
 use lib.ListN.{getD}
 use Rattle.words.specs.Word.{low}
 
@@ -55,19 +53,3 @@ times n f = loop n (λ j ys. snoc (f j) ys) []
 -- n turns that hand on a state, and all states, the first and the last with them
 unfoldable pub chain : {S : Type 0} → ℕ → (ℕ → S → Prog S) → S → Prog (List S)
 chain n f s = loop n (λ j ts. snoc (f j (getD ts j s)) ts) (s ∷ [])
-
-pub bind-assoc : {A B C : Type 0} (p : Prog A) (f : A → Prog B) (g : B → Prog C) → p >>= f >>= g ≡ p >>= (λ a. f a >>= g)
-unfolding _>>=_
-bind-assoc (ret a) f g = refl
-bind-assoc (draw m k) f g = ap (draw m) (fun-ext (λ x. bind-assoc (k x) f g))
-bind-assoc (enter v p) f g = ap (enter v) (bind-assoc p f g)
-
--- turns that are equal
-pub loop-cong : {S : Type 0} (n : ℕ) {f g : ℕ → S → Prog S} (s : S) → ((j : ℕ) → j < n → (t : S) → f j t ≡ g j t) → loop n f s ≡ loop n g s
-unfolding loop
-loop-cong zero s e = refl
-loop-cong (suc n) s e = ap₂ _>>=_ (loop-cong n s (λ j h. e j (omega arith))) (fun-ext (e n (omega arith)))
-
-pub times-cong : {A : Type 0} (n : ℕ) {f g : ℕ → Prog A} → ((j : ℕ) → j < n → f j ≡ g j) → times n f ≡ times n g
-unfolding times
-times-cong n e = loop-cong n [] (λ j h ys. ap (λ p. snoc p ys) (e j h))

@@ -11,11 +11,13 @@ use Rattle.words.specs.Word.{low, Bits}
 use Rattle.words.specs.WordLaws.{low-of-bits}
 use Rattle.worksheet.specs.declared.Recorder.{Recorder}
 use Rattle.worksheet.specs.Prog.{Mask, word, coeff, Prog, ret, _>>=_, mask, maskLow, entry}
-use Rattle.worksheet.specs.Run.{Run, run, run-bind}
-use Rattle.worksheet.specs.Recording.{note, noteAll, noteAll-append, noted, noted-none}
+use Rattle.worksheet.specs.Run.{Run, run}
+use Rattle.worksheet.specs.RunLaws.{run-bind}
+use Rattle.worksheet.specs.Recording.{note, noteAll, noteAll-append, noted}
 
 -- p, run on the strips ws and cs, gives a and leaves ws′ and cs′; its entries take the recorder from r to r′
-pub record Ran {A : Type 0} (p : Prog A) (r : Recorder) (ws cs : List ℕ) (a : A) (r′ : Recorder) (ws′ cs′ : List ℕ) : Type 0 where
+pub record Ran {A : Type 0} (p : Prog A) (r : Recorder) (ws cs : List ℕ) (a : A) (r′ : Recorder)
+    (ws′ cs′ : List ℕ) : Type 0 where
   pub value : run p ws cs .value ≡ a
   pub seen : noteAll r (run p ws cs .entries) ≡ r′
   pub words : run p ws cs .words ≡ ws′
@@ -39,7 +41,8 @@ abbrev pub Draws : {A : Type 0} → Mask → ℕ → Prog A → Recorder → Lis
 Draws word n p r xs a r′ = (cs : List ℕ) → Ran p r xs cs a r′ (drop n xs) cs
 Draws coeff n p r xs a r′ = (ws : List ℕ) → Ran p r ws xs a r′ ws (drop n xs)
 
-pub bind : {A B : Type 0} {p : Prog A} (f : A → Prog B) {r r′ r″ : Recorder} {ws ws′ ws″ cs cs′ cs″ : List ℕ} {a : A} {b : B}
+pub bind : {A B : Type 0} {p : Prog A} (f : A → Prog B) {r r′ r″ : Recorder} {ws ws′ ws″ cs cs′ cs″ : List ℕ} {a : A}
+    {b : B}
     → Ran p r ws cs a r′ ws′ cs′ → Ran (f a) r′ ws′ cs′ b r″ ws″ cs″ → Ran (p >>= f) r ws cs b r″ ws″ cs″
 bind {B = B} {p = p} f {r = r} {ws = ws} {ws′ = ws′} {cs = cs} {cs′ = cs′} {a = a} s t =
     let o = run p ws cs in
@@ -68,7 +71,8 @@ pub draws-word : {r : Recorder} {ws cs : List ℕ} {x : ℕ} → getD ws 0 0 ≡
 unfolding run noteAll mask
 draws-word e = record { value = e; seen = refl; words = refl; coeffs = refl }
 
-pub draws-coeff : {r : Recorder} {ws cs : List ℕ} {x : ℕ} → getD cs 0 0 ≡ x → Ran (mask coeff) r ws cs x r ws (drop 1 cs)
+pub draws-coeff : {r : Recorder} {ws cs : List ℕ} {x : ℕ} → getD cs 0 0 ≡ x
+    → Ran (mask coeff) r ws cs x r ws (drop 1 cs)
 unfolding run noteAll mask
 draws-coeff e = record { value = e; seen = refl; words = refl; coeffs = refl }
 
@@ -118,9 +122,3 @@ pub traced : {A : Type 0} {p : Prog A} (t : ℕ) {ws cs ws′ cs′ : List ℕ} 
     → Ran p (record { left = t + 1; value = 0 }) ws cs a r′ ws′ cs′ → r′ .value ≡ getD (run p ws cs .entries) t 0
 traced {p = p} t {ws = ws} {cs = cs} h =
     ap (λ (r : Recorder). r .value) (sym (h .seen)) ∙ rw (add-one t) (noted (run p ws cs .entries) t 0)
-
--- a recorder that is set to none keeps its value
-pub untraced : {A : Type 0} {p : Prog A} {v : ℕ} {ws cs ws′ cs′ : List ℕ} {a : A} {r′ : Recorder}
-    → Ran p (record { left = 0; value = v }) ws cs a r′ ws′ cs′ → r′ .value ≡ v
-untraced {p = p} {v = v} {ws = ws} {cs = cs} h =
-    ap (λ (r : Recorder). r .value) (sym (h .seen)) ∙ noted-none (run p ws cs .entries) v

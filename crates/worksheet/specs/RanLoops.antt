@@ -1,4 +1,5 @@
--- The laws by which a loop of recorded code follows `loop`, `times` and `chain`: the first i turns have run, and one more runs.
+-- The laws by which a loop of recorded code follows `loop`, `times` and `chain`: the first i turns have run, and one
+-- more runs.
 use Prim.Native.Nat.{ℕ, _+_}
 use mathlib.Core.Path.{_≡_}
 use mathlib.Core.List.{List, [], _∷_, _++_}

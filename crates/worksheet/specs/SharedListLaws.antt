@@ -15,7 +15,8 @@ pub getD-zip : (n : ℕ) (s : SharedList) (i : ℕ) (d : Shares) → i < n → g
 unfolding zip
 getD-zip n s = getD-tab n (sharedAt s)
 
-pub unzip-zip : (n : ℕ) (s : SharedList) (d : Shares) → length (s .s0) ≡ n → length (s .s1) ≡ n → unzip n (λ i. getD (zip n s) i d) ≡ s
+pub unzip-zip : (n : ℕ) (s : SharedList) (d : Shares) → length (s .s0) ≡ n → length (s .s1) ≡ n
+    → unzip n (λ i. getD (zip n s) i d) ≡ s
 unfolding unzip
 unzip-zip n s d e0 e1 =
     ap₂ sharedList (sym (tab-of 0 (s .s0) n e0 (λ i h. sym (ap (λ (z : Shares). z .s0) (getD-zip n s i d h)))))
@@ -25,9 +26,11 @@ pub sharedAt-unzip : (n : ℕ) (f : ℕ → Shares) (i : ℕ) → i < n → shar
 unfolding unzip
 sharedAt-unzip n f i h = ap₂ shares (getD-tab n (λ i. f i .s0) i 0 h) (getD-tab n (λ i. f i .s1) i 0 h)
 
-pub joinedList-unzip : (n : ℕ) (f : ℕ → Shares) {x : ℕ → ℕ} → ((i : ℕ) → i < n → joined (f i) ≡ x i) → joinedList (unzip n f) ≡ tab n x
+pub joinedList-unzip : (n : ℕ) (f : ℕ → Shares) {x : ℕ → ℕ} → ((i : ℕ) → i < n → joined (f i) ≡ x i)
+    → joinedList (unzip n f) ≡ tab n x
 unfolding joinedList unzip
-joinedList-unzip n f h = rw (length-tab n (λ i. f i .s0)) (tab-cong n (λ i l. ap joined (sharedAt-unzip n f i l) ∙ h i l))
+joinedList-unzip n f h =
+    rw (length-tab n (λ i. f i .s0)) (tab-cong n (λ i l. ap joined (sharedAt-unzip n f i l) ∙ h i l))
 
 -- ---- code that keeps sharings in two arrays, one for each share
 
@@ -40,7 +43,8 @@ unfolding zip tab
 zip-one s = refl
 
 -- one more
-zip-suc : (s t : SharedList) (i : ℕ) → ((k : ℕ) → k < i → sharedAt t k ≡ sharedAt s k) → zip (i + 1) t ≡ zip i s ++ sharedAt t i ∷ []
+zip-suc : (s t : SharedList) (i : ℕ) → ((k : ℕ) → k < i → sharedAt t k ≡ sharedAt s k)
+    → zip (i + 1) t ≡ zip i s ++ sharedAt t i ∷ []
 unfolding zip tab
 zip-suc s t i e = rw (add-one i) (ap (λ (l : List Shares). l ++ sharedAt t i ∷ []) (tab-cong i e))
 
@@ -50,7 +54,8 @@ pub zip-set : (l m : List ℕ) (i : ℕ) (a b : ℕ) → i < length l → i < le
 zip-set l m i a b h g =
     zip-suc (sharedList l m) (sharedList (set l i a) (set m i b)) i
     (λ k f. ap₂ shares (getD-set-other l i k a 0 (omega arith)) (getD-set-other m i k b 0 (omega arith)))
-    ∙ ap (λ (z : Shares). zip i (sharedList l m) ++ z ∷ []) (ap₂ shares (getD-set-same l i a 0 h) (getD-set-same m i b 0 g))
+    ∙ ap (λ (z : Shares). zip i (sharedList l m) ++ z ∷ [])
+    (ap₂ shares (getD-set-same l i a 0 h) (getD-set-same m i b 0 g))
 
 pub zip-set0 : (l m : List ℕ) (i a : ℕ) → i < length l
     → zip (i + 1) (sharedList (set l i a) m) ≡ zip i (sharedList l m) ++ shares a (getD m i 0) ∷ []

@@ -4,7 +4,8 @@ use mathlib.Core.Path.{_≡_, refl, sym, ap, ap₂, _∙_, subst}
 use mathlib.Core.Bool.{Bool, true, false}
 use mathlib.Core.List.{[], _∷_}
 use Rattle.words.specs.Word.{Bits, xor, complement}
-use Rattle.words.specs.WordLaws.{xor-bits, complement-bits, zero-bits, xor-same, xor-zero, xor-cancel, xor-right-comm, xor-swap, complement-xor}
+use Rattle.words.specs.WordLaws.{xor-bits, complement-bits, zero-bits, xor-same, xor-zero, xor-cancel, xor-right-comm}
+use Rattle.words.specs.WordLaws.{xor-swap, complement-xor}
 use Rattle.words.specs.Formula.{boole, at, _⊕_}
 use Rattle.worksheet.specs.declared.Shares.{Shares}
 use Rattle.worksheet.specs.Sharing.{joined, none, shares}
@@ -38,7 +39,8 @@ pub sharing-joined : {n : ℕ} {z : Shares} → Bits n (z .s0) → Bits n (z .s1
 sharing-joined a b = record { bits0 = a; bits1 = b; joins = refl }
 
 -- two sharings as they stand
-pub apart-xor : {n X X′ : ℕ} {z z′ : Shares} → Sharing n X z → Sharing n X′ z′ → Apart n (xor (z .s0) (z′ .s0)) X X′ z z′
+pub apart-xor : {n X X′ : ℕ} {z z′ : Shares} → Sharing n X z → Sharing n X′ z′
+    → Apart n (xor (z .s0) (z′ .s0)) X X′ z z′
 apart-xor {z = z} {z′ = z′} a b = record { left = a; right = b; by = sym (xor-cancel (z .s0) (z′ .s0)) }
 
 pub apart-cong : {n d e X X′ : ℕ} {z z′ : Shares} → d ≡ e → Apart n d X X′ z z′ → Apart n e X X′ z z′
@@ -100,7 +102,8 @@ share-xorShares true a b a′ b′ e f = ap₂ xor e f
 
 -- a sum set apart by d, whatever a stands at
 pub apart-xor-add : {n d X Y X′ Y′ : ℕ} {a b a′ b′ : Shares} → Sharing n X a → Sharing n X′ a′
-    → Apart n (xor (xor (a .s0) (a′ .s0)) d) Y Y′ b b′ → Apart n d (xor X Y) (xor X′ Y′) (xorShares a b) (xorShares a′ b′)
+    → Apart n (xor (xor (a .s0) (a′ .s0)) d) Y Y′ b b′
+    → Apart n d (xor X Y) (xor X′ Y′) (xorShares a b) (xorShares a′ b′)
 apart-xor-add {d = d} {a = a} {a′ = a′} s t r =
     apart-cong (xor-cancel (xor (a .s0) (a′ .s0)) d) (apart-xorShares (apart-xor s t) r)
 
@@ -126,7 +129,8 @@ apart-notShares {n} {d} {u = u} a =
       by = ap (complement n) (a .by) ∙ sym (complement-xor n (u .s0) d);
     }
 
-pub share-notShares : (n : ℕ) (q : Bool) (u u′ : Shares) → share q u ≡ share q u′ → share q (notShares n u) ≡ share q (notShares n u′)
+pub share-notShares : (n : ℕ) (q : Bool) (u u′ : Shares) → share q u ≡ share q u′
+    → share q (notShares n u) ≡ share q (notShares n u′)
 share-notShares n false u u′ e = ap (complement n) e
 share-notShares n true u u′ e = e
 

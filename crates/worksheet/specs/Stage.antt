@@ -2,8 +2,10 @@
 use Prim.Native.Nat.{ℕ, zero, suc, _+_, _*_, _<_}
 use native.Mathlib.Nat.{zero-mul, suc-mul}
 use native.Mathlib.Omega.{arith}
-use Rattle.worksheet.specs.Prog.{Prog, ret, _>>=_, loop, times, bind-assoc}
-use Rattle.worksheet.specs.Couple.{Coupled, ret-c, Any, Like, SameAt, coupled-bind, coupled-map, sameAt-left, sameAt-right, sameAt-map}
+use Rattle.worksheet.specs.Prog.{Prog, ret, _>>=_, loop, times}
+use Rattle.worksheet.specs.ProgLaws.{bind-assoc}
+use Rattle.worksheet.specs.Couple.{Coupled, ret-c, Any, Like, SameAt, coupled-bind, coupled-map, sameAt-left}
+use Rattle.worksheet.specs.Couple.{sameAt-right, sameAt-map}
 use Rattle.worksheet.specs.CoupleLoops.{coupled-times, like-times, sameAt-times}
 use Rattle.worksheet.specs.Places.{cut, turns}
 use Rattle.worksheet.specs.Turns.{Turns}
@@ -12,8 +14,8 @@ use Rattle.worksheet.specs.Turns.{Turns}
 abbrev pub EqualAt : {A B C D E : Type 0} → (E → A → B → Type 0) → (A → Prog C) → (B → Prog D) → ℕ → Type 0
 EqualAt {A} {B} {E = E} R f f′ i = (e : E) × ((a : A) (b : B) → R e a b → SameAt i (f a) (f′ b))
 
--- f and f′ run on what comes in under the one key and under the other, and make m entries. R e is a choice of how what comes
--- in is related, S d of how what goes out is.
+-- f and f′ run on what comes in under the one key and under the other, and make m entries. R e is a choice of how what
+-- comes in is related, S d of how what goes out is.
 pub record Stage {A B C D E F : Type 0} (R : E → A → B → Type 0) (S : F → C → D → Type 0) (m : ℕ)
     (f : A → Prog C) (f′ : B → Prog D) : Type 0 where
   -- whatever comes in, they draw and enter alike
@@ -41,11 +43,13 @@ module _ {A B C D G H E F K : Type 0} {R : E → A → B → Type 0} {S : F → 
       }
 
 -- n turns, where R j e is a choice for the state before turn j
-pub loop-stage : {A B E : Type 0} {R : ℕ → E → A → B → Type 0} {m : ℕ} (n : ℕ) {f : ℕ → A → Prog A} {f′ : ℕ → B → Prog B}
+pub loop-stage : {A B E : Type 0} {R : ℕ → E → A → B → Type 0} {m : ℕ} (n : ℕ) {f : ℕ → A → Prog A}
+    {f′ : ℕ → B → Prog B}
     → ((j : ℕ) → j < n → Stage (R j) (R (suc j)) m (f j) (f′ j)) → Stage (R 0) (R n) (n * m) (loop n f) (loop n f′)
 unfolding loop
 loop-stage {m = m} zero h =
-    rw (zero-mul m) (record { like = λ a b. ret-c tt; entry = λ i lt. absurd (omega arith); fresh = λ d. (d, λ a b r. ret-c r) })
+    rw (zero-mul m)
+    (record { like = λ a b. ret-c tt; entry = λ i lt. absurd (omega arith); fresh = λ d. (d, λ a b r. ret-c r) })
 loop-stage {m = m} (suc n) h = rw (suc-mul n m) (andThen (loop-stage n (λ j lt. h j (omega arith))) (h n (omega arith)))
 
 -- a choice for what is worked on and one for what is kept beside it
@@ -65,13 +69,17 @@ module _ {A B C D G H E F K : Type 0} {R : E → A → B → Type 0} {S : F → 
         like = λ a b. coupled-map _ _ (λ c d u. u) (s .like (a .0) (b .0));
         entry = λ i h. let x = s .entry i h in ((x .0, k), λ a b r. sameAt-map _ _ (x .1 (a .0) (b .0) (r .main)));
         fresh = λ d.
-            let x = s .fresh (d .0) in
-            ((x .0, d .1), λ a b r. coupled-map _ _ (λ u v t. record { main = t; side = r .side }) (x .1 (a .0) (b .0) (r .main)));
+            let x = s .fresh (d .0) in (
+              (x .0, d .1),
+              λ a b r. coupled-map _ _ (λ u v t. record { main = t; side = r .side })
+                  (x .1 (a .0) (b .0) (r .main)),
+            );
       }
 
 -- what is live, rearranged: no entries
 pub moves : {A B C D E F : Type 0} {R : E → A → B → Type 0} {S : F → C → D → Type 0} {g : A → C} {g′ : B → D}
-    → ((d : F) → (e : E) × ((a : A) (b : B) → R e a b → S d (g a) (g′ b))) → Stage R S 0 (λ a. ret (g a)) (λ b. ret (g′ b))
+    → ((d : F) → (e : E) × ((a : A) (b : B) → R e a b → S d (g a) (g′ b)))
+    → Stage R S 0 (λ a. ret (g a)) (λ b. ret (g′ b))
 moves h =
     record {
       like = λ a b. ret-c tt;
@@ -108,7 +116,8 @@ rearrange Q g g′ k h s =
 -- ---- what is live goes on to the second part
 
 module _ {A B C D G H I J E F K L : Type 0} {R : E → A → B → Type 0} {S : F → C → D → Type 0} {Q : K → G → H → Type 0}
-    {U : L → I → J → Type 0} {m n : ℕ} {f : A → Prog C} {f′ : B → Prog D} {g : C × G → Prog I} {g′ : D × H → Prog J} where
+    {U : L → I → J → Type 0} {m n : ℕ}
+    {f : A → Prog C} {f′ : B → Prog D} {g : C × G → Prog I} {g′ : D × H → Prog J} where
   -- what is kept beside the first part
   pub andBeside : (k : K) → Stage R S m f f′ → Stage (Beside S Q) U n g g′
       → Stage (Beside R Q) U (m + n) (λ a. f (a .0) >>= λ c. g (c, a .1)) (λ b. f′ (b .0) >>= λ d. g′ (d, b .1))
@@ -126,7 +135,8 @@ module _ {A B C D G H I J E F K L : Type 0} {R : E → A → B → Type 0} {S : 
       }
 
 -- all that comes in, where the first part asks nothing of it
-pub andAlso : {A B C D I J F K L : Type 0} {S : F → C → D → Type 0} {Q : K → A → B → Type 0} {U : L → I → J → Type 0} {m n : ℕ}
+pub andAlso : {A B C D I J F K L : Type 0} {S : F → C → D → Type 0} {Q : K → A → B → Type 0} {U : L → I → J → Type 0}
+    {m n : ℕ}
     {f : A → Prog C} {f′ : B → Prog D} {g : C × A → Prog I} {g′ : D × B → Prog J}
     (k : K) → Stage (λ (e : Unit {0}). Any) S m f f′ → Stage (Beside S Q) U n g g′
     → Stage Q U (m + n) (λ a. f a >>= λ c. g (c, a)) (λ b. f′ b >>= λ d. g′ (d, b))
@@ -135,7 +145,8 @@ andAlso {Q = Q} k s t =
 
 -- ---- n turns on what comes in, of which one choice serves them all
 
-module _ {A B C D E F K : Type 0} {R : E → A → B → Type 0} {S : F → C → D → Type 0} (Q : K → ℕ → C → D → Type 0) (n : ℕ) {m : ℕ}
+module _ {A B C D E F K : Type 0} {R : E → A → B → Type 0} {S : F → C → D → Type 0}
+    (Q : K → ℕ → C → D → Type 0) (n : ℕ) {m : ℕ}
     {f : ℕ → A → Prog C} {f′ : ℕ → B → Prog D} where
   pub times-stage : ((j : ℕ) → j < n → Stage R S m (f j) (f′ j))
       → ((d : K) → (e : E) × ((a : A) (b : B) → R e a b → (j : ℕ) → j < n → Coupled (Q d j) m (f j a) (f′ j b)))

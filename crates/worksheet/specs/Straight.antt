@@ -19,7 +19,8 @@ module _ {A B : Type 0} {n : ℕ} {p : Prog A} {p′ : Prog B} where
   coupled-enterAll [] [] e c = rw (zero-add n) c
   coupled-enterAll [] (v′ ∷ vs′) e c = absurd (omega arith)
   coupled-enterAll (v ∷ vs) [] e c = absurd (omega arith)
-  coupled-enterAll (v ∷ vs) (v′ ∷ vs′) e c = rw (suc-add (length vs) n) (enter-c (coupled-enterAll vs vs′ (omega arith) c))
+  coupled-enterAll (v ∷ vs) (v′ ∷ vs′) e c =
+      rw (suc-add (length vs) n) (enter-c (coupled-enterAll vs vs′ (omega arith) c))
 
   pub sameAt-enterAll : (vs vs′ : List ℕ) (i : ℕ) → length vs′ ≡ length vs → i < length vs → getD vs i 0 ≡ getD vs′ i 0
       → Like n p p′ → SameAt i (enterAll vs p) (enterAll vs′ p′)

@@ -26,7 +26,8 @@ each-snoc {A} {Q} {n} {ys} {y} r q = record { long = length-snoc ys y (r .long);
     go d j h (yes p) = rw (List·getD-append ys (y ∷ []) d j (omega arith)) (r .at d j p)
     go d j h (no p) = let e : j ≡ n = omega arith in rw (e, getD-at ys y [] d n (r .long)) q
 
-pub each-weaken : {A : Type 0} {Q R : ℕ → A → Type 0} {n : ℕ} {ys : List A} → ((j : ℕ) (y : A) → Q j y → R j y) → Each Q n ys → Each R n ys
+pub each-weaken : {A : Type 0} {Q R : ℕ → A → Type 0} {n : ℕ} {ys : List A} → ((j : ℕ) (y : A) → Q j y → R j y)
+    → Each Q n ys → Each R n ys
 each-weaken {ys = ys} h r = record { long = r .long; at = λ d j lt. h j (getD ys j d) (r .at d j lt) }
 
 -- the elements from k on
@@ -58,7 +59,8 @@ turns-snoc {A} {B} {R} {n} {ys} {ys′} {y} {y′} r q =
   where
     go : (d : A) (d′ : B) (j : ℕ) → j < suc n → Dec (j < n) → R j (getD (ys ++ y ∷ []) j d) (getD (ys′ ++ y′ ∷ []) j d′)
     go d d′ j h (yes p) =
-        rw (List·getD-append ys (y ∷ []) d j (omega arith), List·getD-append ys′ (y′ ∷ []) d′ j (omega arith)) (r .at d d′ j p)
+        rw (List·getD-append ys (y ∷ []) d j (omega arith), List·getD-append ys′ (y′ ∷ []) d′ j (omega arith))
+        (r .at d d′ j p)
     go d d′ j h (no p) =
         let e : j ≡ n = omega arith in
         rw (e, getD-at ys y [] d n (r .long), getD-at ys′ y′ [] d′ n (r .long′)) q
@@ -66,7 +68,11 @@ turns-snoc {A} {B} {R} {n} {ys} {ys′} {y} {y′} r q =
 pub turns-weaken : {A B : Type 0} {R S : ℕ → A → B → Type 0} {n : ℕ} {ys : List A} {ys′ : List B}
     → ((j : ℕ) → j < n → (y : A) (y′ : B) → R j y y′ → S j y y′) → Turns R n ys ys′ → Turns S n ys ys′
 turns-weaken {ys = ys} {ys′ = ys′} h r =
-    record { long = r .long; long′ = r .long′; at = λ d d′ j lt. h j lt (getD ys j d) (getD ys′ j d′) (r .at d d′ j lt) }
+    record {
+      long = r .long;
+      long′ = r .long′;
+      at = λ d d′ j lt. h j lt (getD ys j d) (getD ys′ j d′) (r .at d d′ j lt);
+    }
 
 pub turns-drop : {A B : Type 0} {R : ℕ → A → B → Type 0} (k : ℕ) {n : ℕ} {ys : List A} {ys′ : List B}
     → Turns R (n + k) ys ys′ → Turns (λ j. R (k + j)) n (drop k ys) (drop k ys′)

@@ -16,7 +16,8 @@ pub data Uses {A : Type 0} : ℕ → ℕ → ℕ → Prog A → Type 0 where
   coeff-u : {e w c : ℕ} {k : ℕ → Prog A} → ((x : ℕ) → Uses e w c (k x)) → Uses e w (suc c) (draw coeff k)
   enter-u : {e w c v : ℕ} {p : Prog A} → Uses e w c p → Uses (suc e) w c (enter v p)
 
-pub uses-recount : {A : Type 0} {e w c e′ w′ c′ : ℕ} {p : Prog A} → e ≡ e′ → w ≡ w′ → c ≡ c′ → Uses e w c p → Uses e′ w′ c′ p
+pub uses-recount : {A : Type 0} {e w c e′ w′ c′ : ℕ} {p : Prog A} → e ≡ e′ → w ≡ w′ → c ≡ c′ → Uses e w c p
+    → Uses e′ w′ c′ p
 uses-recount p q r u = rw (p, q, r) at u
 
 pub uses-bind : {A B : Type 0} {e w c e′ w′ c′ : ℕ} {p : Prog A} {f : A → Prog B}
@@ -31,7 +32,8 @@ pub uses-loop : {S : Type 0} {e w c : ℕ} (n : ℕ) {f : ℕ → S → Prog S} 
     → ((j : ℕ) (t : S) → Uses e w c (f j t)) → Uses (n * e) (n * w) (n * c) (loop n f s)
 unfolding loop
 uses-loop {e = e} {w = w} {c = c} zero s h = rw (zero-mul e, zero-mul w, zero-mul c) ret-u
-uses-loop {e = e} {w = w} {c = c} (suc n) s h = rw (suc-mul n e, suc-mul n w, suc-mul n c) (uses-bind (uses-loop n s h) (h n))
+uses-loop {e = e} {w = w} {c = c} (suc n) s h =
+    rw (suc-mul n e, suc-mul n w, suc-mul n c) (uses-bind (uses-loop n s h) (h n))
 
 -- what p gives, rearranged
 pub uses-map : {A B : Type 0} {e w c : ℕ} {p : Prog A} (g : A → B) → Uses e w c p → Uses e w c (p >>= λ a. ret (g a))
@@ -49,21 +51,24 @@ uses-chain n s h = uses-loop n _ (λ j ts. uses-map _ (h j (getD ts j s)))
 
 -- ---- on given strips
 
-pub length-entries : {A : Type 0} {e w c : ℕ} {p : Prog A} → Uses e w c p → (ws cs : List ℕ) → length (run p ws cs .entries) ≡ e
+pub length-entries : {A : Type 0} {e w c : ℕ} {p : Prog A} → Uses e w c p → (ws cs : List ℕ)
+    → length (run p ws cs .entries) ≡ e
 unfolding run
 length-entries ret-u ws cs = refl
 length-entries (word-u k) ws cs = length-entries (k (getD ws 0 0)) (drop 1 ws) cs
 length-entries (coeff-u k) ws cs = length-entries (k (getD cs 0 0)) ws (drop 1 cs)
 length-entries (enter-u u) ws cs = ap suc (length-entries u ws cs)
 
-pub words-left : {A : Type 0} {e w c : ℕ} {p : Prog A} → Uses e w c p → (ws cs : List ℕ) → run p ws cs .words ≡ drop w ws
+pub words-left : {A : Type 0} {e w c : ℕ} {p : Prog A} → Uses e w c p → (ws cs : List ℕ)
+    → run p ws cs .words ≡ drop w ws
 unfolding run
 words-left ret-u ws cs = refl
 words-left (word-u {w = w} k) ws cs = words-left (k (getD ws 0 0)) (drop 1 ws) cs ∙ drop-drop w 1 ws ∙ rw (one-add w)
 words-left (coeff-u k) ws cs = words-left (k (getD cs 0 0)) ws (drop 1 cs)
 words-left (enter-u u) ws cs = words-left u ws cs
 
-pub coeffs-left : {A : Type 0} {e w c : ℕ} {p : Prog A} → Uses e w c p → (ws cs : List ℕ) → run p ws cs .coeffs ≡ drop c cs
+pub coeffs-left : {A : Type 0} {e w c : ℕ} {p : Prog A} → Uses e w c p → (ws cs : List ℕ)
+    → run p ws cs .coeffs ≡ drop c cs
 unfolding run
 coeffs-left ret-u ws cs = refl
 coeffs-left (word-u k) ws cs = coeffs-left (k (getD ws 0 0)) (drop 1 ws) cs

@@ -1,3 +1,4 @@
+-- With 600 masks the call is the permutation's, whose value is the definition's; with fewer nothing is promised.
 use mathlib.Core.Path.{sym}
 use mathlib.Core.List.{[]}
 use borrow.Author.Needs.{needs}
@@ -5,11 +6,10 @@ use native.Mathlib.Omega.{arith}
 use Rattle.bench_calls.proofs.bench_masked_keccak_p.Statement.{statement}
 use Rattle.bench_calls.proofs.bench_masked_keccak_p.Tie as tie
 
-returns : tie.Need-returns
-returns c h = absurd (omega arith)
-
-returns-2 : tie.Need-returns-2
-returns-2 c h = sym (c .before .before .permute .ensures [] .value)
-
 pub bench-masked-keccak-p-spec : {M : Type 1} → statement M
-bench-masked-keccak-p-spec = tie.close (tie.spec returns (λ c κs. search needs) returns-2)
+bench-masked-keccak-p-spec =
+    tie.close
+    (tie.spec
+    (λ c h. absurd (omega arith))
+    (λ c κs. search needs)
+    (λ c h. sym (c .before .before .permute .ensures [] .value)))

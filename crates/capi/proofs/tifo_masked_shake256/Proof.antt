@@ -1,14 +1,14 @@
-use mathlib.Core.Path.{ap, _∙_}
+-- The number that C gets is that of the call's answer, so that what the hash leaves is what this call leaves.
 use borrow.Author.Needs.{needs}
-use Rattle.fips202.specs.Calls.{number}
 use Rattle.capi.proofs.tifo_masked_shake256.Statement.{statement}
 use Rattle.capi.proofs.tifo_masked_shake256.Tie as tie
 
-returns : tie.Need-returns
-returns c =
-    let h = c .before .before .before .before .before .masked-shake256 .ensures in
-    (c .refusal .ensures ∙ ap number (h .0), h .1)
-
 pub tifo-masked-shake256-spec : {M : Type 1} → statement M
 tifo-masked-shake256-spec =
-    tie.close (tie.spec (λ c κs. search needs) (λ c κs. search needs) (λ c. search needs) (λ c. search needs) returns)
+    tie.close
+    (tie.spec
+    (λ c κs. search needs)
+    (λ c κs. search needs)
+    (λ c. search needs)
+    (λ c. search needs)
+    (λ c. rw (c .refusal .ensures) (search needs)))

@@ -1,3 +1,4 @@
+-- The draws from byte 1,664 on are as many as a strip's file has, and the strip's buffers are made with their lengths.
 use mathlib.Core.Path.{sym}
 use native.Mathlib.Omega.{arith}
 use borrow.Author.Needs.{needs}
@@ -7,11 +8,12 @@ use Rattle.cli_demo.proofs.run.Tie as tie
 
 unpack-requires : tie.Need-unpack-requires
 unpack-requires c κs =
-    let w = c .before .before .before .before in
-    let s = w .before .before in (
-      simp (length-take, length-drop) (omega (arith, s .pre)),
-      sym (w .words .ensures),
-      sym (c .before .before .before .coefficients .ensures),
+    let coefficients = c .before .before .before in
+    let words = coefficients .before in
+    let start = words .before .before in (
+      simp (length-take, length-drop) (omega (arith, start .pre)),
+      sym (words .words .ensures),
+      sym (coefficients .coefficients .ensures),
     )
 
 pub run-spec : {M : Type 1} → statement M

@@ -1,3 +1,4 @@
+-- SHA3-256 is the general digest at 32 bytes: capacity 512 bits, rate 136.
 use borrow.Author.Needs.{needs}
 use Rattle.fips202.specs.Sponge.{sha3-256}
 use Rattle.fips202.proofs.sha3_256.Statement.{statement}

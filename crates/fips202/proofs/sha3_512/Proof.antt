@@ -1,3 +1,4 @@
+-- SHA3-512 is the general digest at 64 bytes: capacity 1024 bits, rate 72.
 use borrow.Author.Needs.{needs}
 use Rattle.fips202.specs.Sponge.{sha3-512}
 use Rattle.fips202.proofs.sha3_512.Statement.{statement}

@@ -1,3 +1,4 @@
+-- SHAKE128 is the sponge at capacity 256 bits, rate 168, with the suffix 1111.
 use borrow.Author.Needs.{needs}
 use Rattle.fips202.specs.Sponge.{shake128}
 use Rattle.fips202.proofs.shake128.Statement.{statement}

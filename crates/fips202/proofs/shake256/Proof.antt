@@ -1,3 +1,4 @@
+-- SHAKE256 is the sponge at capacity 512 bits, rate 136, with the suffix 1111.
 use borrow.Author.Needs.{needs}
 use Rattle.fips202.specs.Sponge.{shake256}
 use Rattle.fips202.proofs.shake256.Statement.{statement}

@@ -1,3 +1,4 @@
+-- What is absorbed is squeezed: the two equations compose to the sponge's.
 use borrow.Author.Needs.{needs}
 use Rattle.fips202.specs.Sponge.{sponge}
 use Rattle.fips202.proofs.sponge.Statement.{statement}

@@ -1,3 +1,4 @@
+-- The loop is the definition's own iteration of round, and the register goes along with it, seven steps a round.
 use mathlib.Core.Path.{_≡_, refl}
 use Prim.Native.Nat.{_-_, _*_}
 use borrow.Author.Needs.{needs}
@@ -6,6 +7,7 @@ use Rattle.keccak.specs.KeccakP.{register, round, keccak-p}
 use Rattle.keccak.proofs.permute.Statement.{statement}
 use Rattle.keccak.proofs.permute.Tie as tie
 
+-- i rounds done
 abbrev Inv-loop : tie.InvT-loop
 Inv-loop t₀ reg₀ i₀ t reg i = Reached 24 round (t₀ .lanes) i (t .lanes) × (reg ≡ register (7 * i))
 
@@ -18,8 +20,9 @@ loop-holds c = (reached-start, refl)
 
 loop-again : tie.Need-loop-again Inv-loop μ-loop
 loop-again c =
-    let c2 = c .before .before in
-    (reached-turn (c2 .before .loop .inv .0) (c2 .loop-test .taken) (c .round .ensures), c .before .round-constant .ensures .1)
+    let k = c .before .round-constant in
+    let turn = c .before .before in
+    (reached-turn (turn .before .loop .inv .0) (turn .loop-test .taken) (c .round .ensures), k .ensures .1)
 
 returns : tie.Need-returns Inv-loop μ-loop
 unfolding keccak-p

@@ -1,3 +1,4 @@
+-- The five calls are the five step mappings in their order, each by its contract, and k is the round's constant.
 use Rattle.keccak.specs.KeccakP.{round}
 use Rattle.keccak.proofs.round.Statement.{statement}
 use Rattle.keccak.proofs.round.Tie as tie

@@ -1,3 +1,4 @@
+-- The loop is the definition's own: i turns of it have run on the first 25 i masks, and the register goes along.
 use Prim.Native.Nat.{ℕ, _+_, _-_, _*_, _≤_}
 use mathlib.Core.Path.{_≡_, refl}
 use mathlib.Core.List.{List}
@@ -9,15 +10,17 @@ use Rattle.keccak.specs.KeccakP.{register}
 use Rattle.worksheet.specs.Prog.{loop}
 use Rattle.worksheet.specs.Ran.{Ran, part-words}
 use Rattle.worksheet.specs.RanLoops.{loop-start, loop-turn}
-use Rattle.masked_keccak.specs.MaskedKeccak.{round, maskedKeccakP}
-use Rattle.masked_keccak.specs.Rows.{sharedState}
+use Rattle.masked_keccak.specs.MaskedKeccak.{maskedRound, maskedKeccakP}
+use Rattle.masked_keccak.specs.SharedRows.{sharedState}
 use Rattle.masked_keccak.proofs.permute.Statement.{statement}
 use Rattle.masked_keccak.proofs.permute.Tie as tie
 
+-- i rounds done
 abbrev Inv-loop : tie.InvT-loop
 Inv-loop ws rec₀ s₀ t₀ reg₀ i₀ rec s t reg i =
     (i ≤ 24) × (reg ≡ register (7 * i))
-    × ((cs : List ℕ) → Ran (loop i round (sharedState s₀ t₀)) rec₀ ws cs (sharedState s t) rec (drop (25 * i) ws) cs)
+    × ((cs : List ℕ)
+    → Ran (loop i maskedRound (sharedState s₀ t₀)) rec₀ ws cs (sharedState s t) rec (drop (25 * i) ws) cs)
 
 abbrev μ-loop : tie.MeasureT-loop
 μ-loop ws rec₀ s₀ t₀ reg₀ i₀ rec s t reg i = 24 - i
@@ -31,15 +34,16 @@ round-requires c κs = (simp (length-take, length-drop) (omega arith), c .before
 
 loop-again : tie.Need-loop-again Inv-loop μ-loop
 loop-again c =
-    let c3 = c .before .before .before in
-    let c5 = c3 .before .before in
-    let at = c5 .before .before in
-    let ws = at .before .before .args .ws .now in
-    let i = at .loop .i in
-    let e : 25 * i + 25 ≡ 25 * (i + 1) = omega arith in (
+    let o = c .before .before .before in
+    let k = o .before .before in
+    let head = k .before .before in
+    let start = head .before .before in
+    let i = head .loop .i in
+    let e : 25 * i + 25 ≡ 25 * (i + 1) = omega arith in
+    let ws = start .args .ws .now in (
       omega arith,
-      c5 .round-constant .ensures .1,
-      λ cs. loop-turn _ _ i (at .loop .inv .2 cs) (rw e at (part-words ws (25 * i) 25 (c3 .round .ensures cs))),
+      k .round-constant .ensures .1,
+      λ cs. loop-turn _ _ i (head .loop .inv .2 cs) (rw e at (part-words ws (25 * i) 25 (o .round .ensures cs))),
     )
 
 returns : tie.Need-returns Inv-loop μ-loop

@@ -1,13 +1,14 @@
-use mathlib.Core.Path.{ap, _∙_}
+-- The number returned is that of mlkem::encaps's answer, so that what encaps leaves is what this call leaves.
 use borrow.Author.Needs.{needs}
-use Rattle.mlkem.specs.Refusals.{number}
 use Rattle.capi.proofs.keys.tifo_encaps.Statement.{statement}
 use Rattle.capi.proofs.keys.tifo_encaps.Tie as tie
 
-returns : tie.Need-returns
-returns c =
-    let h = c .before .before .before .before .before .encaps .ensures in
-    (c .key-refusal .ensures ∙ ap number (h .0), (rw (h .0) at (h .1 .0), rw (h .0) at (h .1 .1)))
-
 pub tifo-encaps-spec : {M : Type 1} → statement M
-tifo-encaps-spec = tie.close (tie.spec (λ c κs. search needs) (λ c κs. search needs) (λ c. search needs) (λ c. search needs) returns)
+tifo-encaps-spec =
+    tie.close
+    (tie.spec
+    (λ c κs. search needs)
+    (λ c κs. search needs)
+    (λ c. search needs)
+    (λ c. search needs)
+    (λ c. rw (c .refusal .ensures) (search needs)))

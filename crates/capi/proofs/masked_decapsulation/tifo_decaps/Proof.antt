@@ -1,13 +1,24 @@
-use mathlib.Core.Path.{ap, _∙_}
+-- What is returned is the answer's number, in which decapsulation's own contract is stated.
 use borrow.Author.Needs.{needs}
-use Rattle.mlkem.specs.Refusals.{number}
 use Rattle.capi.proofs.masked_decapsulation.tifo_decaps.Statement.{statement}
 use Rattle.capi.proofs.masked_decapsulation.tifo_decaps.Tie as tie
 
+-- the buffers for K, once decapsulation has returned
+abbrev buffers : tie.After-refusal → tie.After-slice-known3
+buffers c = c .before .before .before
+
+abbrev decapsulated : tie.After-slice-known3 → tie.After-decaps
+decapsulated c = c .before .before
+
 returns : tie.Need-returns
-returns c =
-    let h = c .before .before .before .before .before .decaps .ensures in
-    (c .key-refusal .ensures ∙ ap number (h .0), (rw (h .0) at (h .1 .0), rw (h .0) at (h .1 .1)))
+returns c = rw (c .refusal .ensures) (decapsulated (buffers c) .decaps .ensures)
 
 pub tifo-decaps-spec : {M : Type 1} → statement M
-tifo-decaps-spec = tie.close (tie.spec (λ c κs. search needs) (λ c κs. search needs) (λ c. search needs) (λ c. search needs) returns)
+tifo-decaps-spec =
+    tie.close
+    (tie.spec
+    (λ c κs. search needs)
+    (λ c κs. search needs)
+    (λ c. search needs)
+    (λ c. search needs)
+    returns)

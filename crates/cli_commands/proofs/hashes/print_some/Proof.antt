@@ -1,3 +1,4 @@
+-- The number that is asked for is at most the buffer's length, so that the part lies within.
 use Prim.Native.Nat.{_≤_}
 use mathlib.Core.Path.{sym, subst}
 use native.Mathlib.Omega.{arith}
@@ -10,12 +11,6 @@ use Rattle.cli_commands.proofs.hashes.print_some.Tie as tie
 fits : (c : tie.After-length) → c .length .given .0 .0 ≤ 1048576
 fits c = subst (AtMost _) (c .length .given .1) (c .before .before .number .ensures)
 
-slice-relend-prefix-print-hash : tie.Need-slice-relend-prefix-print-hash
-slice-relend-prefix-print-hash c = omega (arith, fits (c .before .before))
-
-slice-aggregate-print-hash : tie.Need-slice-aggregate-print-hash
-slice-aggregate-print-hash c = sym (length-take-le _ _ (omega (arith, fits (c .before .before .before))))
-
 pub print-some-spec : {M : Type 1} → statement M
 print-some-spec =
     tie.close
@@ -24,8 +19,8 @@ print-some-spec =
     (λ c. search needs)
     (λ c. search needs)
     (λ c. search needs)
-    slice-relend-prefix-print-hash
-    slice-aggregate-print-hash
+    (λ c. omega (arith, fits (c .before .before)))
+    (λ c. sym (length-take-le _ _ (omega (arith, fits (c .before .before .before)))))
     (λ c κs. search needs)
     (λ c. search needs)
     (λ c. search needs)

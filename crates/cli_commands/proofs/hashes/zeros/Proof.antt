@@ -1,3 +1,4 @@
+-- An array of n zeros has n elements, which a law says, since a million aren't to be counted one by one.
 use Prim.Native.Nat.{ℕ}
 use mathlib.Core.Path.{sym}
 use lib.ListN.{length-replicate}

@@ -1,3 +1,4 @@
+-- The number is the one that the word spells, which is at most the largest that is taken.
 use mathlib.Core.Path.{subst}
 use borrow.Author.Needs.{needs}
 use Rattle.cli_support.specs.Numbers.{AtMost}

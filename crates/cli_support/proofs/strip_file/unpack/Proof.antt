@@ -1,19 +1,40 @@
+-- The words are read from the first 94,000 bytes and the coefficients from all the rest.
 use borrow.Author.Needs.{needs}
 use mathlib.Core.Path.{ap, _∙_}
 use lib.ListN.{take, drop}
 use Rattle.words.specs.Part.{part-rest}
-use Rattle.cli_support.specs.LittleEndian.{numbers, numbers-sized}
+use Rattle.buffers.specs.LittleEndian.{numbers, numbers-sized}
 use Rattle.cli_support.proofs.strip_file.unpack.Statement.{statement}
 use Rattle.cli_support.proofs.strip_file.unpack.Tie as tie
 
+-- ---- places, from the end back: where a buffer is read and where its part is lent
+
+abbrev coeffs-read : tie.After-slice-known4 → tie.After-get-coefficients
+coeffs-read c = c .before .before
+
+abbrev coeffs-lent : tie.After-get-coefficients → tie.After-slice-known3
+coeffs-lent c = c .before .before .before
+
+abbrev words-read : tie.After-slice-known3 → tie.After-get-words
+words-read c = c .before .before
+
+abbrev words-lent : tie.After-get-words → tie.After-slice-known2
+words-lent c = c .before .before .before
+
+abbrev start : tie.After-slice-known2 → tie.Start
+start c = c .before .before .before
+
+-- ---- facts
+
 returns : tie.Need-returns
 returns c =
-    let g = c .before .before .before .before .before .before .before in
-    let s = g .before .before .before .before .before .before in
+    let coeffs = coeffs-read c in
+    let words = words-read (coeffs-lent coeffs) in
+    let s = start (words-lent words) in
     let b = s .args .b .now in
     let p = s .pre in (
-      numbers-sized 8 (take 94000 b) (g .get-words .ensures) (p .1),
-      numbers-sized 2 (drop 94000 b) (c .before .before .get-coefficients .ensures ∙ ap (numbers 2 _) (part-rest 94000 b)) (p .2),
+      numbers-sized 8 (take 94000 b) (words .get-words .ensures) (p .1),
+      numbers-sized 2 (drop 94000 b) (coeffs .get-coefficients .ensures ∙ ap (numbers 2 _) (part-rest 94000 b)) (p .2),
     )
 
 pub unpack-spec : {M : Type 1} → statement M

@@ -1,3 +1,4 @@
+-- Anding with 2^d - 1 keeps the lowest d bits.
 use mathlib.Core.Path.{_≡_, ap, _∙_}
 use Prim.Native.Nat.{ℕ, _*_, _-_, _%_, _^_, _≤_}
 use native.Mathlib.Nat.{one-mul, mod-lt}
@@ -20,7 +21,8 @@ sub-result c = omega (arith, power (c .args .d) (c .pre), pow-pos (c .args .d))
 cast-result : tie.Need-cast-result
 cast-result c =
     let d = c .args .d in
-    omega (arith, masked (c .args .acc) d (c .pre), mod-lt (c .args .acc) (pow-pos d), pow-mono {i = d} {j = 12} (c .pre))
+    let acc = c .args .acc in
+    omega (arith, masked acc d (c .pre), mod-lt acc (pow-pos d), pow-mono {i = d} {j = 12} (c .pre))
 
 returns : tie.Need-returns
 returns c = masked (c .args .acc) (c .args .d) (c .pre)

@@ -1,3 +1,4 @@
+-- 16 bits moved up by at most 12 places fit 32 bits, so that none is lost.
 use native.Mathlib.Omega.{arith}
 use lib.Pow.{shl-exact}
 use borrow.Author.Needs.{needs}

@@ -1,3 +1,5 @@
+-- q is odd, so rounding to the nearest, (2 a + q) / (2 q), is (a + 1664) / q; the lowest d bits of it are what is left
+-- modulo 2^d.
 use mathlib.Core.Path.{_≡_, ap, _∙_}
 use Prim.Native.Nat.{ℕ, _+_, _*_, _/_, _%_, _^_}
 use native.Mathlib.Omega.{arith}

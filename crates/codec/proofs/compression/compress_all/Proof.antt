@@ -1,22 +1,17 @@
-use mathlib.Core.Path.{_≡_, refl}
-use Prim.Native.Nat.{_≤_, _-_}
+-- Turn by turn one coefficient is replaced by its compression; the others are still as they were.
+use Prim.Native.Nat.{_-_}
 use native.Mathlib.Omega.{arith}
-use lib.ListN.{length, length-set}
 use Rattle.words.specs.Fill.{Mapped, mapped-start, mapped-turn, mapped-end}
 use Rattle.codec.specs.Compress.{compress}
 use Rattle.codec.proofs.compression.compress_all.Statement.{statement}
 use Rattle.codec.proofs.compression.compress_all.Tie as tie
 
+-- i coefficients done
 abbrev Inv-loop : tie.InvT-loop
-Inv-loop f₀ d i₀ i-end f i = (i-end ≡ length f₀) × (i ≤ i-end) × (length f ≡ i-end) × Mapped (compress d) 0 f₀ i f
+Inv-loop f₀ d i₀ i-end f i = Mapped (compress d) 0 f₀ i f
 
 abbrev μ-loop : tie.MeasureT-loop
 μ-loop f₀ d i₀ i-end f i = i-end - i
-
-loop-again : tie.Need-loop-again Inv-loop μ-loop
-loop-again c =
-    let a = c .before .before .before .loop in
-    (refl, omega arith, simp length-set (omega arith), mapped-turn (a .inv .3) (omega arith) (c .compress .ensures))
 
 pub compress-all-spec : {M : Type 1} → statement M
 compress-all-spec =
@@ -24,7 +19,7 @@ compress-all-spec =
     (tie.spec
     Inv-loop
     μ-loop
-    (λ c. (refl, omega arith, refl, mapped-start))
+    (λ c. mapped-start)
     (λ c. omega arith)
     (λ c. omega arith)
     (λ c κs. omega arith)
@@ -32,6 +27,6 @@ compress-all-spec =
     (λ c. omega arith)
     (λ c. omega arith)
     (λ c. omega arith)
-    loop-again
+    (λ c. mapped-turn (c .before .before .before .loop .inv) (omega arith) (c .compress .ensures))
     (λ c. omega arith)
-    (λ c. mapped-end (c .before .loop .inv .3) (omega arith)))
+    (λ c. mapped-end (c .before .loop .inv) (omega arith)))

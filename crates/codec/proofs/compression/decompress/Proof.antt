@@ -1,3 +1,4 @@
+-- The numerator 2 q y + 2^d is shifted by d + 1, which divides it by 2 2^d; the result is below q, so 16 bits hold it.
 use mathlib.Core.Path.{_≡_, ap₂, _∙_}
 use Prim.Native.Nat.{ℕ, _/_}
 use native.Mathlib.Omega.{arith}
@@ -8,20 +9,21 @@ use Rattle.codec.specs.CompressLaws.{decompress-lt}
 use Rattle.codec.proofs.compression.decompress.Statement.{statement}
 use Rattle.codec.proofs.compression.decompress.Tie as tie
 
-add-high : tie.Need-add-high
-add-high c = omega (arith, pow-mono {i = c .before .before .args .d} {j = 11} (c .before .before .pre .0))
+abbrev start : tie.After-high → tie.Start
+start c = c .before .before .before
 
-is : (c : tie.After-high) → c .high .result ≡ decompress (c .before .before .before .args .d) (c .before .before .before .args .y)
+is : (c : tie.After-high) → c .high .result ≡ decompress (start c .args .d) (start c .args .y)
 unfolding decompress
 is c =
-    let a = c .before .before .before .args in
     c .high .ensures
     ∙ ap₂ (λ (m n : ℕ). m / n)
     (omega (arith, c .before .before .wide16 .ensures, c .before .shifted .ensures))
-    (pow-add 2 (a .d) 1 ∙ omega arith)
+    (pow-add 2 (start c .args .d) 1 ∙ omega arith)
 
 cast-result : tie.Need-cast-result
-cast-result c = let a = c .before .before .before in omega (arith, is c, decompress-lt (a .args .d) (a .args .y) (a .pre .0) (a .pre .1))
+cast-result c =
+    let s = start c in
+    omega (arith, is c, decompress-lt (s .args .d) (s .args .y) (s .pre .0) (s .pre .1))
 
 pub decompress-spec : {M : Type 1} → statement M
 decompress-spec =
@@ -30,7 +32,7 @@ decompress-spec =
     (λ c κs. search needs)
     (λ c. search needs)
     (λ c κs. search needs)
-    add-high
+    (λ c. omega (arith, pow-mono {i = c .before .before .args .d} {j = 11} (c .before .before .pre .0)))
     (λ c. search needs)
     (λ c κs. search needs)
     cast-result

@@ -1,12 +1,16 @@
+-- Turn by turn bits move from the bytes to the numbers: what was read is what was written and what the accumulator
+-- still holds. At the end it holds nothing, since both strings have the same number of bits.
 use mathlib.Core.Path.{_≡_, _∙_, ap}
 use Prim.Native.Nat.{ℕ, _≤_, _<_, _+_, _-_, _*_}
 use native.Mathlib.Omega.{arith}
 use lib.ListN.{length, length-set}
 use Rattle.codec.specs.Bytes.{bitsOf, numbersOf, byteDecode}
-use Rattle.codec.proofs.Repack.{Repacked, repacked-start, repacked-load, repacked-store, repacked-more, repacked-end}
+use Rattle.codec.proofs.Repack.{Repacked, repacked-start, repacked-load, repacked-store}
+use Rattle.codec.proofs.Repack.{repacked-more, repacked-end}
 use Rattle.codec.proofs.encoding.byte_decode.Statement.{statement}
 use Rattle.codec.proofs.encoding.byte_decode.Tie as tie
 
+-- i bytes read, k numbers written, n bits held
 abbrev Inv-loop : tie.InvT-loop
 Inv-loop b d f₀ acc₀ n₀ i₀ k₀ f acc n i k =
     (i ≤ length b) × (k ≤ 256) × (length f ≡ 256) × (n < 8 + d) × Repacked 8 d b f i k n acc
@@ -14,45 +18,73 @@ Inv-loop b d f₀ acc₀ n₀ i₀ k₀ f acc n i k =
 abbrev μ-loop : tie.MeasureT-loop
 μ-loop b d f₀ acc₀ n₀ i₀ k₀ f acc n i k = length b - i + (256 - k)
 
-more : (c : tie.Then1 Inv-loop μ-loop) → c .before .before .loop .i < length (c .before .before .before .before .before .args .b .now)
-more c =
-    let s = c .before .before .before .before .before in
-    let a = c .before .before .loop in
-    repacked-more (a .inv .4) (omega (arith, ap (λ (m : ℕ). s .args .d * m) (a .inv .2))) (c .if1 .taken) (omega arith)
+-- ---- places: the function's start and the loop's head, from further on
 
-join-requires : tie.Need-join-requires Inv-loop μ-loop
-join-requires c κs =
-    let a = c .before .before .before .before .loop in
-    (omega arith, a .inv .4 .room, omega (arith, c .before .shared-slice-known2 .given (a .i)))
+abbrev start : tie.At-loop Inv-loop μ-loop → tie.Start Inv-loop μ-loop
+start c = c .before .before .before
+
+-- where a byte is read, and where a number is written
+abbrev reading : tie.Then1 Inv-loop μ-loop → tie.At-loop Inv-loop μ-loop
+reading c = c .before .before
+
+abbrev loaded : tie.After-put-above Inv-loop μ-loop → tie.Then1 Inv-loop μ-loop
+loaded c = c .before .before .before
+
+abbrev writing : tie.Else1 Inv-loop μ-loop → tie.At-loop Inv-loop μ-loop
+writing c = c .before .before
+
+abbrev stored : tie.After-high Inv-loop μ-loop → tie.Else1 Inv-loop μ-loop
+stored c = c .before .before
+
+abbrev packed : (c : tie.At-loop Inv-loop μ-loop)
+    → Repacked 8 (start c .args .d) (start c .args .b .now) (c .loop .f)
+    (c .loop .i) (c .loop .k) (c .loop .n) (c .loop .acc)
+packed c = c .loop .inv .4
+
+-- both strings have the same number of bits
+bits : (c : tie.At-loop Inv-loop μ-loop) → start c .args .d * length (c .loop .f) ≡ start c .args .d * 256
+bits c = ap (λ (m : ℕ). start c .args .d * m) (c .loop .inv .2)
+
+-- ---- facts
+
+more : (c : tie.Then1 Inv-loop μ-loop) → reading c .loop .i < length (start (reading c) .args .b .now)
+more c = repacked-more (packed (reading c)) (omega (arith, bits (reading c))) (c .if1 .taken) (omega arith)
+
+put-above-requires : tie.Need-put-above-requires Inv-loop μ-loop
+put-above-requires c κs =
+    let head = reading (c .before .before) in
+    (omega arith, packed head .room, omega (arith, c .before .shared-slice-known2 .given (head .loop .i)))
 
 loop-again : tie.Need-loop-again Inv-loop μ-loop
 loop-again c =
-    let a = c .before .before .before .before .before .loop in
-    let h = more (c .before .before .before) in (
+    let head = reading (loaded c) in
+    let h = more (loaded c) in
+    let x-fits = c .before .before .shared-slice-known2 .given (head .loop .i) .fits in (
       omega arith,
       omega arith,
       omega arith,
       omega arith,
-      rw (c .join .ensures, c .before .wide8 .ensures) (repacked-load (a .inv .4) h (c .before .before .shared-slice-known2 .given (a .i) .fits)),
+      rw (c .put-above .ensures, c .before .wide8 .ensures) (repacked-load (packed head) h x-fits),
     )
 
 loop-again-2 : tie.Need-loop-again-2 Inv-loop μ-loop
 loop-again-2 c =
-    let a = c .before .before .before .before .loop in (
+    let full = stored c in (
       omega arith,
       omega arith,
       simp length-set (omega arith),
       omega arith,
-      rw (c .high .ensures, c .before .low .ensures) (repacked-store (a .inv .4) (c .before .before .if1 .left) (omega arith)),
+      rw (c .high .ensures, c .before .low .ensures)
+          (repacked-store (packed (writing full)) (full .if1 .left) (omega arith)),
     )
 
 returns : tie.Need-returns Inv-loop μ-loop
 unfolding byteDecode
 returns c =
-    let s = c .before .before .before .before in
-    let a = c .before .loop in
-    repacked-end (a .inv .4) (omega (arith, ap (λ (m : ℕ). s .args .d * m) (a .inv .2))) (omega arith) (omega arith) (omega arith)
-    ∙ ap (λ (m : ℕ). numbersOf (s .args .d) m (bitsOf 8 (s .args .b .now))) (a .inv .2)
+    let head = c .before in
+    let s = start head in
+    repacked-end (packed head) (omega (arith, bits head)) (omega arith) (omega arith) (omega arith)
+    ∙ ap (λ (m : ℕ). numbersOf (s .args .d) m (bitsOf 8 (s .args .b .now))) (head .loop .inv .2)
 
 pub byte-decode-spec : {M : Type 1} → statement M
 byte-decode-spec =
@@ -63,10 +95,10 @@ byte-decode-spec =
     (λ c. (omega arith, omega arith, omega arith, omega arith, repacked-start _ _ _ _))
     (λ c. more (c .before))
     (λ c κs. omega arith)
-    join-requires
+    put-above-requires
     (λ c. omega arith)
     (λ c. omega arith)
-    (λ c. omega (arith, more (c .before .before .before)))
+    (λ c. omega (arith, more (loaded c)))
     loop-again
     (λ c κs. omega arith)
     (λ c. omega arith)

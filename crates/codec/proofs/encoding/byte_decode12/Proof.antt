@@ -1,3 +1,4 @@
+-- ByteDecode_12 is the decoding of 12 bits each, and then every number modulo q.
 use mathlib.Core.Path.{ap, _∙_}
 use mathlib.Core.List.{map}
 use Prim.Native.Nat.{_%_}
@@ -7,10 +8,16 @@ use Rattle.codec.specs.Bytes.{byteDecode12}
 use Rattle.codec.proofs.encoding.byte_decode12.Statement.{statement}
 use Rattle.codec.proofs.encoding.byte_decode12.Tie as tie
 
+abbrev reduced : tie.After-slice-known3 → tie.After-reduce-all
+reduced c = c .before .before
+
+abbrev decoded : tie.After-reduce-all-arg → tie.After-byte-decode
+decoded c = c .before .before .before
+
 returns : tie.Need-returns
 unfolding byteDecode12
 returns c =
-    c .before .before .reduce-all .ensures ∙ ap (map (λ x. x % q)) (c .before .before .before .before .before .before .byte-decode .ensures)
+    reduced c .reduce-all .ensures ∙ ap (map (λ x. x % q)) (decoded (reduced c .before) .byte-decode .ensures)
 
 pub byte-decode12-spec : {M : Type 1} → statement M
 byte-decode12-spec =

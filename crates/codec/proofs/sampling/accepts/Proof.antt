@@ -1,3 +1,4 @@
+-- The test is the one by which the definition keeps x.
 use native.Mathlib.Omega.{arith}
 use borrow.Author.Tests.{lt-ltb, le-ltb}
 use Rattle.codec.proofs.sampling.accepts.Statement.{statement}

@@ -1,3 +1,4 @@
+-- The lower eta bits and the upper ones are each below 2^eta, so that counting three bits counts theirs.
 use mathlib.Core.Path.{_≡_, refl, ap, ap₂, _∙_}
 use Prim.Native.Nat.{ℕ, zero, suc, _+_, _*_, _/_, _%_, _^_, _<_, _≤_}
 use native.Mathlib.Nat.{mod-lt}
@@ -23,30 +24,41 @@ sum-digits (suc (suc (suc (suc n)))) w h l = absurd (omega arith)
 upper-lt : (v eta : ℕ) → v < 2 ^ (2 * eta) → v / 2 ^ eta < 2 ^ eta
 upper-lt v eta h = let e : eta + eta ≡ 2 * eta = omega arith in shr-lt eta eta (rw e h)
 
-upper : (c : tie.After-high) → c .high .result ≡ c .before .before .before .before .before .args .v / 2 ^ c .before .before .before .before .before .args .eta
-upper c =
-    let a = c .before .before .before .before .before .args in
-    c .high .ensures ∙ ap (λ (n : ℕ). n / 2 ^ a .eta) (c .before .wide162 .ensures)
+-- ---- places: where the lower half is counted, from where the upper one is taken, and the function's start
 
-cast-ones : tie.Need-cast-ones
-cast-ones c =
-    let s = c .before .before .before .before .before in
-    omega (arith, upper c, upper-lt (s .args .v) (s .args .eta) (s .pre .1), pow-mono {i = s .args .eta} {j = 3} (s .pre .0))
+abbrev lower : tie.After-high → tie.After-weight
+lower c = c .before .before
+
+abbrev start : tie.After-weight → tie.Start
+start c = c .before .before .before
+
+-- ---- facts
+
+upper : (c : tie.After-high) → c .high .result ≡ start (lower c) .args .v / 2 ^ start (lower c) .args .eta
+upper c = c .high .ensures ∙ ap (λ (n : ℕ). n / 2 ^ start (lower c) .args .eta) (c .before .wide162 .ensures)
+
+cast-weight : tie.Need-cast-weight
+cast-weight c =
+    let s = start (lower c) in
+    let eta = s .args .eta in
+    omega (arith, upper c, upper-lt (s .args .v) eta (s .pre .1), pow-mono {i = eta} {j = 3} (s .pre .0))
 
 returns : tie.Need-returns
 unfolding centred
 returns c =
-    let s = c .before .before .before .before .before .before .before in
+    let halved = c .before .before in
+    let counted = lower halved in
+    let s = start counted in
     let v = s .args .v in
     let eta = s .args .eta in
     c .difference .ensures
     ∙ ap₂ minus
-    (c .before .before .before .before .ones .ensures .0
+    (counted .weight .ensures .0
     ∙ ap (λ (n : ℕ). sum (digits 2 3 n))
-    (c .before .before .before .before .before .low .ensures ∙ ap (λ (n : ℕ). n % 2 ^ eta) (c .before .before .before .before .before .before .wide16 .ensures))
+    (counted .before .low .ensures ∙ ap (λ (n : ℕ). n % 2 ^ eta) (counted .before .before .wide16 .ensures))
     ∙ sum-digits eta (v % 2 ^ eta) (s .pre .0) (mod-lt v (pow-pos eta)))
-    (c .before .ones2 .ensures .0
-    ∙ ap (λ (n : ℕ). sum (digits 2 3 n)) (upper (c .before .before))
+    (c .before .weight2 .ensures .0
+    ∙ ap (λ (n : ℕ). sum (digits 2 3 n)) (upper halved)
     ∙ sum-digits eta (v / 2 ^ eta) (s .pre .0) (upper-lt v eta (s .pre .1)))
 
 pub centred-at-spec : {M : Type 1} → statement M
@@ -58,7 +70,7 @@ centred-at-spec =
     (λ c κs. search needs)
     (λ c κs. search needs)
     (λ c κs. search needs)
-    cast-ones
+    cast-weight
     (λ c κs. search needs)
     (λ c κs. search needs)
     returns)

@@ -1,18 +1,36 @@
+-- Each group adds as many as the definition keeps of its two numbers.
 use mathlib.Core.Path.{_≡_, ap, _∙_}
 use mathlib.Core.List.{_++_}
 use Prim.Native.Nat.{ℕ, _≤_, _-_, _*_}
 use native.Mathlib.Omega.{arith}
 use lib.ListN.{length, length-append}
-use Rattle.codec.specs.Sample.{first, second, kept, accepted}
+use Rattle.codec.specs.Sample.{d₁, d₂, kept, accepted}
 use Rattle.codec.specs.SampleLaws.{accepted-turn}
 use Rattle.codec.proofs.sampling.count_accepted.Statement.{statement}
 use Rattle.codec.proofs.sampling.count_accepted.Tie as tie
 
+-- i groups read, n numbers counted
 abbrev Inv-loop : tie.InvT-loop
 Inv-loop stream n₀ i₀ n i = (i ≤ 280) × (n ≤ 2 * i) × (n ≡ length (accepted i stream))
 
 abbrev μ-loop : tie.MeasureT-loop
 μ-loop stream n₀ i₀ n i = 280 - i
+
+-- ---- places: from the end of a turn to where its second and its first number are read, the loop's head and the start
+
+abbrev reading2 : tie.After-accepts2 Inv-loop μ-loop → tie.After-shared-slice-known4 Inv-loop μ-loop
+reading2 c = c .before .before .before
+
+abbrev reading1 : tie.After-accepts Inv-loop μ-loop → tie.After-shared-slice-known2 Inv-loop μ-loop
+reading1 c = c .before .before .before
+
+abbrev head : tie.After-shared-slice-known2 Inv-loop μ-loop → tie.At-loop Inv-loop μ-loop
+head c = c .before .before
+
+abbrev start : tie.At-loop Inv-loop μ-loop → tie.Start Inv-loop μ-loop
+start c = c .before .before
+
+-- ---- facts
 
 loop-holds : tie.Need-loop-holds Inv-loop μ-loop
 unfolding accepted
@@ -20,29 +38,30 @@ loop-holds c = (omega arith, omega arith, omega arith)
 
 loop-again : tie.Need-loop-again Inv-loop μ-loop
 loop-again c =
-    let a = c .before .before .before .before .before .before .before .before .before .loop in
-    let s = c .before .before .before .before .before .before .before .before .before .before .before .args .stream .now in
-    let i = a .i in
-    let one = c .before .before .before .before .accepts .ensures .0 ∙ ap (λ (x : ℕ). length (kept x)) (c .before .before .before .before .before .first-of .ensures) in
-    let two = c .accepts2 .ensures .0 ∙ ap (λ (x : ℕ). length (kept x)) (c .before .second-of .ensures) in (
+    let counted = reading2 c .before in
+    let at = head (reading1 counted) in
+    let s = start at .args .stream .now in
+    let i = at .loop .i in
+    let one = counted .accepts .ensures .0 ∙ ap (λ (x : ℕ). length (kept x)) (counted .before .d1-of .ensures) in
+    let two = c .accepts2 .ensures .0 ∙ ap (λ (x : ℕ). length (kept x)) (c .before .d2-of .ensures) in (
       omega arith,
       omega arith,
       omega (
         arith,
         one,
         two,
-        a .inv .2,
+        at .loop .inv .2,
         ap length (accepted-turn i s),
-        length-append (accepted i s ++ kept (first s i)) (kept (second s i)),
-        length-append (accepted i s) (kept (first s i)),
+        length-append (accepted i s ++ kept (d₁ s i)) (kept (d₂ s i)),
+        length-append (accepted i s) (kept (d₁ s i)),
       ),
     )
 
 returns : tie.Need-returns Inv-loop μ-loop
 returns c =
-    let a = c .before .loop in
-    let e : a .i ≡ 280 = omega arith in
-    a .inv .2 ∙ ap (λ (i : ℕ). length (accepted i (c .before .before .before .args .stream .now))) e
+    let at = c .before in
+    let e : at .loop .i ≡ 280 = omega arith in
+    at .loop .inv .2 ∙ ap (λ (i : ℕ). length (accepted i (start at .args .stream .now))) e
 
 pub count-accepted-spec : {M : Type 1} → statement M
 count-accepted-spec =

@@ -1,3 +1,5 @@
+-- Turn by turn f's front holds what the definition has accepted so far, as far as there is room; all places are taken
+-- exactly where 256 are accepted.
 use mathlib.Core.Path.{_≡_, sym, ap₂, _∙_, subst}
 use mathlib.Core.List.{List, _++_}
 use Prim.Native.Nat.{ℕ, _≤_, _-_}
@@ -10,11 +12,37 @@ use Rattle.codec.specs.Collect.{Collected, collected-start, collected-en
 use Rattle.codec.proofs.sampling.fill_ntt.Statement.{statement}
 use Rattle.codec.proofs.sampling.fill_ntt.Tie as tie
 
+-- i groups read, k places of f taken
 abbrev Inv-loop : tie.InvT-loop
 Inv-loop stream f₀ k₀ i₀ f k i = (i ≤ 280) × (length f ≡ 256) × Collected (accepted i stream) f k
 
 abbrev μ-loop : tie.MeasureT-loop
 μ-loop stream f₀ k₀ i₀ f k i = 280 - i
+
+-- ---- places: from the end of a turn back over its second number, its first one, the loop's head and the start
+
+abbrev kept2 : tie.After-slice-known3 Inv-loop μ-loop → tie.After-keep2 Inv-loop μ-loop
+kept2 c = c .before .before
+
+abbrev reading2 : tie.After-keep2 Inv-loop μ-loop → tie.After-shared-slice-known4 Inv-loop μ-loop
+reading2 c = c .before .before .before
+
+abbrev between : tie.After-shared-slice-known4 Inv-loop μ-loop → tie.After-slice-known2 Inv-loop μ-loop
+between c = c .before .before
+
+abbrev kept1 : tie.After-slice-known2 Inv-loop μ-loop → tie.After-keep Inv-loop μ-loop
+kept1 c = c .before .before
+
+abbrev reading1 : tie.After-keep Inv-loop μ-loop → tie.After-shared-slice-known2 Inv-loop μ-loop
+reading1 c = c .before .before .before
+
+abbrev head : tie.After-shared-slice-known2 Inv-loop μ-loop → tie.At-loop Inv-loop μ-loop
+head c = c .before .before .before
+
+abbrev start : tie.At-loop Inv-loop μ-loop → tie.Start Inv-loop μ-loop
+start c = c .before .before .before
+
+-- ---- facts
 
 loop-holds : tie.Need-loop-holds Inv-loop μ-loop
 unfolding accepted
@@ -22,28 +50,31 @@ loop-holds c = (omega arith, omega arith, collected-start (omega arith))
 
 loop-again : tie.Need-loop-again Inv-loop μ-loop
 loop-again c =
-    let a = c .before .before .before .before .before .before .before .before .before .before .before .before .before .before .before in
-    let s = a .before .before .before .args .stream .now in
-    let i = a .loop .i in
-    let first-kept = c .before .before .before .before .before .before .before .before .before in
+    let second = kept2 c in
+    let first = kept1 (between (reading2 second)) in
+    let at = head (reading1 first) in
+    let s = start at .args .stream .now in
+    let i = at .loop .i in
     let l = accepted i s in
     let e =
-    ap₂ (λ (x y : ℕ). (l ++ kept x) ++ kept y) (first-kept .before .first-of .ensures) (c .before .before .before .second-of .ensures)
+    ap₂ (λ (x y : ℕ). (l ++ kept x) ++ kept y) (first .before .d1-of .ensures) (second .before .d2-of .ensures)
     ∙ sym (accepted-turn i s) in (
       omega arith,
       omega arith,
-      subst (λ (m : List ℕ). Collected m (c .before .before .keep2 .last .0) (c .before .before .keep2 .result)) e
-          (c .before .before .keep2 .ensures _ (first-kept .keep .ensures l (a .loop .inv .2))),
+      subst (λ (m : List ℕ). Collected m (second .keep2 .last .0) (second .keep2 .result)) e
+          (second .keep2 .ensures _ (first .keep .ensures l (at .loop .inv .2))),
     )
 
 returns : tie.Need-returns Inv-loop μ-loop
 unfolding sampleNtt
 returns c =
-    let a = c .before .loop in
-    let s = c .before .before .before .before in
-    let e : a .i ≡ 280 = omega arith in
-    let d = subst (λ (i : ℕ). Collected (accepted i (s .args .stream .now)) (a .f) (a .k)) e (a .inv .2) in
-    (collected-taken d, λ t. collected-end d (leb-true 256 (length (accepted 280 (s .args .stream .now))) (sym (collected-taken d) ∙ t)))
+    let at = c .before in
+    let s = start at .args .stream .now in
+    let e : at .loop .i ≡ 280 = omega arith in
+    let all = subst (λ (i : ℕ). Collected (accepted i s) (at .loop .f) (at .loop .k)) e (at .loop .inv .2) in (
+      collected-taken all,
+      λ t. collected-end all (leb-true 256 (length (accepted 280 s)) (sym (collected-taken all) ∙ t)),
+    )
 
 pub fill-ntt-spec : {M : Type 1} → statement M
 fill-ntt-spec =

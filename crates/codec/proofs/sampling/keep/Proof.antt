@@ -1,3 +1,4 @@
+-- The three ways through the code are the three laws of collecting: x has a place, finds none, or is not below q.
 use borrow.Author.Needs.{needs}
 use Rattle.codec.specs.Collect.{collected-store, collected-full, collected-drop}
 use Rattle.codec.proofs.sampling.keep.Statement.{statement}

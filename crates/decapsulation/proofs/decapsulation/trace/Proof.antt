@@ -1,20 +1,28 @@
-use mathlib.Core.Path.{_∙_}
+-- Told a step, or one past the end for all steps past it, the one function answers and hands back what the trace does.
 use native.Mathlib.Omega.{arith}
-use Rattle.decapsulation.specs.Calls.{input}
-use Rattle.decapsulation.proofs.Outcome.{trace-answer, trace-after}
+use Rattle.stages.specs.Counts768.{counts768}
+use Rattle.decapsulation.proofs.Outcome.{told-traced}
 use borrow.Author.Needs.{needs}
 use Rattle.decapsulation.proofs.decapsulation.trace.Statement.{statement}
 use Rattle.decapsulation.proofs.decapsulation.trace.Tie as tie
 
+-- ---- places: the run, the buffers for K, what is told
+
+abbrev run : tie.After-k12 → tie.After-decapsulate
+run c = c .before .before
+
+abbrev buffers : tie.After-decapsulate → tie.After-k0
+buffers c = c .before .before .before
+
+abbrev told : tie.After-k0 → tie.After-left-of
+told c = c .before
+
 returns : tie.Need-returns
 returns c =
-    let a = c .before .before .before .before .before .before .before .before .before .before .before .before .before .before .before .args in
-    let g = input (a .s0 .now) (a .s1 .now) (a .z0 .now) (a .z1 .now) (a .public .now) (a .ct .now) (a .words .now) (a .coeffs .now) in
-    let d = c .before .before .decapsulate in
-    let l = c .before .before .before .before .before .before .left-of in (
-      d .ensures .0 ∙ trace-answer g (a .step) (l .result) _ _ (omega arith) (omega arith) (l .ensures .0) (l .ensures .1),
-      d .ensures .1 .1 .1 ∙ trace-after g (a .step) (l .result) _ _ (omega arith) (omega arith) (l .ensures .0) (l .ensures .1) (d .result) (a .value .now) (d .ensures .0),
-    )
+    let d = run c in
+    let l = told (buffers d) in
+    told-traced _ 187794 (counts768 .steps) (l .left-of .ensures) (record { long0 = omega arith; long1 = omega arith })
+    (d .decapsulate .ensures)
 
 pub trace-spec : {M : Type 1} → statement M
 trace-spec =

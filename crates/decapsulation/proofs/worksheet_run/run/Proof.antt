@@ -1,115 +1,116 @@
-use Rattle.kpke.specs.Parameters.{mlKem768}
-use Rattle.decapsulation.proofs.Coins.{coins-part}
-use Prim.Native.Nat.{_-_}
+-- Stages 1 to 8 draw 6,321 words and all coefficients, stage 9 the next 5,425 words, and stage 10 the last four.
+use mathlib.Core.Path.{_≡_, _∙_}
 use native.Mathlib.Omega.{arith}
-use lib.ListN.{length-take, length-drop}
+use lib.ListN.{length}
 use Rattle.worksheet.specs.Ran.{bind, part-words}
-use Rattle.decapsulation.specs.Groups.{worksheet-groups}
+use Rattle.stages.specs.Counts768.{counts768}
+use Rattle.stages.specs.Worksheet.{worksheet}
+use Rattle.decapsulation.proofs.LentParts.{rest-long}
 use borrow.Author.Needs.{needs}
 use Rattle.decapsulation.proofs.worksheet_run.run.Statement.{statement}
 use Rattle.decapsulation.proofs.worksheet_run.run.Tie as tie
 
-sub-reencrypt-3 : tie.Need-sub-reencrypt-3
-sub-reencrypt-3 c = omega (arith, c .before .before .before .before .before .before .before .before .before .before .before .before .before .before .before .before .before .before .before .before .before .before .before .before .before .before .before .before .before .before .before .pre .1 .1)
+-- ---- places, backwards: K is selected, what that is lent
 
-part-reencrypt-start-3 : tie.Need-part-reencrypt-start-3
-part-reencrypt-start-3 c = omega (arith, c .before .before .before .before .before .before .before .before .before .before .before .before .before .before .before .before .before .before .before .before .before .before .before .before .before .before .before .before .before .before .before .pre .1 .1)
+abbrev selected : tie.After-slice-known3 → tie.After-stage10
+selected c = c .before .before
 
-reencrypt-requires : tie.Need-reencrypt-requires
-reencrypt-requires c κs =
-    let g = c .before .before .before .before .before .before .before .before .before .before .before .before .before in
-    let m = g .before .before .before .before .before .before .before .before in
-    let s = m .before .before .before .before .before .before .before .before .before .before .before .before .before .before .before in
-    let k = m .message .kept .1 .1 .1 .1 .1 in
-    let l = g .stage3 .kept .1 .1 .1 .1 .1 in (
-      (
-        s .pre .0 .4,
-        s .pre .1 .0,
-        omega (arith, k .0),
-        omega (arith, k .1 .0),
-        simp (length-take, length-drop) (omega (arith, l .0)),
-        simp (length-take, length-drop) (omega (arith, l .1 .0)),
-        simp (length-take, length-drop) (omega (arith, s .pre .1 .1)),
-        s .pre .1 .2,
-        s .pre .1 .3,
-      ),
-      (omega arith, omega arith, omega arith, omega arith),
-    )
+abbrev buffers : tie.After-stage10-arg3 → tie.After-r13
+buffers c = c .before .before .before
 
-sub-compare : tie.Need-sub-compare
-sub-compare c = omega (arith, c .before .before .before .before .before .before .before .before .before .before .before .before .before .before .before .before .before .before .before .before .before .before .before .before .before .before .before .before .before .before .before .before .before .before .before .before .before .before .before .before .before .before .before .before .before .pre .1 .1)
+abbrev words : tie.After-r13 → tie.After-g03
+words c = c .before .before .before
 
-part-compare-start : tie.Need-part-compare-start
-part-compare-start c = omega (arith, c .before .before .before .before .before .before .before .before .before .before .before .before .before .before .before .before .before .before .before .before .before .before .before .before .before .before .before .before .before .before .before .before .before .before .before .before .before .before .before .before .before .before .before .before .before .pre .1 .1)
+-- the rejected words are made, what that is lent
+abbrev rejected : tie.After-g03 → tie.After-stage9
+rejected c = c .before .before .before
 
-compare-requires : tie.Need-compare-requires
-compare-requires c κs =
-    let r = c .before .before .before .before .before .before .before .before .before in
-    let s = r .before .before .before .before .before .before .before .before .before .before .before .before .before .before .before .before .before .before .before .before .before .before .before .before .before .before .before .before .before .before .before .before .before .before .before .before .before in
-    let k = r .reencrypt .kept .1 .1 .1 .1 .1 .1 .1 .1 .1 in (
-      (s .pre .0 .6, omega (arith, k .0), omega (arith, k .1 .0), omega (arith, k .1 .1 .0), omega (arith, k .1 .1 .1 .0), simp (length-take, length-drop) (omega (arith, s .pre .1 .1))),
-      r .reencrypt .ensures .1,
-    )
+abbrev strip : tie.After-r1 → tie.After-g12
+strip c = c .before .before .before
 
-sub-stage9 : tie.Need-sub-stage9
-sub-stage9 c = omega (arith, c .before .before .before .before .before .before .before .before .before .before .before .before .before .before .before .before .before .before .before .before .before .before .before .before .before .before .before .before .before .before .before .before .before .before .before .before .before .before .before .before .before .before .before .before .before .before .before .pre .1 .1)
+-- the ciphertexts are compared
+abbrev compared : tie.After-g12 → tie.After-compared
+compared c = c .before .before
 
-part-stage9-start : tie.Need-part-stage9-start
-part-stage9-start c = omega (arith, c .before .before .before .before .before .before .before .before .before .before .before .before .before .before .before .before .before .before .before .before .before .before .before .before .before .before .before .before .before .before .before .before .before .before .before .before .before .before .before .before .before .before .before .before .before .before .before .pre .1 .1)
+-- the start
+abbrev arrays : tie.After-g1 → tie.After-slice-known
+arrays c = c .before .before .before
+
+abbrev strings : tie.After-slice-known → tie.After-shared-slice-known7
+strings c = c .before .before .before
+
+abbrev keys : tie.After-shared-slice-known7 → tie.After-shared-slice-known4
+keys c = c .before .before .before
+
+abbrev secret : tie.After-shared-slice-known4 → tie.After-shared-slice-known
+secret c = c .before .before .before
+
+abbrev start : tie.After-g1 → tie.Start
+start c = secret (keys (strings (arrays c))) .before
+
+abbrev origin : tie.After-g12 → tie.Start
+origin c = start (compared c .before)
+
+abbrev origin10 : tie.After-r13 → tie.Start
+origin10 c = origin (strip (rejected (words c) .before))
+
+-- ---- facts
+
+masks : (s : tie.Start) → length (s .args .ws .now) ≡ 11750
+masks s = s .pre .input .words ∙ counts768 .stripWords
+
+compared-requires : tie.Need-compared-requires
+compared-requires c κs =
+    let s = start c in
+    let p = s .pre in
+    let k = p .input .key in
+    record {
+      secret = record { long0 = k .s0; long1 = k .s1 };
+      public = k .public;
+      matrix = p .matrix;
+      ct = p .input .ct;
+      words = omega (arith, masks s);
+      coeffs = record { enough = omega (arith, p .input .coeffs, counts768 .stripCoeffs); below = p .range };
+      out = record { long0 = omega arith; long1 = omega arith };
+    }
 
 stage9-requires : tie.Need-stage9-requires
 stage9-requires c κs =
-    let s = c .before .before .before .before .before .before .before .before .before .before .before .before .before .before .before .before .before .before .before .before .before .before .before .before .before .before .before .before .before .before .before .before .before .before .before .before .before .before .before .before .before .before .before .before .before .before .before .before .before .before in
-    (s .pre .0 .2, s .pre .0 .3, s .pre .0 .6, simp (length-take, length-drop) (omega (arith, s .pre .1 .1)), omega arith, omega arith)
-
-slice-aggregate-stage10 : tie.Need-slice-aggregate-stage10
-slice-aggregate-stage10 c = omega (arith, c .before .before .before .before .before .before .before .before .before .before .before .before .before .before .before .before .before .before .before .before .before .before .before .before .before .before .before .before .before .before .before .stage3 .kept .1 .1 .1 .1 .1 .0)
-
-slice-aggregate-stage10-2 : tie.Need-slice-aggregate-stage10-2
-slice-aggregate-stage10-2 c = omega (arith, c .before .before .before .before .before .before .before .before .before .before .before .before .before .before .before .before .before .before .before .before .before .before .before .before .before .before .before .before .before .before .before .before .stage3 .kept .1 .1 .1 .1 .1 .1 .0)
-
-sub-stage10 : tie.Need-sub-stage10
-sub-stage10 c = omega (arith, c .before .before .before .before .before .before .before .before .before .before .before .before .before .before .before .before .before .before .before .before .before .before .before .before .before .before .before .before .before .before .before .before .before .before .before .before .before .before .before .before .before .before .before .before .before .before .before .before .before .before .before .before .before .before .before .before .before .pre .1 .1)
-
-part-stage10-start : tie.Need-part-stage10-start
-part-stage10-start c = omega (arith, c .before .before .before .before .before .before .before .before .before .before .before .before .before .before .before .before .before .before .before .before .before .before .before .before .before .before .before .before .before .before .before .before .before .before .before .before .before .before .before .before .before .before .before .before .before .before .before .before .before .before .before .before .before .before .before .before .before .pre .1 .1)
+    let s = origin (strip c) in
+    let k = s .pre .input .key in (
+      record { in0 = k .z0; in1 = k .z1; public = s .pre .input .ct; out0 = omega arith; out1 = omega arith },
+      rest-long 6321 5425 (s .args .ws .now) (omega (arith, masks s)),
+    )
 
 stage10-requires : tie.Need-stage10-requires
 stage10-requires c κs =
-    let e = c .before .before .before .before .before .before .before .before .before in
-    let d = e .before .before .before .before in
-    let g = d .before .before .before .before .before .before .before .before .before .before .before .before .before .before .before .before .before .before .before .before .before .before .before .before in
-    let s = g .before .before .before .before .before .before .before .before .before .before .before .before .before .before .before .before .before .before .before .before .before .before .before in
-    let l = g .stage3 .kept .1 .1 .1 .1 .1 in
-    let k = e .stage9 .kept .1 .1 .1 .1 .1 in (
-      d .compare .ensures .1 .0,
-      d .compare .ensures .1 .1,
-      omega (arith, l .0),
-      omega (arith, l .1 .0),
-      omega (arith, k .0),
-      omega (arith, k .1 .0),
-      simp (length-take, length-drop) (omega (arith, s .pre .1 .1)),
-      s .pre .1 .4,
-      s .pre .1 .5,
+    let r = rejected (words (buffers c)) in
+    let b = compared (strip (r .before)) .compared in
+    let g = b .kept .1 .1 .1 .1 .1 .1 .1 .1 in
+    let j = r .stage9 .kept .1 .1 .1 .1 .1 in
+    let s = origin10 (buffers c) in (
+      record {
+        bit0 = b .ensures .1 .0;
+        bit1 = b .ensures .1 .1;
+        key0 = omega (arith, g .0);
+        key1 = omega (arith, g .1 .0);
+        rejected0 = omega (arith, j .0);
+        rejected1 = omega (arith, j .1 .0);
+        out0 = s .pre .out .long0;
+        out1 = s .pre .out .long1;
+      },
+      rest-long 11746 4 (s .args .ws .now) (omega (arith, masks s)),
     )
 
 returns : tie.Need-returns
+unfolding worksheet
 returns c =
-    let f = c .before .before .before .before in
-    let e = f .before .before .before .before .before .before .before .before .before .before in
-    let d = e .before .before .before .before in
-    let r = d .before .before .before .before .before .before .before .before .before .before in
-    let g = r .before .before .before .before .before .before .before .before .before .before .before .before .before .before in
-    let m = g .before .before .before .before .before .before .before .before in
-    let s = m .before .before .before .before .before .before .before .before .before .before .before .before .before .before .before in
-    let ws = s .args .ws .now in
-    let l = g .stage3 .kept .1 .1 .1 .1 .1 in
-    rw (worksheet-groups mlKem768 _ (s .args .c .now))
-    (bind _ (m .message .ensures _)
-    (bind _ (part-words ws 164 625 (g .stage3 .ensures _))
-    (bind _ (rw (coins-part _ _ (l .0) (omega arith) (l .1 .0) (omega arith)) at (part-words ws 789 4375 (r .reencrypt .ensures .0)))
-    (bind _ (part-words ws 5164 1157 (d .compare .ensures .0 _))
-    (bind _ (part-words ws 6321 5425 (e .stage9 .ensures _)) (part-words ws 11746 4 (f .stage10 .ensures _)))))))
+    let k = selected (c .before .before) in
+    let r = rejected (words (buffers (k .before))) in
+    let b = compared (strip (r .before)) in
+    let ws = start (b .before) .args .ws .now in
+    bind _ (b .compared .ensures .0 _)
+    (bind _ (part-words ws 6321 5425 (r .stage9 .ensures _)) (part-words ws 11746 4 (k .stage10 .ensures _)))
 
 pub run-spec : {M : Type 1} → statement M
 run-spec =
@@ -117,51 +118,19 @@ run-spec =
     (tie.spec
     (λ c. search needs)
     (λ c. search needs)
-    (λ c κs. search needs)
-    (λ c. search needs)
-    (λ c. search needs)
-    (λ c. search needs)
-    (λ c. search needs)
-    (λ c. search needs)
-    (λ c. search needs)
-    (λ c. search needs)
-    (λ c κs. search needs)
-    (λ c. search needs)
-    (λ c. search needs)
-    (λ c. search needs)
-    (λ c. search needs)
-    (λ c. search needs)
-    (λ c. search needs)
-    (λ c. search needs)
-    (λ c. search needs)
-    sub-reencrypt-3
-    part-reencrypt-start-3
-    (λ c. search needs)
-    (λ c. search needs)
-    (λ c. search needs)
-    (λ c. search needs)
-    (λ c. search needs)
-    reencrypt-requires
-    (λ c. search needs)
-    (λ c. search needs)
-    (λ c. search needs)
-    (λ c. search needs)
-    sub-compare
-    part-compare-start
-    (λ c. search needs)
-    compare-requires
-    sub-stage9
-    part-stage9-start
+    compared-requires
+    (λ c. omega (arith, masks (origin c)))
+    (λ c. omega (arith, masks (origin c)))
     (λ c. search needs)
     (λ c. search needs)
     (λ c. search needs)
     stage9-requires
-    slice-aggregate-stage10
-    slice-aggregate-stage10-2
+    (λ c. omega (arith, compared (strip (rejected c .before)) .compared .kept .1 .1 .1 .1 .1 .1 .1 .1 .0))
+    (λ c. omega (arith, compared (strip (rejected (c .before) .before)) .compared .kept .1 .1 .1 .1 .1 .1 .1 .1 .1 .0))
     (λ c. search needs)
     (λ c. search needs)
-    sub-stage10
-    part-stage10-start
+    (λ c. omega (arith, masks (origin10 c)))
+    (λ c. omega (arith, masks (origin10 c)))
     (λ c. search needs)
     stage10-requires
     (λ c. search needs)

@@ -1,3 +1,4 @@
+-- A block is taken in while a whole one is left; the rest with its padding is the padded message's last block.
 use Prim.Native.Nat.{_-_}
 use mathlib.Core.Path.{ap, _∙_}
 use borrow.Author.Needs.{needs}
@@ -7,23 +8,38 @@ use Rattle.fips202.proofs.Absorbing.{Absorbing, absorbing-start, absorb
 use Rattle.fips202.proofs.absorb.absorb.Statement.{statement}
 use Rattle.fips202.proofs.absorb.absorb.Tie as tie
 
+-- a bytes are taken in
 abbrev Inv-loop : tie.InvT-loop
 Inv-loop m rate suffix n t₀ a₀ t a = Absorbing rate m a (t .lanes)
 
 abbrev μ-loop : tie.MeasureT-loop
 μ-loop m rate suffix n t₀ a₀ t a = length m - a
 
-loop-holds : tie.Need-loop-holds Inv-loop μ-loop
-loop-holds c = absorbing-start
+-- ---- places: the start and the loop's head
+
+abbrev start : tie.At-loop Inv-loop μ-loop → tie.Start Inv-loop μ-loop
+start c = c .before .before
+
+-- from where a whole block is mixed in, and from where the last one is made
+abbrev mixing : tie.After-mix-block Inv-loop μ-loop → tie.At-loop Inv-loop μ-loop
+mixing c = c .before .before .before
+
+abbrev ending : tie.After-last-block Inv-loop μ-loop → tie.At-loop Inv-loop μ-loop
+ending c = c .before .before .before
+
+-- ---- facts
 
 loop-again : tie.Need-loop-again Inv-loop μ-loop
 loop-again c =
-    absorbing-turn (c .before .before .before .before .loop .inv) (search needs) (c .permute .ensures ∙ ap keccak-p (c .before .mix-block .ensures))
+    let mixed = c .before in
+    absorbing-turn (mixing mixed .loop .inv) (search needs)
+    (c .permute .ensures ∙ ap keccak-p (mixed .mix-block .ensures))
 
 returns : tie.Need-returns Inv-loop μ-loop
 returns c =
-    let l = c .before .before .before .before .before .before in
-    absorbing-end (l .before .before .args .suffix) (l .loop .inv) (search needs) (c .before .before .before .last-block .ensures)
+    let made = c .before .before .before in
+    let head = ending made in
+    absorbing-end (start head .args .suffix) (head .loop .inv) (search needs) (made .last-block .ensures)
     (c .permute2 .ensures ∙ ap keccak-p (c .before .mix-block2 .ensures))
 
 pub absorb-spec : {M : Type 1} → statement M
@@ -32,7 +48,7 @@ absorb-spec =
     (tie.spec
     Inv-loop
     μ-loop
-    loop-holds
+    (λ c. absorbing-start)
     (λ c. search needs)
     (λ c. search needs)
     (λ c. search needs)

@@ -1,3 +1,5 @@
+-- The suffix is stored behind the rest of the message, and the last bit is set in the block's last byte, which is FIPS
+-- 202's padding, also where both fall into one byte.
 use Prim.Native.Nat.{ℕ, zero, suc, _+_, _-_, _<_, _≤_}
 use mathlib.Core.Path.{_≡_, refl, ap, _∙_}
 use mathlib.Core.List.{List, [], _∷_, _++_}
@@ -20,25 +22,28 @@ take-replicate (suc k) (suc n) h = ap (λ (l : List ℕ). 0 ∷ l) (take-replica
 abbrev stored : ℕ → List ℕ → List ℕ → ℕ → List ℕ
 stored s p b r = let l = set b (length p) s in take r (set l (r - 1) (bitXor (getD l (r - 1) 0) 0x80))
 
-stores-padding : (s n r : ℕ) → s < 128 → 0 < r → r ≤ n → stored s [] (replicate n 0) r ≡ padding s r
-stores-padding s n zero h g k = absurd (omega arith)
-stores-padding s zero (suc r) h g k = absurd (omega arith)
-stores-padding s (suc n) (suc zero) h g k = ap (λ (x : ℕ). x ∷ []) (xor-comm s 0x80 ∙ xor-shifted 1 7 s h ∙ omega arith)
-stores-padding s (suc n) (suc (suc z)) h g k =
+-- in one byte both stores meet, else they are apart
+stores-padding : (s n z : ℕ) → s < 128 → z < n → stored s [] (replicate n 0) (suc z) ≡ padding s z
+stores-padding s zero z h k = absurd (omega arith)
+stores-padding s (suc n) zero h k = ap (λ (x : ℕ). x ∷ []) (xor-comm s 0x80 ∙ xor-shifted 1 7 s h ∙ omega arith)
+stores-padding s (suc n) (suc z) h k =
     let w : suc (suc z) - 1 ≡ suc z = omega arith in
     rw (w, getD-replicate {A = ℕ} n z 0 0 (omega arith))
     (ap (λ (l : List ℕ). s ∷ l) (take-suc-set (replicate n 0) z 0x80 (rw (length-replicate {A = ℕ} n 0) (omega arith))
     ∙ rw (take-replicate z n (omega arith))))
 
 stores : (s n r : ℕ) (p : List ℕ) → s < 128 → length p < r → r ≤ n
-    → stored s p (p ++ replicate (n - length p) 0) r ≡ p ++ padding s (r - length p)
-stores s n r [] h g k = rw (sub-zero n, sub-zero r) (stores-padding s n r h g k)
+    → stored s p (p ++ replicate (n - length p) 0) r ≡ p ++ padding s (r - 1 - length p)
+stores s n zero [] h g k = absurd (omega arith)
+stores s n (suc z) [] h g k =
+    let a : suc z - 1 - 0 ≡ z = omega arith in
+    rw (sub-zero n, a) (stores-padding s n z h (omega arith))
 stores s n zero (x ∷ p) h g k = absurd (omega arith)
 stores s n (suc zero) (x ∷ p) h g k = absurd (omega arith)
 stores s zero (suc (suc r)) (x ∷ p) h g k = absurd (omega arith)
 stores s (suc n) (suc (suc r)) (x ∷ p) h g k =
     let a : suc n - suc (length p) ≡ n - length p = omega arith in
-    let b : suc (suc r) - suc (length p) ≡ suc r - length p = omega arith in
+    let b : suc (suc r) - 1 - suc (length p) ≡ r - length p = omega arith in
     let d : suc (suc r) - 1 ≡ suc r = omega arith in
     let e : suc r - 1 ≡ r = omega arith in
     rw (a, b, d) (ap (λ (l : List ℕ). x ∷ l) (rw e at (stores s n (suc r) p h (omega arith) (omega arith))))
@@ -46,7 +51,8 @@ stores s (suc n) (suc (suc r)) (x ∷ p) h g k =
 returns : tie.Need-returns
 returns c =
     let a = c .before .before .args in
-    rw (c .zero-filled .ensures) (stores (a .suffix) 200 (a .rate) (a .p .now) (search needs) (search needs) (search needs))
+    rw (c .zero-filled .ensures)
+    (stores (a .suffix) 200 (a .rate) (a .p .now) (search needs) (search needs) (search needs))
 
 pub last-block-spec : {M : Type 1} → statement M
 last-block-spec =

@@ -1,3 +1,4 @@
+-- The first rate / 8 lanes take a lane of the block each; the block has no more, so that the other lanes take zeros.
 use Prim.Native.Nat.{ℕ, _-_, _/_, _%_, _≤_}
 use mathlib.Core.Path.{_≡_, sym}
 use mathlib.Core.List.{List}
@@ -20,31 +21,42 @@ lanesOf rate p s j = xor (getD s j 0) (laneOf (take rate p) j)
 lane-past : (rate : ℕ) (p s : List ℕ) (k : ℕ) → rate % 8 ≡ 0 → rate / 8 ≤ k → getD s k 0 ≡ lanesOf rate p s k
 lane-past rate p s k d h = rw (laneOf-past rate p k d h) (sym (xor-zero (getD s k 0)))
 
+-- j lanes are mixed
 abbrev Inv-loop : tie.InvT-loop
-Inv-loop p rate t₀ j₀ t j = Replaced 25 (lanesOf rate p (t₀ .lanes)) 0 (t₀ .lanes) j (t .lanes) × (j ≤ rate / 8)
+Inv-loop p rate t₀ j₀ t j =
+    Replaced 25 (lanesOf rate p (t₀ .lanes)) 0 (t₀ .lanes) j (t .lanes) × (j ≤ rate / 8)
 
 abbrev μ-loop : tie.MeasureT-loop
 μ-loop p rate t₀ j₀ t j = rate / 8 - j
 
-loop-holds : tie.Need-loop-holds Inv-loop μ-loop
-loop-holds c = (replaced-start (search needs), search needs)
+-- ---- places: the start, and the loop's head from where a lane of the block is read
+
+abbrev start : tie.At-loop Inv-loop μ-loop → tie.Start Inv-loop μ-loop
+start c = c .before .before
+
+abbrev reading : tie.After-load-arg Inv-loop μ-loop → tie.At-loop Inv-loop μ-loop
+reading c = c .before .before .before
+
+-- ---- facts
 
 loop-again : tie.Need-loop-again Inv-loop μ-loop
 unfolding xor
 loop-again c =
-    let l = c .before .before .before .before in
-    let a = l .before .before .args in
-    let i = l .loop .inv .0 in (
-      replaced-turn i (omega arith)
-          (rw (i .rest (l .loop .j) (omega arith), lane-part (a .rate) (a .p .now) (l .loop .j) (search needs) (c .load .ensures))),
+    let head = reading (c .before) in
+    let a = start head .args in
+    let j = head .loop .j in
+    let mixed = head .loop .inv .0 in (
+      replaced-turn mixed (omega arith)
+          (rw (mixed .rest j (omega arith), lane-part (a .rate) (a .p .now) j (search needs) (c .load .ensures))),
       search needs,
     )
 
 returns : tie.Need-returns Inv-loop μ-loop
 unfolding mixed
 returns c =
-    let a = c .before .before .before .args in
-    replaced-stop (c .before .loop .inv .0) (λ k h. lane-past (a .rate) (a .p .now) (a .s .lanes) k (search needs) (omega arith))
+    let a = start (c .before) .args in
+    replaced-stop (c .before .loop .inv .0)
+    (λ k h. lane-past (a .rate) (a .p .now) (a .s .lanes) k (search needs) (omega arith))
 
 pub mix-block-spec : {M : Type 1} → statement M
 mix-block-spec =
@@ -52,7 +64,7 @@ mix-block-spec =
     (tie.spec
     Inv-loop
     μ-loop
-    loop-holds
+    (λ c. (replaced-start (search needs), search needs))
     (λ c. search needs)
     (λ c. search needs)
     (λ c. search needs)

@@ -1,3 +1,4 @@
+-- Byte by byte p is copied over zeros, so that what isn't copied stays zero.
 use Prim.Native.Nat.{ℕ, suc, _+_, _-_, _<_, _≤_}
 use mathlib.Core.Path.{_≡_, refl, sym, _∙_}
 use mathlib.Core.List.{List, _++_}
@@ -18,6 +19,7 @@ copy-turn p n i h g =
     (set-at (take i p) 0 (replicate (n - (i + 1)) 0) (getD p i 0) i (length-take-le i p (omega arith))
     ∙ rw (add-one i, take-suc p i 0 h) (sym (append-snoc (take i p) (getD p i 0) (replicate (n - suc i) 0))))
 
+-- i bytes are copied
 abbrev Inv-loop : tie.InvT-loop
 Inv-loop p b₀ i₀ b i = (i ≤ length p) × (b ≡ take i p ++ replicate (200 - i) 0)
 
@@ -26,8 +28,11 @@ abbrev μ-loop : tie.MeasureT-loop
 
 loop-again : tie.Need-loop-again Inv-loop μ-loop
 loop-again c =
-    let l = c .before .before in
-    (search needs, rw (l .loop .inv .1) (copy-turn (l .before .args .p .now) 200 (l .loop .i) (search needs) (search needs)))
+    let head = c .before .before in (
+      search needs,
+      rw (head .loop .inv .1)
+          (copy-turn (head .before .args .p .now) 200 (head .loop .i) (search needs) (search needs)),
+    )
 
 returns : tie.Need-returns Inv-loop μ-loop
 returns c =

@@ -1,3 +1,4 @@
+-- A shift by 8 k bits divides by 2^(8 k), which is 256^k: computed for the eight k.
 use Prim.Native.Nat.{_*_, _^_}
 use borrow.Author.Needs.{needs}
 use lib.Dec.{eqb, eqb→eq}

@@ -1,3 +1,4 @@
+-- Eight bytes read one by one are the whole slice, since it has eight.
 use Prim.Native.Nat.{ℕ}
 use mathlib.Core.Path.{_≡_, refl, sym, ap, _∙_}
 use mathlib.Core.List.{List}

@@ -1,3 +1,4 @@
+-- Eight stores of the digits of w, one a place, leave nothing of what a slice of eight held.
 use Prim.Native.Nat.{ℕ, _+_, _/_, _%_, _^_}
 use mathlib.Core.Path.{_≡_, ap, _∙_}
 use mathlib.Core.List.{List, _++_, append-nil}
@@ -12,24 +13,29 @@ use Rattle.fips202.proofs.bytes.store.Tie as tie
 
 sets-all : (l vs : List ℕ) → length l ≡ length vs → sets l 0 vs ≡ vs
 sets-all l vs h =
-    sets-eq vs l 0 (omega arith) ∙ ap (λ (r : List ℕ). vs ++ r) (drop-of-length-le l {i = 0 + length vs} (omega arith)) ∙ append-nil vs
+    sets-eq vs l 0 (omega arith)
+    ∙ ap (λ (r : List ℕ). vs ++ r) (drop-of-length-le l {i = 0 + length vs} (omega arith))
+    ∙ append-nil vs
 
 returns : tie.Need-returns
 unfolding tab
 returns c =
-    let a = c .before .before .before .before .before .before .before .before .before in
+    let fifth = c .before .before .before in
+    let second = fifth .before .before .before in
+    let start = second .before .before .before in
+    let a = start .args in
     rw (
       c .byte8 .ensures,
       c .before .byte7 .ensures,
       c .before .before .byte6 .ensures,
-      c .before .before .before .byte5 .ensures,
-      c .before .before .before .before .byte4 .ensures,
-      c .before .before .before .before .before .byte3 .ensures,
-      c .before .before .before .before .before .before .byte2 .ensures,
-      c .before .before .before .before .before .before .before .byte .ensures,
-      digits-tab 256 8 (a .args .w),
+      fifth .byte5 .ensures,
+      fifth .before .byte4 .ensures,
+      fifth .before .before .byte3 .ensures,
+      second .byte2 .ensures,
+      second .before .byte .ensures,
+      digits-tab 256 8 (a .w),
     )
-    (sets-all (a .args .p .now) (tab 8 (λ k. a .args .w / 256 ^ k % 256)) (a .pre))
+    (sets-all (a .p .now) (tab 8 (λ k. a .w / 256 ^ k % 256)) (start .pre))
 
 pub store-spec : {M : Type 1} → statement M
 store-spec =

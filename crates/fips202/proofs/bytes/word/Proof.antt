@@ -1,3 +1,4 @@
+-- Eight digits to base 256 are at most 2^64 - 1, so that neither half nor their sum wraps.
 use borrow.Author.Needs.{needs}
 use native.Mathlib.Omega.{arith}
 use Rattle.words.specs.Numeral.{value}

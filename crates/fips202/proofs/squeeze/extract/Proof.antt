@@ -1,3 +1,5 @@
+-- Whole lanes are stored as long as eight bytes are left, then single bytes: either way byte i is byte i % 8 of lane
+-- i / 8.
 use Prim.Native.Nat.{ℕ, _+_, _-_, _*_, _/_, _%_, _≤_}
 use mathlib.Core.Path.{_≡_, refl, _∙_}
 use mathlib.Core.List.{List}
@@ -20,38 +22,39 @@ lane-bytes s j =
     ∙ tab-cong 8
     (λ k h. let q : (8 * j + k) / 8 ≡ j = omega arith in let r : (8 * j + k) % 8 ≡ k = omega arith in rw (q, r)))
 
+-- j lanes are given out
 abbrev Inv-loop : tie.InvT-loop
 Inv-loop out₀ s n j₀ out j = Filled n (byteOf (s .lanes)) (8 * j) out × (j ≤ n / 8)
 
 abbrev μ-loop : tie.MeasureT-loop
 μ-loop out₀ s n j₀ out j = n / 8 - j
 
+-- i bytes are given out
 abbrev Inv-loop2 : tie.InvT-loop2
 Inv-loop2 out₀ s n j i₀ out i = Filled n (byteOf (s .lanes)) i out
 
 abbrev μ-loop2 : tie.MeasureT-loop2
 μ-loop2 out₀ s n j i₀ out i = n - i
 
-loop-holds : tie.Need-loop-holds Inv-loop μ-loop Inv-loop2 μ-loop2
-loop-holds c = (filled-start refl, search needs)
+-- ---- places: the start, and the first loop's head from where a lane is stored
+
+abbrev start : tie.At-loop Inv-loop μ-loop Inv-loop2 μ-loop2 → tie.Start Inv-loop μ-loop Inv-loop2 μ-loop2
+start c = c .before .before
+
+abbrev storing : tie.After-store-arg2 Inv-loop μ-loop Inv-loop2 μ-loop2 → tie.At-loop Inv-loop μ-loop Inv-loop2 μ-loop2
+storing c = c .before .before .before
 
 loop-again : tie.Need-loop-again Inv-loop μ-loop Inv-loop2 μ-loop2
 loop-again c =
-    let l = c .before .before .before .before .before .before in
-    let w : 8 * (l .loop .j + 1) ≡ 8 * l .loop .j + 8 = omega arith in
-    (rw w (filled-part (l .loop .inv .0) (omega arith) (omega arith) (c .before .before .store .ensures ∙ lane-bytes (l .before .before .args .t1 .lanes) (l .loop .j))), search needs)
-
-loop2-holds : tie.Need-loop2-holds Inv-loop μ-loop Inv-loop2 μ-loop2
-loop2-holds c = c .before .loop .inv .0
-
-loop2-again : tie.Need-loop2-again Inv-loop μ-loop Inv-loop2 μ-loop2
-loop2-again c = filled-turn (c .before .before .before .loop2 .inv) (search needs) (c .byte .ensures)
-
-same-length : tie.Need-same-length Inv-loop μ-loop Inv-loop2 μ-loop2
-same-length c = c .before .loop2 .inv .long
-
-returns : tie.Need-returns Inv-loop μ-loop Inv-loop2 μ-loop2
-returns c = filled-end (c .before .loop2 .inv) (search needs)
+    let stored = c .before .before in
+    let head = storing (stored .before) in
+    let j = head .loop .j in
+    let w : 8 * (j + 1) ≡ 8 * j + 8 = omega arith in (
+      rw w
+          (filled-part (head .loop .inv .0) (omega arith) (omega arith)
+          (stored .store .ensures ∙ lane-bytes (start head .args .t1 .lanes) j)),
+      search needs,
+    )
 
 pub extract-spec : {M : Type 1} → statement M
 extract-spec =
@@ -61,7 +64,7 @@ extract-spec =
     μ-loop
     Inv-loop2
     μ-loop2
-    loop-holds
+    (λ c. (filled-start refl, search needs))
     (λ c. search needs)
     (λ c. search needs)
     (λ c. search needs)
@@ -74,13 +77,13 @@ extract-spec =
     (λ c. search needs)
     loop-again
     (λ c. search needs)
-    loop2-holds
+    (λ c. c .before .loop .inv .0)
     (λ c. search needs)
     (λ c. search needs)
     (λ c κs. search needs)
     (λ c. search needs)
     (λ c. search needs)
     (λ c. search needs)
-    loop2-again
-    same-length
-    returns)
+    (λ c. filled-turn (c .before .before .before .loop2 .inv) (search needs) (c .byte .ensures))
+    (λ c. c .before .loop2 .inv .long)
+    (λ c. filled-end (c .before .loop2 .inv) (search needs)))

@@ -1,3 +1,5 @@
+-- Each block of output comes from a state of its own, one permutation after the one before; what is left at the end is
+-- one block at most.
 use Prim.Native.Nat.{_-_}
 use mathlib.Core.Path.{refl}
 use borrow.Author.Needs.{needs}
@@ -9,27 +11,45 @@ use Rattle.fips202.proofs.Output.{Output, output-start, output-part, ou
 use Rattle.fips202.proofs.squeeze.squeeze.Statement.{statement}
 use Rattle.fips202.proofs.squeeze.squeeze.Tie as tie
 
+-- a bytes are given out, and t is the state that gives the next
 abbrev Inv-loop : tie.InvT-loop
-Inv-loop rate out₀ n t₀ a₀ out t a = Output rate n (λ q. iterate q (λ _. keccak-p) (t₀ .lanes)) a out × ReachedBy rate (λ _. keccak-p) (t₀ .lanes) a (t .lanes)
+Inv-loop rate out₀ n t₀ a₀ out t a =
+    Output rate n (λ q. iterate q (λ _. keccak-p) (t₀ .lanes)) a out
+    × ReachedBy rate (λ _. keccak-p) (t₀ .lanes) a (t .lanes)
 
 abbrev μ-loop : tie.MeasureT-loop
 μ-loop rate out₀ n t₀ a₀ out t a = n - a
 
-loop-holds : tie.Need-loop-holds Inv-loop μ-loop
-loop-holds c = (output-start refl, reached-by-start)
+-- ---- the loop's head, from where a block is given out and from where the rest is
+
+abbrev giving : tie.After-extract Inv-loop μ-loop → tie.At-loop Inv-loop μ-loop
+giving c = c .before .before .before
+
+abbrev ending : tie.After-extract2 Inv-loop μ-loop → tie.At-loop Inv-loop μ-loop
+ending c = c .before .before .before
+
+-- ---- facts
 
 loop-again : tie.Need-loop-again Inv-loop μ-loop
 loop-again c =
-    let i = c .before .before .before .before .before .before .loop .inv in (
-      output-part (i .1 .turns) (i .0) (i .1 .at) (i .1 .is) (omega arith) (omega arith) (omega arith) (c .before .before .before .extract .ensures),
-      reached-by-turn (i .1) (c .permute .ensures),
+    let given = c .before .before .before in
+    let output = giving given .loop .inv .0 in
+    let reached = giving given .loop .inv .1 in (
+      output-part (reached .turns) output (reached .at) (reached .is) (omega arith) (omega arith) (omega arith)
+          (given .extract .ensures),
+      reached-by-turn reached (c .permute .ensures),
     )
 
 returns : tie.Need-returns Inv-loop μ-loop
 unfolding squeezed
 returns c =
-    let i = c .before .before .before .before .before .loop .inv in
-    output-end (output-part (i .1 .turns) (i .0) (i .1 .at) (i .1 .is) (omega arith) (omega arith) (omega arith) (c .before .before .extract2 .ensures)) (omega arith)
+    let given = c .before .before in
+    let output = ending given .loop .inv .0 in
+    let reached = ending given .loop .inv .1 in
+    output-end
+    (output-part (reached .turns) output (reached .at) (reached .is) (omega arith) (omega arith) (omega arith)
+    (given .extract2 .ensures))
+    (omega arith)
 
 pub squeeze-spec : {M : Type 1} → statement M
 squeeze-spec =
@@ -37,7 +57,7 @@ squeeze-spec =
     (tie.spec
     Inv-loop
     μ-loop
-    loop-holds
+    (λ c. (output-start refl, reached-by-start))
     (λ c. search needs)
     (λ c. search needs)
     (λ c. search needs)

@@ -1,3 +1,4 @@
+-- The shift drops bit 7 out of the byte, and 0x71 has the four taps: the expression is Algorithm 5's step as it stands.
 use borrow.Author.Needs.{needs}
 use mathlib.Core.Path.{refl}
 use Rattle.words.specs.Word.{xor}
@@ -5,9 +6,6 @@ use Rattle.keccak.specs.KeccakP.{clocked}
 use Rattle.keccak.proofs.constants.clock.Statement.{statement}
 use Rattle.keccak.proofs.constants.clock.Tie as tie
 
-returns : tie.Need-returns
-unfolding clocked xor
-returns c = refl
-
 pub clock-spec : {M : Type 1} → statement M
-clock-spec = tie.close (tie.spec (λ c. search needs) returns)
+unfolding clocked xor
+clock-spec = tie.close (tie.spec (λ c. search needs) (λ c. refl))

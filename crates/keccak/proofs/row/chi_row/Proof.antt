@@ -1,3 +1,4 @@
+-- The language's !x is 2^64 - 1 - x, which on a word of 64 bits is its complement; the five lanes are then chiRow's.
 use mathlib.Core.Path.{_≡_}
 use Prim.Native.Nat.{ℕ, _-_, _^_}
 use mir.Syntax.{w64}
@@ -14,7 +15,8 @@ returns : tie.Need-returns
 unfolding xor and
 returns c =
     let f = c .struct-known15 .given in
-    rw (inverted (f .0), inverted (f .1 .0), inverted (f .1 .1 .0), inverted (f .1 .1 .1 .0), inverted (f .1 .1 .1 .1 .0))
+    let g = f .1 .1 in
+    rw (inverted (f .0), inverted (f .1 .0), inverted (g .0), inverted (g .1 .0), inverted (g .1 .1 .0))
 
 pub chi-row-spec : {M : Type 1} → statement M
 chi-row-spec = tie.close (tie.spec returns)

@@ -1,3 +1,4 @@
+-- Only lane 0 is stored, and the language's ^ is the definitions' xor.
 use borrow.Author.Needs.{needs}
 use mathlib.Core.Path.{refl}
 use Rattle.words.specs.Word.{xor}
@@ -5,9 +6,6 @@ use Rattle.keccak.specs.KeccakP.{iota}
 use Rattle.keccak.proofs.steps.iota.Statement.{statement}
 use Rattle.keccak.proofs.steps.iota.Tie as tie
 
-returns : tie.Need-returns
-unfolding iota xor
-returns c = refl
-
 pub iota-spec : {M : Type 1} → statement M
-iota-spec = tie.close (tie.spec (λ c. search needs) (λ c. search needs) returns)
+unfolding iota xor
+iota-spec = tie.close (tie.spec (λ c. search needs) (λ c. search needs) (λ c. refl))

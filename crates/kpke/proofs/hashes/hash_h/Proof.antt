@@ -1,12 +1,14 @@
-use native.Mathlib.Omega.{arith}
-use borrow.Author.Tests.{eq-eqb}
-use lib.ListN.{length}
+-- The output has 32 bytes, the digest's length, so that SHA3-256 writes it.
 use borrow.Author.Needs.{needs}
+use Rattle.fips202.specs.Sponge.{sha3-256}
+use Rattle.kpke.proofs.Digest.{digest-of}
 use Rattle.kpke.proofs.hashes.hash_h.Statement.{statement}
 use Rattle.kpke.proofs.hashes.hash_h.Tie as tie
 
-returns : tie.Need-returns
-returns c = rw (eq-eqb (length (c .before .before .before .before .before .before .args .out .now)) 32 (omega arith)) at (c .before .before .sha3-256 .ensures .1)
-
 pub hash-h-spec : {M : Type 1} → statement M
-hash-h-spec = tie.close (tie.spec (λ c κs. search needs) (λ c. search needs) returns)
+hash-h-spec =
+    tie.close
+    (tie.spec
+    (λ c κs. search needs)
+    (λ c. search needs)
+    (λ c. search (needs, digest-of sha3-256 32)))

@@ -1,37 +1,59 @@
-use mathlib.Core.Path.{ap, _∙_}
-use mathlib.Core.List.{List}
-use Prim.Native.Nat.{ℕ, _+_, _-_}
-use native.Mathlib.Omega.{arith}
-use lib.ListN.{length, take, drop}
-use Rattle.words.specs.Part.{part-rest}
-use Rattle.ring.specs.Transform.{ntt}
-use Rattle.kpke.specs.Parameters.{mlKem768}
-use Rattle.kpke.specs.KPke.{parts, concat, noise, publicPolynomial}
-use Rattle.kpke.specs.Expanded.{placesOf}
-use Rattle.kpke.proofs.Parts.{below-transformed, below-public}
-use Rattle.kpke.proofs.Encoded.{below-byteEncode12}
-use Rattle.kpke.proofs.Keys.{ek-parts, dk-parts}
+-- s-hat and t-hat stand part by part in their slices and are below q, as sums modulo q and transforms are, so that
+-- they can be encoded; sigma is g's second half.
 use borrow.Author.Needs.{needs}
+use native.Mathlib.Omega.{arith}
+use Rattle.words.specs.Part.{part-rest}
+use Rattle.kpke.specs.Parameters.{mlKem768}
+use Rattle.kpke.proofs.Encoded.{below-byteEncode12}
+use Rattle.kpke.proofs.Parts.{below-vector, below-transformed, below-public}
+use Rattle.kpke.proofs.Keys.{ek-parts, dk-parts}
 use Rattle.kpke.proofs.key_making.write_keys.Statement.{statement}
 use Rattle.kpke.proofs.key_making.write_keys.Tie as tie
 
-write-ek-requires : tie.Need-write-ek-requires
-write-ek-requires c κs = (omega arith, rw (c .before .before .before .before .public-vector .ensures) (below-public 3 _ _ _), omega arith, omega arith)
+-- ---- places: the calls from the last to the first, and the start
 
-encode-all-requires : tie.Need-encode-all-requires
-encode-all-requires c κs = (omega arith, omega arith, omega arith, omega arith, below-byteEncode12 (rw (c .before .before .before .before .before .before .before .before .before .before .before .before .before .before .transformed-noise .ensures) (below-transformed 2 3 (let g = c .before .before .before .before .before .before .before .before .before .before .before .before .before .before .before .before .before .before .before .before .before .args .g .now in take (length g - 32) (drop 32 g)))))
+abbrev encoded : tie.After-slice-known4 → tie.After-encode-all
+encoded c = c .before .before
+
+abbrev lent-s : tie.After-encode-all → tie.After-slice-known3
+lent-s c = c .before .before .before
+
+abbrev written : tie.After-encode-all → tie.After-write-ek
+written c = lent-s c .before .before
+
+abbrev lent-t : tie.After-write-ek → tie.After-t3
+lent-t c = c .before .before .before
+
+abbrev multiplied : tie.After-write-ek → tie.After-public-vector
+multiplied c = lent-t c .before .before
+
+abbrev lent-sigma : tie.After-public-vector → tie.After-s3
+lent-sigma c = c .before .before .before
+
+abbrev drawn : tie.After-public-vector → tie.After-transformed-noise
+drawn c = lent-sigma c .before .before
+
+abbrev lent-g : tie.After-transformed-noise → tie.After-slice-known2
+lent-g c = c .before .before .before
+
+abbrev known : tie.After-slice-known2 → tie.After-shared-slice-known
+known c = c .before .before .before
+
+abbrev start : tie.After-transformed-noise → tie.Start
+start c = known (lent-g c) .before
 
 returns : tie.Need-returns
 returns c =
-    let s = c .before .before .before .before .before .before .before .before .before .before .before .before .before .before .before .before .before .before .before .before .before .before .before .before .args in
-    let x = c .before .before .before .before .before .before .before .before .before .before .before .before .before .before .before .before .before .before .before .before .before .before .before .before .pre .0 in
-    let r = part-rest 32 (s .g .now) in
-    let v = c .before .before .before .before .before .before .before .before .before .before .before .before .before .before .before .before .before .transformed-noise .last .1 .1 .1 .0 in
-    let es = c .before .before .before .before .before .before .before .before .before .before .before .before .before .before .before .before .before .transformed-noise .ensures ∙ ap (λ (l : List ℕ). concat 3 (λ i. ntt (noise 2 l i))) r in
-    let et =
-    c .before .before .before .before .before .before .before .before .before .before .before .before .public-vector .ensures
-    ∙ ap (λ (l : List ℕ). concat 3 (publicPolynomial 3 (placesOf 3 (s .a .now)) (parts 256 v) (λ j. ntt (noise 2 l (3 + j))))) r in
-    (λ d e. c .before .before .before .before .before .before .before .write-ek .ensures ∙ ek-parts mlKem768 d e x es et, λ d e. c .before .before .encode-all .ensures ∙ dk-parts mlKem768 d e x es)
+    let dk = encoded c in
+    let ek = written dk in
+    let t = multiplied ek in
+    let s = drawn t in
+    let sigma = part-rest 32 (start s .args .g .now) in
+    let a = start s .pre .0 in
+    let es = s .transformed-noise .ensures in (
+      λ d e. ek-parts mlKem768 d e a sigma es (t .public-vector .ensures) (ek .write-ek .ensures),
+      λ d e. dk-parts mlKem768 d e a sigma es (dk .encode-all .ensures),
+    )
 
 pub write-keys-spec : {M : Type 1} → statement M
 write-keys-spec =
@@ -52,9 +74,17 @@ write-keys-spec =
     (λ c. search needs)
     (λ c. search needs)
     (λ c. search needs)
-    write-ek-requires
+    (λ c κs. search (needs, below-public))
     (λ c. search needs)
-    encode-all-requires
+    (λ c κs. (
+      record {
+        vector = omega arith;
+        some = omega arith;
+        most = omega arith;
+        below = search (needs, below-byteEncode12, below-vector, below-transformed);
+      },
+      omega arith,
+    ))
     (λ c. search needs)
     (λ c. search needs)
     returns)

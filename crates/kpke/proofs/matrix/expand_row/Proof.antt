@@ -1,47 +1,34 @@
-use mathlib.Core.Path.{_≡_, sym, _∙_}
-use Prim.Native.Nat.{_-_, _*_}
+-- Turn j writes place (i, j) where the first j places end if its stream is full, and says no where one is not: so yes
+-- means that all k are in place.
+use borrow.Author.Needs.{needs}
+use Prim.Native.Nat.{_-_}
 use native.Mathlib.Omega.{arith}
-use borrow.Author.Tests.{not-true, not-false}
 use Rattle.codec.specs.Sample.{full}
 use Rattle.kpke.specs.Functions.{XOF}
 use Rattle.kpke.specs.KPke.{matrix}
-use Rattle.kpke.proofs.Tested.{Passed, passed-start, passed-turn, every-false}
-use Rattle.kpke.proofs.Joined.{Joined, length-span, joined-start, joined-turn, joined-end}
+use Rattle.kpke.proofs.Concatenated.{length-span}
+use Rattle.kpke.proofs.Sampled.{Sampled, sampled-start, sampled-turn, sampled-stop, sampled-end}
 use Rattle.kpke.proofs.matrix.expand_row.Statement.{statement}
 use Rattle.kpke.proofs.matrix.expand_row.Tie as tie
 
+-- j places written, each from a full stream
 abbrev Inv-loop : tie.InvT-loop
-Inv-loop rho k i a₀ j₀ a j = Passed (λ j. full (XOF rho i j)) j × Joined 256 k (matrix rho i) a₀ j a
+Inv-loop rho k i a₀ j₀ a j = Sampled 256 k (λ j. full (XOF rho i j)) (matrix rho i) a₀ j a
 
 abbrev μ-loop : tie.MeasureT-loop
 μ-loop rho k i a₀ j₀ a j = k - j
 
-loop-holds : tie.Need-loop-holds Inv-loop μ-loop
-loop-holds c = (passed-start, joined-start (omega arith))
+-- a place's test, and the loop's head, from where the row is given up
+abbrev tested : tie.Then1 Inv-loop μ-loop → tie.After-sample-place Inv-loop μ-loop
+tested c = c .before .before .before
 
-sample-place-requires : tie.Need-sample-place-requires Inv-loop μ-loop
-sample-place-requires c κs = let a = c .before .before .loop in (omega arith, length-span (256 * a .j) 256 (a .a) (omega arith))
+abbrev head : tie.After-sample-place Inv-loop μ-loop → tie.At-loop Inv-loop μ-loop
+head c = c .before .before .before
 
 returns : tie.Need-returns Inv-loop μ-loop
 returns c =
-    let l = c .before .before .before .before .before .before in
-    let s = l .before .before .before .args in
-    let w = c .before .before .before .sample-place in
-    (sym (every-false (s .k) (λ j. full (XOF (s .rho .now) (s .i) j)) (l .loop .j) (omega arith) (sym (w .ensures .0) ∙ not-true (w .result) (c .if1 .taken))), λ h. cc)
-
-loop-again : tie.Need-loop-again Inv-loop μ-loop
-loop-again c =
-    let l = c .before .before .before .before .before .before in
-    let w = c .before .before .before .sample-place in
-    let t = not-false (w .result) (c .if1 .left) in
-    (passed-turn (l .loop .inv .0) (sym (w .ensures .0) ∙ t), joined-turn (l .loop .inv .1) (omega arith) (w .kept .1 .1 .1 .0) (w .ensures .1 t))
-
-returns-2 : tie.Need-returns-2 Inv-loop μ-loop
-returns-2 c =
-    let a = c .before .loop in
-    let s = c .before .before .before .before .args in
-    let e : a .j ≡ s .k = omega arith in
-    (sym (rw e at (a .inv .0 .is)), λ h. joined-end (a .inv .1) (omega arith))
+    let t = tested c in
+    sampled-stop _ _ _ (head t .loop .j) (omega arith) (t .sample-place .ensures .0) (c .if1 .taken)
 
 pub expand-row-spec : {M : Type 1} → statement M
 expand-row-spec =
@@ -49,7 +36,7 @@ expand-row-spec =
     (tie.spec
     Inv-loop
     μ-loop
-    loop-holds
+    (λ c. search (needs, sampled-start))
     (λ c. omega arith)
     (λ c. omega arith)
     (λ c. omega arith)
@@ -58,11 +45,11 @@ expand-row-spec =
     (λ c. omega arith)
     (λ c. omega arith)
     (λ c. omega arith)
-    sample-place-requires
+    (λ c κs. search (needs, length-span))
     (λ c. omega arith)
     returns
     (λ c. omega arith)
     (λ c. omega arith)
-    loop-again
+    (λ c. search (needs, sampled-turn))
     (λ c. omega arith)
-    returns-2)
+    (λ c. sampled-end (c .before .loop .inv) (omega arith)))

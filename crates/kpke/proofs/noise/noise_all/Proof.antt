@@ -1,31 +1,24 @@
-use Prim.Native.Nat.{_+_, _-_, _*_}
+-- Turn i writes polynomial n + i where the first i end, so that k turns write all k, one after the other.
+use borrow.Author.Needs.{needs}
+use Prim.Native.Nat.{_+_, _-_}
 use native.Mathlib.Omega.{arith}
 use Rattle.kpke.specs.KPke.{noise}
-use Rattle.kpke.proofs.Joined.{Joined, length-span, joined-start, joined-turn, joined-end}
+use Rattle.kpke.proofs.Concatenated.{
+  Concatenated,
+  length-span,
+  concatenated-start,
+  concatenated-turn,
+  concatenated-end,
+}
 use Rattle.kpke.proofs.noise.noise_all.Statement.{statement}
 use Rattle.kpke.proofs.noise.noise_all.Tie as tie
 
+-- i polynomials written
 abbrev Inv-loop : tie.InvT-loop
-Inv-loop seed eta n k v₀ i₀ v i = Joined 256 k (λ i. noise eta seed (n + i)) v₀ i v
+Inv-loop seed eta n k v₀ i₀ v i = Concatenated 256 k (λ j. noise eta seed (n + j)) v₀ i v
 
 abbrev μ-loop : tie.MeasureT-loop
 μ-loop seed eta n k v₀ i₀ v i = k - i
-
-loop-holds : tie.Need-loop-holds Inv-loop μ-loop
-loop-holds c = joined-start (omega arith)
-
-noise-requires : tie.Need-noise-requires Inv-loop μ-loop
-noise-requires c κs =
-    let a = c .before .before .loop in
-    (omega arith, omega arith, omega arith, omega arith, length-span (256 * a .i) 256 (a .v) (omega arith))
-
-loop-again : tie.Need-loop-again Inv-loop μ-loop
-loop-again c =
-    let n = c .before .before .noise in
-    joined-turn (c .before .before .before .before .before .loop .inv) (omega arith) (n .kept .1 .1 .1 .0) (n .ensures)
-
-returns : tie.Need-returns Inv-loop μ-loop
-returns c = joined-end (c .before .loop .inv) (omega arith)
 
 pub noise-all-spec : {M : Type 1} → statement M
 noise-all-spec =
@@ -33,7 +26,7 @@ noise-all-spec =
     (tie.spec
     Inv-loop
     μ-loop
-    loop-holds
+    (λ c. search (needs, concatenated-start))
     (λ c. omega arith)
     (λ c. omega arith)
     (λ c. omega arith)
@@ -41,9 +34,9 @@ noise-all-spec =
     (λ c. omega arith)
     (λ c. omega arith)
     (λ c. omega arith)
-    noise-requires
+    (λ c κs. search (needs, length-span))
     (λ c. omega arith)
     (λ c. omega arith)
-    loop-again
+    (λ c. search (needs, concatenated-turn))
     (λ c. omega arith)
-    returns)
+    (λ c. search (needs, concatenated-end)))

@@ -1,26 +1,27 @@
-use mathlib.Core.Path.{ap, _∙_}
-use mathlib.Core.List.{List}
-use Prim.Native.Nat.{ℕ}
-use native.Mathlib.Nat.{zero-add}
-use Rattle.codec.specs.SampleLaws.{length-samplePolyCbd}
-use Rattle.ring.specs.Transform.{ntt}
-use Rattle.kpke.specs.KPke.{parts, noise}
-use Rattle.kpke.specs.VectorLaws.{parts-concat, concat-cong}
+-- noise_all leaves the k polynomials one after the other, and ntt_all transforms each part of 256 coefficients.
 use borrow.Author.Needs.{needs}
+use Rattle.kpke.proofs.Parts.{transformed-noise}
 use Rattle.kpke.proofs.noise.transformed_noise.Statement.{statement}
 use Rattle.kpke.proofs.noise.transformed_noise.Tie as tie
 
-returns : tie.Need-returns
-returns c =
-    let s = c .before .before .before .before .before .before .before .before .before .before .args in
-    c .before .before .ntt-all .ensures
-    ∙ concat-cong (s .k)
-    (λ i h.
-    ap ntt
-    (ap (λ (l : List ℕ). parts 256 l i) (c .before .before .before .before .before .before .noise-all .ensures)
-    ∙ parts-concat (record { long = λ j g. length-samplePolyCbd (s .eta) _ }) i h
-    ∙ ap (noise (s .eta) (s .seed .now)) (zero-add i)))
+-- the function's start, from its end
+abbrev transformed : tie.After-slice-known3 → tie.After-ntt-all-arg
+transformed c = c .before .before .before
+
+abbrev drawn : tie.After-slice-known3 → tie.After-noise-all
+drawn c = transformed c .before .before .before
+
+abbrev known : tie.After-slice-known3 → tie.After-shared-slice-known
+known c = drawn c .before .before .before
+
+abbrev start : tie.After-slice-known3 → tie.Start
+start c = known c .before
 
 pub transformed-noise-spec : {M : Type 1} → statement M
 transformed-noise-spec =
-    tie.close (tie.spec (λ c κs. search needs) (λ c κs. search needs) (λ c. search needs) returns)
+    tie.close
+    (tie.spec
+    (λ c κs. search needs)
+    (λ c κs. search needs)
+    (λ c. search needs)
+    (λ c. let s = start c .args in search (needs, transformed-noise (s .eta) (s .k) (s .seed .now))))

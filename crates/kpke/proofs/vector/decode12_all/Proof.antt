@@ -1,36 +1,35 @@
-use mathlib.Core.Path.{ap, _∙_}
-use Prim.Native.Nat.{_-_, _*_}
+-- Turn i decodes the 384 bytes of part i to where the first i polynomials end, so that k turns decode the vector.
+use borrow.Author.Needs.{needs}
+use Prim.Native.Nat.{_-_}
 use native.Mathlib.Omega.{arith}
 use Rattle.codec.specs.Bytes.{byteDecode12}
 use Rattle.kpke.specs.KPke.{parts}
-use Rattle.kpke.proofs.Joined.{Joined, part-span, length-span, joined-start, joined-turn, joined-end}
+use Rattle.kpke.proofs.Concatenated.{
+  Concatenated,
+  length-span,
+  concatenated-start,
+  concatenated-read,
+  concatenated-end,
+}
 use Rattle.kpke.proofs.vector.decode12_all.Statement.{statement}
 use Rattle.kpke.proofs.vector.decode12_all.Tie as tie
 
+-- i polynomials decoded
 abbrev Inv-loop : tie.InvT-loop
-Inv-loop b k v₀ i₀ v i = Joined 256 k (λ i. byteDecode12 (parts 384 b i)) v₀ i v
+Inv-loop b k v₀ i₀ v i = Concatenated 256 k (λ j. byteDecode12 (parts 384 b j)) v₀ i v
 
 abbrev μ-loop : tie.MeasureT-loop
 μ-loop b k v₀ i₀ v i = k - i
 
-loop-holds : tie.Need-loop-holds Inv-loop μ-loop
-loop-holds c = joined-start (omega arith)
+-- the function's start, from a turn's end
+abbrev read : tie.After-slice-known2 Inv-loop μ-loop → tie.After-byte-decode12-arg2 Inv-loop μ-loop
+read c = c .before .before .before
 
-byte-decode12-requires : tie.Need-byte-decode12-requires Inv-loop μ-loop
-byte-decode12-requires c κs =
-    let a = c .before .before .before .loop in
-    let s = c .before .before .before .before .before .before in
-    (length-span (384 * a .i) 384 (s .args .b .now) (omega arith), length-span (256 * a .i) 256 (a .v) (omega arith))
+abbrev head : tie.After-slice-known2 Inv-loop μ-loop → tie.At-loop Inv-loop μ-loop
+head c = read c .before .before .before
 
-loop-again : tie.Need-loop-again Inv-loop μ-loop
-loop-again c =
-    let a = c .before .before .before .before .before .before .loop in
-    let s = c .before .before .before .before .before .before .before .before .before .args in
-    let d = c .before .before .byte-decode12 in
-    joined-turn (a .inv) (omega arith) (d .kept .1 .0) (d .ensures ∙ ap (byteDecode12) (part-span (384 * a .i) 384 (s .b .now)))
-
-returns : tie.Need-returns Inv-loop μ-loop
-returns c = joined-end (c .before .loop .inv) (omega arith)
+abbrev start : tie.After-slice-known2 Inv-loop μ-loop → tie.Start Inv-loop μ-loop
+start c = head c .before .before .before
 
 pub decode12-all-spec : {M : Type 1} → statement M
 decode12-all-spec =
@@ -38,7 +37,7 @@ decode12-all-spec =
     (tie.spec
     Inv-loop
     μ-loop
-    loop-holds
+    (λ c. search (needs, concatenated-start))
     (λ c. omega arith)
     (λ c. omega arith)
     (λ c. omega arith)
@@ -50,9 +49,9 @@ decode12-all-spec =
     (λ c. omega arith)
     (λ c. omega arith)
     (λ c. omega arith)
-    byte-decode12-requires
+    (λ c κs. search (needs, length-span))
     (λ c. omega arith)
     (λ c. omega arith)
-    loop-again
+    (λ c. search (needs, concatenated-read byteDecode12 384 (start c .args .b .now)))
     (λ c. omega arith)
-    returns)
+    (λ c. search (needs, concatenated-end)))

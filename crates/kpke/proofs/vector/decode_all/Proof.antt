@@ -1,37 +1,39 @@
-use mathlib.Core.Path.{ap, _∙_}
-use Prim.Native.Nat.{_-_, _*_}
+-- Turn i decodes the 384 bytes of part i to where the first i polynomials end, so that k turns decode the vector.
+use borrow.Author.Needs.{needs}
+use Prim.Native.Nat.{_-_}
 use native.Mathlib.Omega.{arith}
 use Rattle.codec.specs.Bytes.{byteDecode}
 use Rattle.kpke.specs.KPke.{parts, coefficients}
-use Rattle.kpke.proofs.Joined.{Joined, part-span, length-span, joined-start, joined-turn, joined-end}
+use Rattle.kpke.proofs.Concatenated.{
+  Concatenated,
+  length-span,
+  concatenated-start,
+  concatenated-read,
+  concatenated-end,
+}
 use Rattle.kpke.proofs.vector.decode_all.Statement.{statement}
 use Rattle.kpke.proofs.vector.decode_all.Tie as tie
 
+-- i polynomials decoded
 abbrev Inv-loop : tie.InvT-loop
-Inv-loop b k v₀ i₀ v i = Joined 256 k (λ i. byteDecode 12 (parts 384 b i)) v₀ i v
+Inv-loop b k v₀ i₀ v i = Concatenated 256 k (λ j. byteDecode 12 (parts 384 b j)) v₀ i v
 
 abbrev μ-loop : tie.MeasureT-loop
 μ-loop b k v₀ i₀ v i = k - i
 
-loop-holds : tie.Need-loop-holds Inv-loop μ-loop
-loop-holds c = joined-start (omega arith)
-
-byte-decode-requires : tie.Need-byte-decode-requires Inv-loop μ-loop
-byte-decode-requires c κs =
-    let a = c .before .before .before .loop in
-    let s = c .before .before .before .before .before .before in
-    (length-span (384 * a .i) 384 (s .args .b .now) (omega arith), length-span (256 * a .i) 256 (a .v) (omega arith), omega arith, omega arith)
-
-loop-again : tie.Need-loop-again Inv-loop μ-loop
-loop-again c =
-    let a = c .before .before .before .before .before .before .loop in
-    let s = c .before .before .before .before .before .before .before .before .before .args in
-    let d = c .before .before .byte-decode in
-    joined-turn (a .inv) (omega arith) (d .kept .1 .1 .0) (d .ensures ∙ ap (byteDecode 12) (part-span (384 * a .i) 384 (s .b .now)))
-
 returns : tie.Need-returns Inv-loop μ-loop
 unfolding coefficients
-returns c = joined-end (c .before .loop .inv) (omega arith)
+returns c = concatenated-end (c .before .loop .inv) (omega arith)
+
+-- the function's start, from a turn's end
+abbrev read : tie.After-slice-known2 Inv-loop μ-loop → tie.After-byte-decode-arg2 Inv-loop μ-loop
+read c = c .before .before .before
+
+abbrev head : tie.After-slice-known2 Inv-loop μ-loop → tie.At-loop Inv-loop μ-loop
+head c = read c .before .before .before
+
+abbrev start : tie.After-slice-known2 Inv-loop μ-loop → tie.Start Inv-loop μ-loop
+start c = head c .before .before .before
 
 pub decode-all-spec : {M : Type 1} → statement M
 decode-all-spec =
@@ -39,7 +41,7 @@ decode-all-spec =
     (tie.spec
     Inv-loop
     μ-loop
-    loop-holds
+    (λ c. search (needs, concatenated-start))
     (λ c. omega arith)
     (λ c. omega arith)
     (λ c. omega arith)
@@ -51,9 +53,9 @@ decode-all-spec =
     (λ c. omega arith)
     (λ c. omega arith)
     (λ c. omega arith)
-    byte-decode-requires
+    (λ c κs. search (needs, length-span))
     (λ c. omega arith)
     (λ c. omega arith)
-    loop-again
+    (λ c. search (needs, concatenated-read (byteDecode 12) 384 (start c .args .b .now)))
     (λ c. omega arith)
     returns)

@@ -1,51 +1,56 @@
-use mathlib.Core.Path.{_≡_, refl, ap, _∙_}
+-- Turn i encodes part i to the n = 32 d bytes where the first i encodings end, so that k turns encode the vector.
+use borrow.Author.Needs.{needs}
+use mathlib.Core.Path.{_≡_, refl}
 use Prim.Native.Nat.{_+_, _-_, _*_}
 use native.Mathlib.Omega.{arith}
 use Rattle.words.specs.BoundedLaws.{below-take, below-drop}
 use Rattle.codec.specs.Bytes.{byteEncode}
 use Rattle.kpke.specs.KPke.{parts}
-use Rattle.kpke.proofs.Joined.{Joined, part-span, length-span, joined-start, joined-fits, joined-turn, joined-end}
+use Rattle.kpke.proofs.Concatenated.{
+  Concatenated,
+  length-span,
+  concatenated-start,
+  concatenated-fits,
+  concatenated-read,
+  concatenated-end,
+}
 use Rattle.kpke.proofs.vector.encode_all.Statement.{statement}
 use Rattle.kpke.proofs.vector.encode_all.Tie as tie
 
+-- i polynomials encoded
 abbrev Inv-loop : tie.InvT-loop
-Inv-loop v d k out₀ n i₀ out i = (n ≡ 32 * d) × Joined n k (λ i. byteEncode d (parts 256 v i)) out₀ i out
+Inv-loop v d k out₀ n i₀ out i = (n ≡ 32 * d) × Concatenated n k (λ j. byteEncode d (parts 256 v j)) out₀ i out
 
 abbrev μ-loop : tie.MeasureT-loop
 μ-loop v d k out₀ n i₀ out i = k - i
 
-loop-holds : tie.Need-loop-holds Inv-loop μ-loop
-loop-holds c = (refl, joined-start (omega arith))
+-- the loop's head, from a turn's call and from its end
+abbrev calling : tie.After-byte-encode-arg2 Inv-loop μ-loop → tie.At-loop Inv-loop μ-loop
+calling c = c .before .before .before
 
-mul-b : tie.Need-mul-b Inv-loop μ-loop
-mul-b c = omega (arith, joined-fits (c .before .loop .inv .1) (omega arith))
+abbrev stored : tie.After-slice-known2 Inv-loop μ-loop → tie.At-loop Inv-loop μ-loop
+stored c = calling (c .before .before .before)
 
-add-be : tie.Need-add-be Inv-loop μ-loop
-add-be c = omega (arith, joined-fits (c .before .loop .inv .1) (omega arith))
-
-part-byte-encode-end-2 : tie.Need-part-byte-encode-end-2 Inv-loop μ-loop
-part-byte-encode-end-2 c = omega (arith, joined-fits (c .before .before .loop .inv .1) (omega arith))
+abbrev start : tie.At-loop Inv-loop μ-loop → tie.Start Inv-loop μ-loop
+start c = c .before .before .before
 
 byte-encode-requires : tie.Need-byte-encode-requires Inv-loop μ-loop
 byte-encode-requires c κs =
-    let a = c .before .before .before .loop in
-    let s = c .before .before .before .before .before .before in (
-      length-span (256 * a .i) 256 (s .args .v .now) (omega arith),
-      length-span (32 * s .args .d * a .i) (32 * s .args .d) (a .out) (joined-fits (a .inv .1) (omega arith)),
+    let head = calling c in
+    let s = start head in
+    let a = 256 * head .loop .i in (
+      length-span a 256 (s .args .v .now) (omega arith),
+      length-span (32 * s .args .d * head .loop .i) (32 * s .args .d) (head .loop .out)
+          (concatenated-fits (head .loop .inv .1) (omega arith)),
       omega arith,
       omega arith,
-      below-take (256 * a .i + 256 - 256 * a .i) (below-drop (256 * a .i) (s .pre .4)),
+      below-take (a + 256 - a) (below-drop a (s .pre .0 .below)),
     )
 
 loop-again : tie.Need-loop-again Inv-loop μ-loop
 loop-again c =
-    let a = c .before .before .before .before .before .before .loop in
-    let s = c .before .before .before .before .before .before .before .before .before .args in
-    let b = c .before .before .byte-encode in
-    (refl, joined-turn (a .inv .1) (omega arith) (b .kept .1 .1 .0) (b .ensures ∙ ap (byteEncode (s .d)) (part-span (256 * a .i) 256 (s .v .now))))
-
-returns : tie.Need-returns Inv-loop μ-loop
-returns c = joined-end (c .before .loop .inv .1) (omega arith)
+    let s = start (stored c) .args in
+    (refl, search (needs, concatenated-read (byteEncode (s .d)) 256 (s .v .now)))
 
 pub encode-all-spec : {M : Type 1} → statement M
 encode-all-spec =
@@ -54,21 +59,21 @@ encode-all-spec =
     Inv-loop
     μ-loop
     (λ c. omega arith)
-    loop-holds
+    (λ c. (refl, concatenated-start (omega arith)))
     (λ c. omega arith)
     (λ c. omega arith)
-    mul-b
-    add-be
-    (λ c. omega arith)
-    (λ c. omega arith)
-    (λ c. omega arith)
+    (λ c. omega (arith, concatenated-fits (c .before .loop .inv .1) (omega arith)))
+    (λ c. omega (arith, concatenated-fits (c .before .loop .inv .1) (omega arith)))
     (λ c. omega arith)
     (λ c. omega arith)
     (λ c. omega arith)
-    part-byte-encode-end-2
+    (λ c. omega arith)
+    (λ c. omega arith)
+    (λ c. omega arith)
+    (λ c. omega (arith, concatenated-fits (c .before .before .loop .inv .1) (omega arith)))
     byte-encode-requires
     (λ c. omega arith)
     (λ c. omega arith)
     loop-again
     (λ c. omega arith)
-    returns)
+    (λ c. concatenated-end (c .before .loop .inv .1) (omega arith)))

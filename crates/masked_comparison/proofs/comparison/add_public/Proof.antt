@@ -1,3 +1,5 @@
+-- The loop is the definition's own: the first j words have taken their public word and been entered, and the others
+-- still stand as they were lent, so that the next turn reads what the definition reads.
 use Prim.Native.Nat.{ℕ, _-_, _≤_}
 use mathlib.Core.Path.{_≡_, refl, _∙_}
 use mathlib.Core.List.{List}
@@ -13,13 +15,29 @@ use borrow.Author.Needs.{needs}
 use Rattle.masked_comparison.proofs.comparison.add_public.Statement.{statement}
 use Rattle.masked_comparison.proofs.comparison.add_public.Tie as tie
 
+-- j words added, of share 0; share 1 is any list w1
 abbrev Inv-loop : tie.InvT-loop
 Inv-loop c w0₀ rec₀ j₀ j-end w0 rec j =
     (j-end ≡ length c) × (j ≤ j-end) × (length w0 ≡ length w0₀) × ((k : ℕ) → j ≤ k → getD w0 k 0 ≡ getD w0₀ k 0)
-    × ((w1 ws cs : List ℕ) → Ran (addPublic j (λ k. getD c k 0) (sharedAt (sharedList w0₀ w1))) rec₀ ws cs (zip j (sharedList w0 w1)) rec ws cs)
+    × ((w1 ws cs : List ℕ)
+    → Ran (addPublic j (λ k. getD c k 0) (sharedAt (sharedList w0₀ w1))) rec₀ ws cs
+    (zip j (sharedList w0 w1)) rec ws cs)
 
 abbrev μ-loop : tie.MeasureT-loop
 μ-loop c w0₀ rec₀ j₀ j-end w0 rec j = j-end - j
+
+-- ---- places
+
+abbrev start : tie.At-loop Inv-loop μ-loop → tie.Start Inv-loop μ-loop
+start c = c .before .before .before
+
+abbrev reading : tie.After-shared-slice-known2 Inv-loop μ-loop → tie.At-loop Inv-loop μ-loop
+reading c = c .before .before .before
+
+abbrev entered : tie.After-rec Inv-loop μ-loop → tie.After-enter-xor Inv-loop μ-loop
+entered c = c .before
+
+-- ---- facts
 
 loop-holds : tie.Need-loop-holds Inv-loop μ-loop
 unfolding addPublic
@@ -28,8 +46,8 @@ loop-holds c = (refl, omega arith, refl, λ k h. refl, λ w1 ws cs. rw zip-zero 
 loop-again : tie.Need-loop-again Inv-loop μ-loop
 unfolding addPublic
 loop-again c =
-    let o = c .before in
-    let l = o .before .before .before .before .loop in
+    let o = entered c in
+    let l = reading (o .before) .loop in
     let v = o .enter-xor .result .value in (
       refl,
       omega arith,
@@ -43,9 +61,9 @@ loop-again c =
 
 returns : tie.Need-returns Inv-loop μ-loop
 returns c w1 ws cs =
-    let l = c .before in
-    let e : l .loop .j ≡ length (l .before .before .before .args .c .now) = omega arith in
-    rw e at (l .loop .inv .4 w1 ws cs)
+    let head = c .before in
+    let e : head .loop .j ≡ length (start head .args .c .now) = omega arith in
+    rw e at (head .loop .inv .4 w1 ws cs)
 
 pub add-public-spec : {M : Type 1} → statement M
 add-public-spec =
@@ -54,15 +72,15 @@ add-public-spec =
     Inv-loop
     μ-loop
     loop-holds
-    (λ c. search needs)  -- mul-enter-xor
-    (λ c. search needs)  -- slice-read-enter-xor
-    (λ c. search needs)  -- mul-enter-xor-2
-    (λ c. search needs)  -- shared-slice-read-enter-xor
-    (λ c κs. search needs)  -- enter-xor-requires
-    (λ c. search needs)  -- mul-w0
-    (λ c. search needs)  -- slice-write-w0
-    (λ c. search needs)  -- add-j
-    (λ c. search needs)  -- loop-less
+    (λ c. search needs)
+    (λ c. search needs)
+    (λ c. search needs)
+    (λ c. search needs)
+    (λ c κs. search needs)
+    (λ c. search needs)
+    (λ c. search needs)
+    (λ c. search needs)
+    (λ c. search needs)
     loop-again
-    (λ c. search needs)  -- same-length
+    (λ c. search needs)
     returns)

@@ -1,3 +1,4 @@
+-- There are six widths, and each is tested.
 use Prim.Native.Nat.{_-_, _/_, _^_}
 use lib.Dec.{eqb, leb, eqb→eq, leb→le}
 use borrow.Author.Needs.{needs}

@@ -1,3 +1,5 @@
+-- The loop is the definition's own: j turns of it have run on the first j masks, and the code's width at turn j is the
+-- definition's.
 use Prim.Native.Nat.{ℕ, _-_, _^_, _≤_}
 use mathlib.Core.Path.{_≡_}
 use mathlib.Core.List.{List}
@@ -11,24 +13,29 @@ use borrow.Author.Needs.{needs}
 use Rattle.masked_comparison.proofs.comparison.halves.Statement.{statement}
 use Rattle.masked_comparison.proofs.comparison.halves.Tie as tie
 
+-- j times halved, j masks drawn
 abbrev Inv-loop : tie.InvT-loop
-Inv-loop ws rec₀ acc₀ j₀ rec acc j = (j ≤ 6) × ((cs : List ℕ) → Ran (loop j (λ k. halve (2 ^ (6 - 1 - k))) acc₀) rec₀ ws cs acc rec (drop j ws) cs)
+Inv-loop ws rec₀ acc₀ j₀ rec acc j =
+    (j ≤ 6)
+    × ((cs : List ℕ) → Ran (loop j (λ k. halve (2 ^ (6 - 1 - k))) acc₀) rec₀ ws cs acc rec (drop j ws) cs)
 
 abbrev μ-loop : tie.MeasureT-loop
 μ-loop ws rec₀ acc₀ j₀ rec acc j = 6 - j
 
-loop-holds : tie.Need-loop-holds Inv-loop μ-loop
-loop-holds c = (omega arith, λ cs. loop-start _ _)
+abbrev halved : tie.After-rec Inv-loop μ-loop → tie.After-halve Inv-loop μ-loop
+halved c = c .before .before
 
 loop-again : tie.Need-loop-again Inv-loop μ-loop
 loop-again c =
-    let o = c .before .before in
-    let w = o .before .before in
-    let l = w .before .before in
-    let j = l .loop .j in
-    let ws = l .before .before .args .ws .now in (
+    let o = halved c in
+    let width = o .before .before in
+    let head = width .before .before in
+    let j = head .loop .j in
+    let ws = head .before .before .args .ws .now in (
       omega arith,
-      λ cs. loop-turn _ _ j (l .loop .inv .1 cs) (next-word ws j (rw (← w .half-width .ensures .0) (o .halve .ensures))),
+      λ cs.
+          loop-turn _ _ j (head .loop .inv .1 cs)
+          (next-word ws j (rw (← width .half-width .ensures .0) (o .halve .ensures))),
     )
 
 returns : tie.Need-returns Inv-loop μ-loop
@@ -41,12 +48,12 @@ halves-spec =
     (tie.spec
     Inv-loop
     μ-loop
-    loop-holds
-    (λ c κs. search needs)  -- half-width-requires
-    (λ c. search needs)  -- mul-halve
-    (λ c. search needs)  -- shared-slice-read-halve
-    (λ c κs. search needs)  -- halve-requires
-    (λ c. search needs)  -- add-j
-    (λ c. search needs)  -- loop-less
+    (λ c. (omega arith, λ cs. loop-start _ _))
+    (λ c κs. search needs)
+    (λ c. search needs)
+    (λ c. search needs)
+    (λ c κs. search needs)
+    (λ c. search needs)
+    (λ c. search needs)
     loop-again
     returns)

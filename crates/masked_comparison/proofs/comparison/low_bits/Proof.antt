@@ -1,3 +1,4 @@
+-- And with h ones is the remainder by 2^h.
 use lib.Bits.{and-mask}
 use borrow.Author.Needs.{needs}
 use Rattle.words.specs.Word.{ones, low}

@@ -1,3 +1,4 @@
+-- The definition multiplies in the same way, and a bit times 64 ones fits the word.
 use mathlib.Core.Path.{refl}
 use Rattle.masked_comparison.specs.Comparison.{copies}
 use Rattle.masked_comparison.specs.SelectionLaws.{copies-bits}
@@ -5,10 +6,14 @@ use Rattle.masked_comparison.proofs.selection.copies.Statement.{stateme
 use Rattle.masked_comparison.proofs.selection.copies.Tie as tie
 
 mul-t2 : tie.Need-mul-t2
-mul-t2 c = let s = c .before in record { fits = copies-bits {x = s .args .b .s0} (record { lt = s .pre .0 }) .lt }
+mul-t2 c =
+    let s = c .before in
+    record { fits = copies-bits {x = s .args .b .s0} (record { lt = s .pre .0 }) .lt }
 
 mul-t3 : tie.Need-mul-t3
-mul-t3 c = let s = c .before .before in record { fits = copies-bits {x = s .args .b .s1} (record { lt = s .pre .1 }) .lt }
+mul-t3 c =
+    let s = c .before .before in
+    record { fits = copies-bits {x = s .args .b .s1} (record { lt = s .pre .1 }) .lt }
 
 returns : tie.Need-returns
 unfolding copies

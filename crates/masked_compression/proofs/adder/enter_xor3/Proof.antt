@@ -1,3 +1,4 @@
+-- The definition's xor is the code's, so that what is entered is the definition's word.
 use Rattle.words.specs.Word.{xor}
 use Rattle.masked_compression.proofs.adder.enter_xor3.Statement.{statement}
 use Rattle.masked_compression.proofs.adder.enter_xor3.Tie as tie

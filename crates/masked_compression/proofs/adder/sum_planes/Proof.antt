@@ -1,3 +1,5 @@
+-- The loop is the definition's own: the first i sum planes are made of the planes at the same places, and stand in two
+-- arrays.
 use Prim.Native.Nat.{ℕ, _≤_, _-_}
 use mathlib.Core.Path.{_≡_, refl}
 use mathlib.Core.List.{List}
@@ -13,42 +15,58 @@ use borrow.Author.Needs.{needs}
 use Rattle.masked_compression.proofs.adder.sum_planes.Statement.{statement}
 use Rattle.masked_compression.proofs.adder.sum_planes.Tie as tie
 
+-- i sum planes made
 abbrev Inv-loop : tie.InvT-loop
 Inv-loop n a b c rec₀ s0₀ s1₀ i₀ rec s0 s1 i =
     (i ≤ n) × (length s0 ≡ 24) × (length s1 ≡ 24)
-    × ((ws cs : List ℕ)
-    → Ran (times i (λ j. sumPlane (at (zip n (sharedList (a .s0) (a .s1))) j) (at (zip n (sharedList (b .s0) (b .s1))) j) (at (zip n (sharedList (c .s0) (c .s1))) j))) rec₀ ws cs (zip i (sharedList s0 s1)) rec ws cs)
+    × (let x = zip n (sharedList (a .s0) (a .s1)) in
+    let y = zip n (sharedList (b .s0) (b .s1)) in
+    let z = zip n (sharedList (c .s0) (c .s1)) in
+    (ws cs : List ℕ)
+    → Ran (times i (λ j. sumPlane (at x j) (at y j) (at z j))) rec₀ ws cs (zip i (sharedList s0 s1)) rec ws cs)
 
 abbrev μ-loop : tie.MeasureT-loop
 μ-loop n a b c rec₀ s0₀ s1₀ i₀ rec s0 s1 i = n - i
 
-loop-holds : tie.Need-loop-holds Inv-loop μ-loop
-loop-holds c = (omega arith, refl, refl, λ ws cs. rw zip-zero (times-start _))
+-- ---- places
+
+-- three planes of each share are read and their sum is entered, share 0's first
+abbrev first : tie.After-enter-xor3-arg3 Inv-loop μ-loop → tie.In-loop Inv-loop μ-loop
+first c = c .before .before .before
+
+abbrev second : tie.After-enter-xor3-arg6 Inv-loop μ-loop → tie.After-enter-xor3 Inv-loop μ-loop
+second c = c .before .before .before
+
+-- ---- facts
 
 loop-again : tie.Need-loop-again Inv-loop μ-loop
 unfolding sumPlane
 loop-again c =
-    let e2 = c .before in
-    let e1 = e2 .before .before .before .before in
-    let t = e1 .before .before .before .before in
-    let l = t .before .loop in
-    let g = t .before .before .args in
-    let a = g .t3 in
-    let b = g .t4 in
-    let d = g .t5 in
-    let h = t .loop-test .taken in (
+    let share1 = c .before in
+    let share0 = second (share1 .before) in
+    let turn = first (share0 .before) in
+    let l = turn .before .loop in
+    let g = turn .before .before .args in
+    let h = turn .loop-test .taken in (
       omega arith,
       simp length-set (omega arith),
       simp length-set (omega arith),
       λ ws cs.
           rw (zip-set (l .s0) (l .s1) (l .i) _ _ (omega arith) (omega arith))
           (times-turn _ (l .i) (l .inv .3 ws cs)
-          (rw (getD-zip (g .n) (sharedList (a .s0) (a .s1)) (l .i) _ h, getD-zip (g .n) (sharedList (b .s0) (b .s1)) (l .i) _ h, getD-zip (g .n) (sharedList (d .s0) (d .s1)) (l .i) _ h)
-          (bind _ (e1 .enter-xor3 .ensures _ _) (bind _ (e2 .enter-xor32 .ensures _ _) over)))),
+          (rw (
+            getD-zip (g .n) (sharedList (g .t3 .s0) (g .t3 .s1)) (l .i) _ h,
+            getD-zip (g .n) (sharedList (g .t4 .s0) (g .t4 .s1)) (l .i) _ h,
+            getD-zip (g .n) (sharedList (g .t5 .s0) (g .t5 .s1)) (l .i) _ h,
+          )
+          (bind _ (share0 .enter-xor3 .ensures _ _) (bind _ (share1 .enter-xor32 .ensures _ _) over)))),
     )
 
 returns : tie.Need-returns Inv-loop μ-loop
-returns c ws cs = let l = c .before .loop in let e : l .i ≡ c .before .before .args .n = omega arith in rw e at (l .inv .3 ws cs)
+returns c ws cs =
+    let head = c .before in
+    let e : head .loop .i ≡ head .before .args .n = omega arith in
+    rw e at (head .loop .inv .3 ws cs)
 
 pub sum-planes-spec : {M : Type 1} → statement M
 sum-planes-spec =
@@ -56,26 +74,26 @@ sum-planes-spec =
     (tie.spec
     Inv-loop
     μ-loop
-    loop-holds
-    (λ c. search needs)  -- mul-enter-xor3
-    (λ c. search needs)  -- element-copy-out-enter-xor3
-    (λ c. search needs)  -- mul-enter-xor3-2
-    (λ c. search needs)  -- element-copy-out-enter-xor3-2
-    (λ c. search needs)  -- mul-enter-xor3-3
-    (λ c. search needs)  -- element-copy-out-enter-xor3-3
-    (λ c κs. search needs)  -- enter-xor3-requires
-    (λ c. search needs)  -- mul-enter-xor3-4
-    (λ c. search needs)  -- element-copy-out-enter-xor3-4
-    (λ c. search needs)  -- mul-enter-xor3-5
-    (λ c. search needs)  -- element-copy-out-enter-xor3-5
-    (λ c. search needs)  -- mul-enter-xor3-6
-    (λ c. search needs)  -- element-copy-out-enter-xor3-6
-    (λ c κs. search needs)  -- enter-xor3-requires-2
-    (λ c. search needs)  -- mul-s0
-    (λ c. search needs)  -- array-write-s0
-    (λ c. search needs)  -- mul-s1
-    (λ c. search needs)  -- array-write-s1
-    (λ c. search needs)  -- add-i
-    (λ c. search needs)  -- loop-less
+    (λ c. (omega arith, refl, refl, λ ws cs. rw zip-zero (times-start _)))
+    (λ c. search needs)
+    (λ c. search needs)
+    (λ c. search needs)
+    (λ c. search needs)
+    (λ c. search needs)
+    (λ c. search needs)
+    (λ c κs. search needs)
+    (λ c. search needs)
+    (λ c. search needs)
+    (λ c. search needs)
+    (λ c. search needs)
+    (λ c. search needs)
+    (λ c. search needs)
+    (λ c κs. search needs)
+    (λ c. search needs)
+    (λ c. search needs)
+    (λ c. search needs)
+    (λ c. search needs)
+    (λ c. search needs)
+    (λ c. search needs)
     loop-again
     returns)

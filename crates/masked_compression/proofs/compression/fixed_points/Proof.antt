@@ -1,3 +1,4 @@
+-- The loop is the definition's own: the first i numbers of v are the values of the first i entries.
 use Prim.Native.Nat.{ℕ, _≤_, _<_, _-_}
 use mathlib.Core.Path.{_≡_, refl}
 use mathlib.Core.List.{List}
@@ -13,6 +14,7 @@ use borrow.Author.Needs.{needs}
 use Rattle.masked_compression.proofs.compression.fixed_points.Statement.{statement}
 use Rattle.masked_compression.proofs.compression.fixed_points.Tie as tie
 
+-- i coefficients entered
 abbrev Inv-loop : tie.InvT-loop
 Inv-loop d h x rec₀ v₀ i₀ rec v i =
     (i ≤ 64) × (length v ≡ 64)
@@ -21,24 +23,34 @@ Inv-loop d h x rec₀ v₀ i₀ rec v i =
 abbrev μ-loop : tie.MeasureT-loop
 μ-loop d h x rec₀ v₀ i₀ rec v i = 64 - i
 
-loop-holds : tie.Need-loop-holds Inv-loop μ-loop
-loop-holds c = (omega arith, refl, λ ws cs. times-start _)
+-- ---- places
+
+abbrev start : tie.At-loop Inv-loop μ-loop → tie.Start Inv-loop μ-loop
+start c = c .before .before
+
+-- the turn's coefficient is read
+abbrev reading : tie.After-shared-slice-known2 Inv-loop μ-loop → tie.At-loop Inv-loop μ-loop
+reading c = c .before .before
+
+-- ---- facts
 
 enter-fixed-point-requires : tie.Need-enter-fixed-point-requires Inv-loop μ-loop
 enter-fixed-point-requires c κs =
-    let l = c .before .before .loop in
-    let p = c .before .before .before .before .pre in
-    (p .0, p .1, p .3 .at (l .i))
+    let head = reading c in
+    let p = start head .pre in
+    (p .0, p .1, p .3 .at (head .loop .i))
 
 loop-again : tie.Need-loop-again Inv-loop μ-loop
 loop-again c =
-    let o = c .before in
-    let t = o .before .before in
-    let l = t .before .loop in
-    let h : l .i < length (l .v) = omega arith in (
+    let entered = c .before in
+    let l = reading (entered .before) .loop in
+    let i = l .i in
+    let h : i < length (l .v) = omega arith in (
       omega arith,
       simp length-set (omega arith),
-      λ ws cs. rw (add-one (l .i), take-suc-set (l .v) (l .i) _ h) (rw (add-one (l .i)) at (times-turn _ (l .i) (l .inv .2 ws cs) (o .enter-fixed-point .ensures ws cs))),
+      λ ws cs.
+          rw (add-one i, take-suc-set (l .v) i _ h)
+          (rw (add-one i) at (times-turn _ i (l .inv .2 ws cs) (entered .enter-fixed-point .ensures ws cs))),
     )
 
 returns : tie.Need-returns Inv-loop μ-loop
@@ -53,13 +65,13 @@ fixed-points-spec =
     (tie.spec
     Inv-loop
     μ-loop
-    loop-holds
-    (λ c. search needs)  -- mul-enter-fixed-point
-    (λ c. search needs)  -- shared-slice-read-enter-fixed-point
+    (λ c. (omega arith, refl, λ ws cs. times-start _))
+    (λ c. search needs)
+    (λ c. search needs)
     enter-fixed-point-requires
-    (λ c. search needs)  -- mul-v
-    (λ c. search needs)  -- array-write-v
-    (λ c. search needs)  -- add-i
-    (λ c. search needs)  -- loop-less
+    (λ c. search needs)
+    (λ c. search needs)
+    (λ c. search needs)
+    (λ c. search needs)
     loop-again
     returns)

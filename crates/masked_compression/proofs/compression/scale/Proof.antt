@@ -1,3 +1,4 @@
+-- 1 moved up by at most 24 places stays inside the word.
 use mathlib.Core.Path.{_∙_}
 use Prim.Native.Nat.{_+_, _^_}
 use native.Mathlib.Nat.{one-mul}

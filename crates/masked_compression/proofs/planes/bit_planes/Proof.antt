@@ -1,3 +1,4 @@
+-- The transposition makes 32 planes, and turn j copies plane j to its place.
 use Prim.Native.Nat.{ℕ, _≤_, _-_}
 use mathlib.Core.Path.{_≡_, refl, ap, _∙_}
 use mathlib.Core.List.{List}
@@ -10,30 +11,39 @@ use Rattle.words.specs.Tab.{getD-tab}
 use Rattle.masked_compression.proofs.planes.bit_planes.Statement.{statement}
 use Rattle.masked_compression.proofs.planes.bit_planes.Tie as tie
 
+-- j planes copied
 abbrev Inv-loop : tie.InvT-loop
 Inv-loop v n w p₀ j₀ p j = (j ≤ n) × Filled 24 (plane 64 (λ i. getD v i 0)) j p
 
 abbrev μ-loop : tie.MeasureT-loop
 μ-loop v n w p₀ j₀ p j = n - j
 
-loop-holds : tie.Need-loop-holds Inv-loop μ-loop
-loop-holds c = (omega arith, filled-start refl)
+-- ---- places
+
+abbrev start : tie.After-transpose Inv-loop μ-loop → tie.Start Inv-loop μ-loop
+start c = c .before .before .before
+
+abbrev transposed : tie.At-loop Inv-loop μ-loop → tie.After-transpose Inv-loop μ-loop
+transposed c = c .before .before
+
+-- ---- facts
 
 loop-again : tie.Need-loop-again Inv-loop μ-loop
 loop-again c =
-    let l = c .before .loop in
-    let t = c .before .before .before in
-    let v : ℕ → ℕ = λ i. getD (t .before .before .before .args .v .now) i 0 in (
+    let head = c .before in
+    let l = head .loop in
+    let t = transposed head in
+    let v : ℕ → ℕ = λ i. getD (start t .args .v .now) i 0 in
+    let planes = ap (λ (x : List ℕ). getD x (l .j) 0) (t .transpose .ensures) in (
       omega arith,
-      filled-turn (l .inv .1) (omega arith)
-          (ap (λ (x : List ℕ). getD x (l .j) 0) (t .transpose .ensures) ∙ getD-tab 32 (plane 64 v) (l .j) 0 (omega arith)),
+      filled-turn (l .inv .1) (omega arith) (planes ∙ getD-tab 32 (plane 64 v) (l .j) 0 (omega arith)),
     )
 
 returns : tie.Need-returns Inv-loop μ-loop
 returns c =
-    let l = c .before .loop in
-    let e : l .j ≡ c .before .before .before .before .before .before .args .n = omega arith in
-    rw e at (l .inv .1)
+    let head = c .before in
+    let e : head .loop .j ≡ start (transposed head) .args .n = omega arith in
+    rw e at (head .loop .inv .1)
 
 pub bit-planes-spec : {M : Type 1} → statement M
 bit-planes-spec =
@@ -41,14 +51,14 @@ bit-planes-spec =
     (tie.spec
     Inv-loop
     μ-loop
-    (λ c. search needs)  -- slice-aggregate-transpose
-    (λ c κs. search needs)  -- transpose-requires
-    loop-holds
-    (λ c. search needs)  -- mul-p
-    (λ c. search needs)  -- array-read-p
-    (λ c. search needs)  -- mul-p-2
-    (λ c. search needs)  -- array-write-p
-    (λ c. search needs)  -- add-j
-    (λ c. search needs)  -- loop-less
+    (λ c. search needs)
+    (λ c κs. search needs)
+    (λ c. (omega arith, filled-start refl))
+    (λ c. search needs)
+    (λ c. search needs)
+    (λ c. search needs)
+    (λ c. search needs)
+    (λ c. search needs)
+    (λ c. search needs)
     loop-again
     returns)

@@ -1,3 +1,4 @@
+-- The definition's words are the code's own expressions, once its xor and And are the machine's.
 use mathlib.Core.Path.{refl}
 use borrow.Author.Needs.{needs}
 use Rattle.words.specs.Word.{xor, and}

@@ -1,3 +1,4 @@
+-- Turn i fills row i with the definition's word, in which And with 32 ones is the remainder by 2^32.
 use Prim.Native.Nat.{ℕ, _≤_, _-_, _*_, _%_, _^_, _+_}
 use mathlib.Core.Path.{ap}
 use native.Mathlib.Omega.{arith}
@@ -10,27 +11,27 @@ use Rattle.masked_compression.specs.Transposition.{packed}
 use Rattle.masked_compression.proofs.planes.pack.Statement.{statement}
 use Rattle.masked_compression.proofs.planes.pack.Tie as tie
 
+-- i rows filled
 abbrev Inv-loop : tie.InvT-loop
 Inv-loop v w₀ i₀ w i = (i ≤ 32) × Filled 32 (packed (λ k. getD v k 0)) i w
 
 abbrev μ-loop : tie.MeasureT-loop
 μ-loop v w₀ i₀ w i = 32 - i
 
-loop-holds : tie.Need-loop-holds Inv-loop μ-loop
-loop-holds c = (omega arith, filled-start (omega arith))
+-- the turn's two numbers are read
+abbrev reading : tie.After-shared-slice-known2 Inv-loop μ-loop → tie.At-loop Inv-loop μ-loop
+reading c = c .before .before .before
 
 loop-again : tie.Need-loop-again Inv-loop μ-loop
 unfolding packed xor low
 loop-again c =
-    let l = c .before .before .before .loop in
-    let v = c .before .before .before .before .args .v .now in (
+    let head = reading c in
+    let l = head .loop in
+    let v = head .before .args .v .now in (
       omega arith,
       filled-turn (l .inv .1) (omega arith)
           (ap (λ (z : ℕ). bitXor z (getD v (l .i + 32) 0 * 2 ^ 32 % 2 ^ 64)) (and-mask (getD v (l .i) 0) 32)),
     )
-
-returns : tie.Need-returns Inv-loop μ-loop
-returns c = filled-end (c .before .loop .inv .1) (omega arith)
 
 pub pack-spec : {M : Type 1} → statement M
 pack-spec =
@@ -38,7 +39,7 @@ pack-spec =
     (tie.spec
     Inv-loop
     μ-loop
-    loop-holds
+    (λ c. (omega arith, filled-start (omega arith)))
     (λ c. search needs)
     (λ c. search needs)
     (λ c. search needs)
@@ -50,4 +51,4 @@ pack-spec =
     (λ c. search needs)
     loop-again
     (λ c. search needs)
-    returns)
+    (λ c. filled-end (c .before .loop .inv .1) (omega arith)))

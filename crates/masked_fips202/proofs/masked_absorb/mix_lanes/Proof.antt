@@ -1,3 +1,4 @@
+-- Lane j of both shares takes lane j of the block by one recorded xor; lanes past the block stay as they are.
 use Prim.Native.Nat.{_-_, _/_}
 use mathlib.Core.Path.{ap₂}
 use borrow.Author.Needs.{needs}
@@ -11,29 +12,35 @@ use Rattle.masked_fips202.proofs.MaskedLanes.{Mixing, mixing-start, mix
 use Rattle.masked_fips202.proofs.masked_absorb.mix_lanes.Statement.{statement}
 use Rattle.masked_fips202.proofs.masked_absorb.mix_lanes.Tie as tie
 
+-- j lanes are mixed
 abbrev Inv-loop : tie.InvT-loop
 Inv-loop p q rate rec₀ s0₀ s1₀ j₀ rec s0 s1 j =
-    Mixing (rate / 8) (sharedLane (take rate p) (take rate q)) (sharedList (s0₀ .lanes) (s1₀ .lanes)) j rec₀ rec (s0 .lanes) (s1 .lanes)
+    Mixing (rate / 8) (sharedLane (take rate p) (take rate q)) (sharedList (s0₀ .lanes) (s1₀ .lanes)) j rec₀ rec
+    (s0 .lanes) (s1 .lanes)
 
 abbrev μ-loop : tie.MeasureT-loop
 μ-loop p q rate rec₀ s0₀ s1₀ j₀ rec s0 s1 j = rate / 8 - j
 
-loop-holds : tie.Need-loop-holds Inv-loop μ-loop
-loop-holds c = mixing-start (omega arith) (search needs) (search needs)
+-- ---- places: the start, and the loop's head from where both lanes of the block are read
+
+abbrev start : tie.At-loop Inv-loop μ-loop → tie.Start Inv-loop μ-loop
+start c = c .before .before .before
+
+abbrev reading : tie.After-load Inv-loop μ-loop → tie.After-t20 Inv-loop μ-loop
+reading c = c .before .before .before
 
 loop-again : tie.Need-loop-again Inv-loop μ-loop
 loop-again c =
-    let l = c .before .before .before .before .before .before .before .before .before in
-    let a = l .before .before .before .args in
-    let j = l .loop .j in
-    mixing-turn (l .loop .inv) (search needs)
+    let read1 = c .before .before in
+    let read0 = read1 .before .before in
+    let head = reading read0 .before .before in
+    let a = start head .args in
+    let j = head .loop .j in
+    mixing-turn (head .loop .inv) (search needs)
     (ap₂ shares
-    (lane-part (a .rate) (a .p .now) j (search needs) (c .before .before .before .before .load .ensures))
-    (lane-part (a .rate) (a .q .now) j (search needs) (c .before .before .load2 .ensures)))
+    (lane-part (a .rate) (a .p .now) j (search needs) (read0 .load .ensures))
+    (lane-part (a .rate) (a .q .now) j (search needs) (read1 .load2 .ensures)))
     (c .before .masked-xor .ensures)
-
-returns : tie.Need-returns Inv-loop μ-loop
-returns c = mixing-end (c .before .loop .inv) (search needs)
 
 pub mix-lanes-spec : {M : Type 1} → statement M
 mix-lanes-spec =
@@ -41,7 +48,7 @@ mix-lanes-spec =
     (tie.spec
     Inv-loop
     μ-loop
-    loop-holds
+    (λ c. mixing-start (omega arith) (search needs) (search needs))
     (λ c. search needs)
     (λ c. search needs)
     (λ c. search needs)
@@ -64,4 +71,4 @@ mix-lanes-spec =
     (λ c. search needs)
     (λ c. search needs)
     loop-again
-    returns)
+    (λ c. mixing-end (c .before .loop .inv) (search needs)))

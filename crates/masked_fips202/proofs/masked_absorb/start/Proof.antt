@@ -1,3 +1,4 @@
+-- Lane i is mask i of the strip, and one state serves as both shares, since both take the same masks.
 use Prim.Native.Nat.{_-_}
 use mathlib.Core.Path.{refl}
 use borrow.Author.Needs.{needs}
@@ -7,20 +8,12 @@ use Rattle.masked_fips202.proofs.MaskedLanes.{start-draws}
 use Rattle.masked_fips202.proofs.masked_absorb.start.Statement.{statement}
 use Rattle.masked_fips202.proofs.masked_absorb.start.Tie as tie
 
+-- i lanes are set
 abbrev Inv-loop : tie.InvT-loop
 Inv-loop ws s₀ i₀ s i = Filled 25 (λ k. getD ws k 0) i (s .lanes)
 
 abbrev μ-loop : tie.MeasureT-loop
 μ-loop ws s₀ i₀ s i = 25 - i
-
-loop-holds : tie.Need-loop-holds Inv-loop μ-loop
-loop-holds c = filled-start (search needs)
-
-loop-again : tie.Need-loop-again Inv-loop μ-loop
-loop-again c = filled-turn (c .before .before .loop .inv) (search needs) refl
-
-returns : tie.Need-returns Inv-loop μ-loop
-returns c = start-draws (filled-end (c .before .loop .inv) (search needs))
 
 pub start-spec : {M : Type 1} → statement M
 start-spec =
@@ -28,12 +21,12 @@ start-spec =
     (tie.spec
     Inv-loop
     μ-loop
-    loop-holds
+    (λ c. filled-start (search needs))
     (λ c. search needs)
     (λ c. search needs)
     (λ c. search needs)
     (λ c. search needs)
     (λ c. search needs)
     (λ c. search needs)
-    loop-again
-    returns)
+    (λ c. filled-turn (c .before .before .loop .inv) (search needs) refl)
+    (λ c. start-draws (filled-end (c .before .loop .inv) (search needs))))

@@ -1,3 +1,4 @@
+-- Turn i takes in block i of both shares with 600 masks, as the program's loop does.
 use Prim.Native.Nat.{ℕ, _+_, _-_, _*_, _/_, _≤_}
 use mathlib.Core.Path.{_≡_}
 use mathlib.Core.List.{List}
@@ -17,56 +18,77 @@ use Rattle.masked_fips202.proofs.MaskedBlocks.{block-within}
 use Rattle.masked_fips202.proofs.masked_absorb.whole_blocks.Statement.{statement}
 use Rattle.masked_fips202.proofs.masked_absorb.whole_blocks.Tie as tie
 
+-- i blocks are taken in
 abbrev Inv-loop : tie.InvT-loop
 Inv-loop in0 in1 rate ws rec₀ s0₀ s1₀ n i₀ rec s0 s1 i =
     (i ≤ length in0 / rate) × (i * rate ≤ length in0)
     × ((cs : List ℕ)
-    → Ran (loop i (λ i. takeIn (rate / 8) (sharedBlock rate in0 in1 i)) (sharedList (s0₀ .lanes) (s1₀ .lanes))) rec₀ ws cs
+    → Ran (loop i (λ i. takeIn (rate / 8) (sharedBlock rate in0 in1 i))
+    (sharedList (s0₀ .lanes) (s1₀ .lanes))) rec₀ ws cs
     (sharedList (s0 .lanes) (s1 .lanes)) rec (drop (600 * i) ws) cs)
 
 abbrev μ-loop : tie.MeasureT-loop
 μ-loop in0 in1 rate ws rec₀ s0₀ s1₀ n i₀ rec s0 s1 i = length in0 / rate - i
 
-loop-holds : tie.Need-loop-holds Inv-loop μ-loop
-loop-holds c = (omega arith, omega (arith, zero-mul (c .before .before .before .args .rate)), λ cs. loop-start _ _)
+-- ---- places: the start, and the loop's test from where a block is taken in and from the turn's end
+
+abbrev lent : tie.At-loop Inv-loop μ-loop → tie.After-shared-slice-known2 Inv-loop μ-loop
+lent c = c .before .before
+
+abbrev start : tie.At-loop Inv-loop μ-loop → tie.Start Inv-loop μ-loop
+start c = lent c .before .before
+
+abbrev taking : tie.After-take-in-arg3 Inv-loop μ-loop → tie.In-loop Inv-loop μ-loop
+taking c = c .before .before .before
+
+abbrev taken : tie.After-rec Inv-loop μ-loop → tie.After-take-in Inv-loop μ-loop
+taken c = c .before .before .before
+
+-- ---- facts
+
+-- block i lies within the input
+within : (c : tie.In-loop Inv-loop μ-loop)
+    → (let a = start (c .before) .args in c .before .loop .i * a .rate + a .rate ≤ length (a .in0 .now))
+within c = block-within _ _ _ (search needs)
 
 take-in-requires : tie.Need-take-in-requires Inv-loop μ-loop
 take-in-requires c κs =
-    let l = c .before .before .before .before in
-    let a = l .before .before .before .before .args in
-    let w = block-within (a .rate) (length (a .in0 .now)) (l .loop .i) (search needs) in (
-      search needs,
-      search needs,
-      simp (length-take, length-drop) (omega arith),
-      simp (length-take, length-drop) (omega arith),
-      simp (length-take, length-drop) (omega arith),
-    )
+    let w = within (taking c) in
+    record {
+      fits = search needs;
+      whole = search needs;
+      block0 = simp (length-take, length-drop) (omega arith);
+      block1 = simp (length-take, length-drop) (omega arith);
+      masks = simp (length-take, length-drop) (omega arith);
+    }
 
 add-i : tie.Need-add-i Inv-loop μ-loop
 add-i c =
-    let l = c .before .before .before .before .before .before .before .before in
-    let start = l .before .before .before .before in
-    omega (arith, start .good .1 .1 .1 .0 .0, div-le-self (length (start .args .in0 .now)) (start .args .rate), c .before .before .before .before .before .before .before .loop-test .taken)
+    let test = taking (taken c .before) in
+    let s = start (test .before) in
+    let few = div-le-self (length (s .args .in0 .now)) (s .args .rate) in
+    omega (arith, s .good .1 .1 .1 .0 .0, test .loop-test .taken)
 
 loop-again : tie.Need-loop-again Inv-loop μ-loop
 loop-again c =
-    let c3 = c .before .before .before in
-    let l = c3 .before .before .before .before .before in
-    let a = l .before .before .before .before .args in
-    let i = l .loop .i in
-    let w = block-within (a .rate) (length (a .in0 .now)) i (search needs) in
+    let test = taking (taken c .before) in
+    let head = test .before in
+    let a = start head .args in
+    let i = head .loop .i in
     let e : 600 * i + 600 ≡ 600 * (i + 1) = omega arith in (
       omega arith,
-      rw (add-one i, suc-mul i (a .rate)) w,
+      rw (add-one i, suc-mul i (a .rate)) (within test),
       λ cs.
-          loop-turn _ _ i (l .loop .inv .2 cs)
-          (rw (part-rest (i * a .rate) (a .in0 .now), part-rest (i * a .rate) (a .in1 .now), e) at (part-words (a .ws .now) (600 * i) 600 (c3 .take-in .ensures cs))),
+          loop-turn _ _ i (head .loop .inv .2 cs)
+          (rw (part-rest (i * a .rate) (a .in0 .now), part-rest (i * a .rate) (a .in1 .now), e)
+          at (part-words (a .ws .now) (600 * i) 600 (taken c .take-in .ensures cs))),
     )
 
 returns : tie.Need-returns Inv-loop μ-loop
 returns c cs =
-    let e : c .before .loop .i ≡ length (c .before .before .before .before .before .args .in0 .now) / c .before .before .before .before .before .args .rate = omega arith in
-    rw e at (c .before .loop .inv .2 cs)
+    let head = c .before in
+    let e : head .loop .i ≡ length (start head .args .in0 .now) / start head .args .rate = omega arith in
+    rw e at (head .loop .inv .2 cs)
 
 pub whole-blocks-spec : {M : Type 1} → statement M
 whole-blocks-spec =
@@ -75,7 +97,7 @@ whole-blocks-spec =
     Inv-loop
     μ-loop
     (λ c. search needs)
-    loop-holds
+    (λ c. (omega arith, omega (arith, zero-mul (c .before .before .before .args .rate)), λ cs. loop-start _ _))
     (λ c. search needs)
     (λ c. search needs)
     (λ c. search needs)

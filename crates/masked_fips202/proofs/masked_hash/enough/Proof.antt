@@ -1,21 +1,25 @@
-use Prim.Native.Nat.{_+_, _*_}
-use mathlib.Core.Path.{sym}
+-- 25 and 600 for each permutation: tested by quotient and remainder, since the product could wrap.
+use Prim.Native.Nat.{ℕ, _+_, _*_}
+use mathlib.Core.Path.{_≡_, sym}
+use mathlib.Core.Bool.{true, false}
 use borrow.Author.Tests.{eq-eqb, ne-eqb}
 use native.Mathlib.Omega.{arith}
+use lib.Dec.{eqb}
 use Rattle.masked_fips202.proofs.masked_hash.enough.Statement.{statement}
 use Rattle.masked_fips202.proofs.masked_hash.enough.Tie as tie
 
-returns : tie.Need-returns
-returns c = let a = c .before .args in sym (ne-eqb (a .n) (25 + 600 * a .permutations) (λ e. omega arith))
+-- the test's outcome
+fewer : (n k : ℕ) → (n ≡ 25 + 600 * k → ⊥) → false ≡ eqb n (25 + 600 * k)
+fewer n k h = sym (ne-eqb n (25 + 600 * k) h)
 
-returns-2 : tie.Need-returns-2
-returns-2 c = let a = c .before .before .args in sym (ne-eqb (a .n) (25 + 600 * a .permutations) (λ e. c .if2 .taken (omega arith)))
-
-returns-3 : tie.Need-returns-3
-returns-3 c = let a = c .before .before .before .args in sym (ne-eqb (a .n) (25 + 600 * a .permutations) (λ e. c .if3 .taken (omega arith)))
-
-returns-4 : tie.Need-returns-4
-returns-4 c = let a = c .before .before .before .args in sym (eq-eqb (a .n) (25 + 600 * a .permutations) (omega arith))
+just : (n k : ℕ) → n ≡ 25 + 600 * k → true ≡ eqb n (25 + 600 * k)
+just n k h = sym (eq-eqb n (25 + 600 * k) h)
 
 pub enough-spec : {M : Type 1} → statement M
-enough-spec = tie.close (tie.spec returns returns-2 returns-3 returns-4)
+enough-spec =
+    tie.close
+    (tie.spec
+    (λ c. let a = c .before .args in fewer (a .n) (a .permutations) (λ e. omega arith))
+    (λ c. let a = c .before .before .args in fewer (a .n) (a .permutations) (λ e. c .if2 .taken (omega arith)))
+    (λ c. let a = c .before .before .before .args in fewer (a .n) (a .permutations) (λ e. c .if3 .taken (omega arith)))
+    (λ c. let a = c .before .before .before .args in just (a .n) (a .permutations) (omega arith)))

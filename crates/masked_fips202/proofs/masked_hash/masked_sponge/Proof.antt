@@ -1,23 +1,36 @@
+-- Absorbing draws the first masks of the strip and squeezing those behind them, as the program does.
 use Prim.Native.Nat.{_+_, _*_, _/_}
-use mathlib.Core.Path.{ap}
 use mathlib.Core.List.{[]}
 use borrow.Author.Needs.{needs}
 use lib.ListN.{length}
 use Rattle.words.specs.Part.{part-rest}
-use Rattle.worksheet.specs.SharedList.{SharedList}
 use Rattle.masked_fips202.proofs.MaskedHash.{hash-value}
 use Rattle.masked_fips202.proofs.masked_hash.masked_sponge.Statement.{statement}
 use Rattle.masked_fips202.proofs.masked_hash.masked_sponge.Tie as tie
 
+-- ---- places, each by the one before
+
+abbrev lent : tie.After-masked-absorb → tie.After-shared-slice-known3
+lent c = c .before .before .before
+
+abbrev start : tie.After-masked-absorb → tie.Start
+start c = lent c .before .before .before
+
+abbrev squeezing : tie.After-masked-squeeze → tie.After-masked-squeeze-arg
+squeezing c = c .before .before .before
+
+abbrev given : tie.After-slice-known4 → tie.After-out0
+given c = c .before .before .before
+
 returns : tie.Need-returns
 returns c =
-    let c4 = c .before .before .before .before in
-    let c8 = c4 .before .before .before .before in
-    let a = c8 .before .before .before .before .before .before .args in
+    let squeezed = given c .before in
+    let absorbed = squeezing squeezed .before in
+    let a = start absorbed .args in
     let k = 25 + 600 * (length (a .in0 .now) / a .rate + 1) in
-    let e = hash-value (a .rate) (a .suffix) (a .in0 .now) (a .in1 .now) (length (a .out0 .now))
-    (c8 .masked-absorb .ensures []) (rw (part-rest k (a .masks .now)) at (c4 .masked-squeeze .ensures [])) in
-    (ap (λ (z : SharedList). z .s0) e, ap (λ (z : SharedList). z .s1) e)
+    hash-value (a .rate) (a .suffix) (a .in0 .now) (a .in1 .now) (length (a .out0 .now))
+    (absorbed .masked-absorb .ensures [])
+    (rw (part-rest k (a .masks .now)) at (squeezed .masked-squeeze .ensures []))
 
 pub masked-sponge-spec : {M : Type 1} → statement M
 masked-sponge-spec =

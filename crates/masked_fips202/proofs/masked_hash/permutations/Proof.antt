@@ -1,3 +1,4 @@
+-- There are at most n / 8 whole blocks of n bytes, so that the sum of the three counts fits.
 use Prim.Native.Nat.{_-_}
 use borrow.Author.Needs.{needs}
 use native.Mathlib.Omega.{arith}
@@ -11,7 +12,16 @@ add-result c = omega (arith, blocks-le (c .args .rate) (c .args .n) (c .pre), c 
 add-result-2 : tie.Need-add-result-2
 add-result-2 c =
     let start = c .before in
-    omega (arith, blocks-le (start .args .rate) (start .args .n) (start .pre), start .fits .n .fits, c .further .ensures, blocks-le (start .args .rate) (start .args .d - 1) (start .pre), start .fits .d .fits)
+    let a = start .args in
+    omega (
+      arith,
+      blocks-le (a .rate) (a .n) (start .pre),
+      start .fits .n .fits,
+      c .further .ensures,
+      blocks-le (a .rate) (a .d - 1) (start .pre),
+      start .fits .d .fits,
+    )
 
 pub permutations-spec : {M : Type 1} → statement M
-permutations-spec = tie.close (tie.spec (λ c. search needs) add-result (λ c κs. search needs) add-result-2 (λ c. search needs))
+permutations-spec =
+    tie.close (tie.spec (λ c. search needs) add-result (λ c κs. search needs) add-result-2 (λ c. search needs))

@@ -1,11 +1,15 @@
+-- For no bytes the natural difference n - 1 is 0, which the code says by a branch.
 use mathlib.Core.Path.{sym}
 use borrow.Author.Needs.{needs}
 use native.Mathlib.Nat.{zero-div}
 use Rattle.masked_fips202.proofs.masked_squeeze.further.Statement.{statement}
 use Rattle.masked_fips202.proofs.masked_squeeze.further.Tie as tie
 
-returns : tie.Need-returns
-returns c = rw (c .if1 .taken) (sym (zero-div (c .before .args .rate)))
-
 pub further-spec : {M : Type 1} → statement M
-further-spec = tie.close (tie.spec returns (λ c. search needs) (λ c. search needs) (λ c. search needs))
+further-spec =
+    tie.close
+    (tie.spec
+    (λ c. rw (c .if1 .taken) (sym (zero-div (c .before .args .rate))))
+    (λ c. search needs)
+    (λ c. search needs)
+    (λ c. search needs))

@@ -1,15 +1,18 @@
-use Prim.Native.Nat.{_-_, _*_, _/_}
+-- Each turn gives out a block of both shares and permutes; what is left behind the last permutation is one block at
+-- most, so that the outputs hold the bytes of the states that the program goes through.
+use Prim.Native.Nat.{_+_, _-_, _*_, _/_, _≤_}
 use mathlib.Core.Path.{_≡_, refl, sym, _∙_}
 use borrow.Author.Needs.{needs}
 use native.Mathlib.Omega.{arith}
 use lib.ListN.{length, length-take, length-drop}
 use Rattle.worksheet.specs.Ran.{part-words}
-use Rattle.masked_keccak.specs.Rows.{sharedState}
+use Rattle.masked_keccak.specs.SharedRows.{sharedState}
 use Rattle.masked_fips202.proofs.MaskedBlocks.{block-within, rest-within}
 use Rattle.masked_fips202.proofs.MaskedOutput.{Squeezing, squeezing-start, squeezing-turn, squeezing-end}
 use Rattle.masked_fips202.proofs.masked_squeeze.masked_squeeze.Statement.{statement}
 use Rattle.masked_fips202.proofs.masked_squeeze.masked_squeeze.Tie as tie
 
+-- i blocks are given out, of m and a last one
 abbrev Inv-loop : tie.InvT-loop
 Inv-loop rate ws out0₀ out1₀ m rec₀ s0₀ s1₀ i₀ out0 out1 rec s0 s1 i =
     Squeezing rate (length out0₀) (sharedState s0₀ s1₀) rec₀ ws i (sharedState s0 s1) rec out0 out1
@@ -17,124 +20,95 @@ Inv-loop rate ws out0₀ out1₀ m rec₀ s0₀ s1₀ i₀ out0 out1 rec s0 s1 i
 abbrev μ-loop : tie.MeasureT-loop
 μ-loop rate ws out0₀ out1₀ m rec₀ s0₀ s1₀ i₀ out0 out1 rec s0 s1 i = m - i
 
-loop-holds : tie.Need-loop-holds Inv-loop μ-loop
-loop-holds c = squeezing-start refl (sym (c .before .before .before .before .pre .0))
+-- ---- places: the start, from where the blocks are counted
 
-add-e : tie.Need-add-e Inv-loop μ-loop
-add-e c =
-    let l = c .before in
-    let a = l .before .before .before .before .before .args in
-    let w = block-within (a .rate) (length (a .out0 .now) - 1) (l .loop .i) (search needs) in
-    omega (arith, l .before .before .before .before .before .good .1 .1 .1 .1 .1 .0 .0)
+abbrev lent : tie.After-further Inv-loop μ-loop → tie.After-slice-known Inv-loop μ-loop
+lent c = c .before .before
 
-part-extract-end : tie.Need-part-extract-end Inv-loop μ-loop
-part-extract-end c =
-    let l = c .before in
-    let a = l .before .before .before .before .before .args in
-    let w = block-within (a .rate) (length (a .out0 .now) - 1) (l .loop .i) (search needs) in
-    search needs
+abbrev start : tie.After-further Inv-loop μ-loop → tie.Start Inv-loop μ-loop
+start c = lent c .before .before
 
-extract-requires : tie.Need-extract-requires Inv-loop μ-loop
-extract-requires c κs =
-    let l = c .before .before in
-    let a = l .before .before .before .before .before .args in
-    let w = block-within (a .rate) (length (a .out0 .now) - 1) (l .loop .i) (search needs) in
-    simp (length-take, length-drop) (omega arith)
+-- in the loop: before share 0's block, before share 1's, before the permutation, at the end
 
-part-extract-end-2 : tie.Need-part-extract-end-2 Inv-loop μ-loop
-part-extract-end-2 c =
-    let l = c .before .before .before .before .before in
-    let a = l .before .before .before .before .before .args in
-    let w = block-within (a .rate) (length (a .out0 .now) - 1) (l .loop .i) (search needs) in
-    search needs
+abbrev first : tie.After-slice-known3 Inv-loop μ-loop → tie.After-extract Inv-loop μ-loop
+first c = c .before .before
 
-extract-requires-2 : tie.Need-extract-requires-2 Inv-loop μ-loop
-extract-requires-2 c κs =
-    let l = c .before .before .before .before .before .before in
-    let a = l .before .before .before .before .before .args in
-    let w = block-within (a .rate) (length (a .out0 .now) - 1) (l .loop .i) (search needs) in
-    simp (length-take, length-drop) (omega arith)
+abbrev giving0 : tie.After-slice-known3 Inv-loop μ-loop → tie.In-loop Inv-loop μ-loop
+giving0 c = first c .before .before
 
-permute-requires : tie.Need-permute-requires Inv-loop μ-loop
-permute-requires c κs =
-    let l = c .before .before .before .before .before .before .before .before .before .before in
-    let a = l .before .before .before .before .before .args in
-    let w = block-within (a .rate) (length (a .out0 .now) - 1) (l .loop .i) (search needs) in
-    simp (length-take, length-drop) (omega arith)
+abbrev second : tie.After-slice-known4 Inv-loop μ-loop → tie.After-extract2 Inv-loop μ-loop
+second c = c .before .before
+
+abbrev giving1 : tie.After-slice-known4 Inv-loop μ-loop → tie.After-slice-known3 Inv-loop μ-loop
+giving1 c = second c .before .before
+
+abbrev permuted : tie.After-rec Inv-loop μ-loop → tie.After-permute Inv-loop μ-loop
+permuted c = c .before .before .before
+
+-- behind it: before the rest of share 1
+
+abbrev third : tie.After-slice-known5 Inv-loop μ-loop → tie.After-extract3 Inv-loop μ-loop
+third c = c .before .before
+
+abbrev resting0 : tie.After-slice-known5 Inv-loop μ-loop → tie.After-loop Inv-loop μ-loop
+resting0 c = third c .before .before
+
+-- ---- facts
+
+-- a whole block lies within the output
+within : (c : tie.In-loop Inv-loop μ-loop)
+    → (let a = start (c .before .before) .args in c .before .loop .i * a .rate + a .rate ≤ length (a .out0 .now) - 1)
+within c = block-within _ _ _ (search needs)
+
+-- behind the whole blocks there is one at most
+rest : (c : tie.After-loop Inv-loop μ-loop)
+    → (let a = start (c .before .before) .args in
+    let m = c .before .before .further .result in
+    (m * a .rate ≤ length (a .out0 .now)) × (length (a .out0 .now) ≤ m * a .rate + a .rate))
+rest c =
+    let counted = c .before .before in
+    rest-within _ _ _ (start counted .pre .positive) (counted .further .ensures)
+
+-- it is no longer than a block
+rest0-fits : tie.Need-extract-requires-3 Inv-loop μ-loop
+rest0-fits c κs =
+    let w = rest (c .before) in
+    let head = c .before .before in
+    simp (length-take, length-drop) (omega (arith, head .loop .inv .long0, start (head .before) .pre .fits))
+
+rest1-fits : tie.Need-extract-requires-4 Inv-loop μ-loop
+rest1-fits c κs =
+    let w = rest (resting0 (c .before)) in
+    let head = resting0 (c .before) .before in
+    simp (length-take, length-drop) (omega (arith, head .loop .inv .long1, start (head .before) .pre .fits))
 
 loop-again : tie.Need-loop-again Inv-loop μ-loop
 loop-again c =
-    let c3 = c .before .before .before in
-    let c7 = c3 .before .before .before .before in
-    let c11 = c7 .before .before .before .before in
-    let l = c11 .before .before .before in
-    let ws = l .before .before .before .before .before .args .ws .now in
-    let m = l .before .further .ensures in
-    squeezing-turn (l .loop .inv) (omega arith) (c11 .extract .ensures) (c7 .extract2 .ensures)
-    (λ cs. part-words ws (600 * l .loop .i) 600 (c3 .permute .ensures cs))
-
-mul-a-2 : tie.Need-mul-a-2 Inv-loop μ-loop
-mul-a-2 c =
-    let l = c .before in
-    let start = l .before .before .before .before .before in
-    let w = rest-within (start .args .rate) (length (start .args .out0 .now)) (l .before .further .result) (start .pre .1) (l .before .further .ensures) in
-    omega (arith, start .good .1 .1 .1 .1 .1 .0 .0)
-
-sub-extract-3 : tie.Need-sub-extract-3 Inv-loop μ-loop
-sub-extract-3 c =
-    let l = c .before in
-    let start = l .before .before .before .before .before in
-    let w = rest-within (start .args .rate) (length (start .args .out0 .now)) (l .before .further .result) (start .pre .1) (l .before .further .ensures) in
-    omega (arith, l .loop .inv .long0)
-
-part-extract-start-3 : tie.Need-part-extract-start-3 Inv-loop μ-loop
-part-extract-start-3 c =
-    let l = c .before in
-    let start = l .before .before .before .before .before in
-    let w = rest-within (start .args .rate) (length (start .args .out0 .now)) (l .before .further .result) (start .pre .1) (l .before .further .ensures) in
-    let e = l .loop .inv .long0 in
-    search needs
-
-extract-requires-3 : tie.Need-extract-requires-3 Inv-loop μ-loop
-extract-requires-3 c κs =
-    let l = c .before .before in
-    let start = l .before .before .before .before .before in
-    let w = rest-within (start .args .rate) (length (start .args .out0 .now)) (l .before .further .result) (start .pre .1) (l .before .further .ensures) in
-    simp (length-take, length-drop) (omega (arith, l .loop .inv .long0, start .pre .2))
-
-sub-extract-4 : tie.Need-sub-extract-4 Inv-loop μ-loop
-sub-extract-4 c =
-    let l = c .before .before .before .before .before in
-    let start = l .before .before .before .before .before in
-    let w = rest-within (start .args .rate) (length (start .args .out0 .now)) (l .before .further .result) (start .pre .1) (l .before .further .ensures) in
-    omega (arith, l .loop .inv .long1)
-
-part-extract-start-4 : tie.Need-part-extract-start-4 Inv-loop μ-loop
-part-extract-start-4 c =
-    let l = c .before .before .before .before .before in
-    let start = l .before .before .before .before .before in
-    let w = rest-within (start .args .rate) (length (start .args .out0 .now)) (l .before .further .result) (start .pre .1) (l .before .further .ensures) in
-    let e = l .loop .inv .long1 in
-    search needs
-
-extract-requires-4 : tie.Need-extract-requires-4 Inv-loop μ-loop
-extract-requires-4 c κs =
-    let l = c .before .before .before .before .before .before in
-    let start = l .before .before .before .before .before in
-    let w = rest-within (start .args .rate) (length (start .args .out0 .now)) (l .before .further .result) (start .pre .1) (l .before .further .ensures) in
-    simp (length-take, length-drop) (omega (arith, l .loop .inv .long1, start .pre .2))
+    let p = permuted c in
+    let gave1 = p .before .before in
+    let gave0 = giving1 gave1 in
+    let head = giving0 gave0 .before in
+    let ws = start (head .before) .args .ws .now in
+    let m = head .before .further .ensures in
+    squeezing-turn (head .loop .inv) (omega arith) (first gave0 .extract .ensures) (second gave1 .extract2 .ensures)
+    (λ cs. part-words ws (600 * head .loop .i) 600 (p .permute .ensures cs))
 
 returns : tie.Need-returns Inv-loop μ-loop
 returns c cs =
-    let l = c .before .before .before .before .before .before .before .before .before in
-    let start = l .before .before .before .before .before in
-    let a = start .args in
-    let i = l .loop .i in
-    let v = l .loop .inv in
-    let q : (length (a .out0 .now) - 1) / a .rate ≡ i = omega (arith, l .before .further .ensures, v .within, c .before .before .before .before .before .before .before .before .loop-test .left) in
-    let m : l .before .further .result ≡ i = l .before .further .ensures ∙ q in
+    let gave1 = c .before .before in
+    let between = gave1 .before .before in
+    let gave0 = between .before .before in
+    let rested = gave0 .before .before in
+    let head = rested .before in
+    let s = start (head .before) in
+    let i = head .loop .i in
+    let v = head .loop .inv in
+    let q : (length (s .args .out0 .now) - 1) / s .args .rate ≡ i =
+    omega (arith, head .before .further .ensures, v .within, rested .loop-test .left) in
+    let m : head .before .further .result ≡ i = head .before .further .ensures ∙ q in
     rw (m, v .long0, v .long1, q)
-    (squeezing-end v (start .pre .1) (start .pre .3) (sym q) (rw (m, v .long0) at (c .before .before .before .before .before .before .extract3 .ensures)) (rw (m, v .long1) at (c .before .before .extract4 .ensures)) cs)
+    (squeezing-end v (s .pre .positive) (s .pre .whole) (sym q) (rw (m, v .long0) at (gave0 .extract3 .ensures))
+    (rw (m, v .long1) at (gave1 .extract4 .ensures)) cs)
 
 pub masked-squeeze-spec : {M : Type 1} → statement M
 masked-squeeze-spec =
@@ -143,35 +117,35 @@ masked-squeeze-spec =
     Inv-loop
     μ-loop
     (λ c κs. search needs)
-    loop-holds
+    (λ c. squeezing-start refl (sym (start c .pre .long)))
     (λ c. search needs)
-    add-e
-    (λ c. search needs)
-    (λ c. search needs)
-    (λ c. search needs)
-    part-extract-end
-    extract-requires
-    (λ c. search needs)
-    (λ c. search needs)
-    part-extract-end-2
-    extract-requires-2
+    (λ c. omega (arith, within c, start (c .before .before) .good .1 .1 .1 .1 .1 .0 .0))
     (λ c. search needs)
     (λ c. search needs)
     (λ c. search needs)
+    (λ c. let w = within c in search needs)
+    (λ c κs. simp (length-take, length-drop) (omega (arith, within (c .before))))
     (λ c. search needs)
-    permute-requires
+    (λ c. search needs)
+    (λ c. let w = within (giving0 c) in search needs)
+    (λ c κs. simp (length-take, length-drop) (omega (arith, within (giving0 (c .before)))))
+    (λ c. search needs)
+    (λ c. search needs)
+    (λ c. search needs)
+    (λ c. search needs)
+    (λ c κs. simp (length-take, length-drop) (omega (arith, within (giving0 (giving1 (c .before))))))
     (λ c. search needs)
     (λ c. search needs)
     loop-again
-    mul-a-2
-    sub-extract-3
-    part-extract-start-3
+    (λ c. let w = rest c in omega (arith, start (c .before .before) .good .1 .1 .1 .1 .1 .0 .0))
+    (λ c. let w = rest c in omega (arith, c .before .loop .inv .long0))
+    (λ c. let w = rest c in let e = c .before .loop .inv .long0 in search needs)
     (λ c. search needs)
-    extract-requires-3
-    sub-extract-4
-    part-extract-start-4
+    rest0-fits
+    (λ c. let w = rest (resting0 c) in omega (arith, resting0 c .before .loop .inv .long1))
+    (λ c. let w = rest (resting0 c) in let e = resting0 c .before .loop .inv .long1 in search needs)
     (λ c. search needs)
-    extract-requires-4
+    rest1-fits
     (λ c. search needs)
     (λ c. search needs)
     returns)

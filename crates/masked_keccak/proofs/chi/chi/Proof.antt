@@ -1,58 +1,69 @@
+-- Chi in lane order is chi row by row, the five calls are its five rows, and each draws the next five masks of the
+-- strip.
+use Prim.Native.Nat.{ℕ, _-_, _≤_}
 use borrow.Author.Needs.{needs}
 use native.Mathlib.Omega.{arith}
-use lib.ListN.{length-take, length-drop}
+use lib.ListN.{length, take, drop, length-take, length-drop}
 use Rattle.words.specs.Tab.{tab}
 use Rattle.worksheet.specs.Ran.{bind, over, part-words}
 use Rattle.worksheet.specs.SharedList.{zip}
-use Rattle.masked_keccak.specs.Rows.{chiRows, chi-rows}
-use Rattle.masked_keccak.proofs.Rows.{rows-ran}
+use Rattle.masked_keccak.specs.SharedRows.{maskedChiRows, maskedChi-rows}
+use Rattle.masked_keccak.proofs.ReadRows.{rows-ran}
 use Rattle.masked_keccak.proofs.chi.chi.Statement.{statement}
 use Rattle.masked_keccak.proofs.chi.chi.Tie as tie
 
-chi-row-requires-3 : tie.Need-chi-row-requires-3
-chi-row-requires-3 c κs =
-    let start = c .before .before .before .before .before .before .before .before .before .before .before .before .before in
-    simp (length-take, length-drop) (omega (arith, start .pre))
+-- ---- places: where a row is done, from where the next one is, and the function's start
 
-chi-row-requires-4 : tie.Need-chi-row-requires-4
-chi-row-requires-4 c κs =
-    let c3 = c .before .before .before in
-    let start = c3 .before .before .before .before .before .before .before .before .before .before .before .before .before in
-    simp (length-take, length-drop) (omega (arith, start .pre))
+abbrev row3 : tie.After-chi-row5 → tie.After-chi-row4
+row3 c = c .before .before .before
 
-chi-row-requires-5 : tie.Need-chi-row-requires-5
-chi-row-requires-5 c κs =
-    let c3 = c .before .before .before .before .before .before in
-    let start = c3 .before .before .before .before .before .before .before .before .before .before .before .before .before in
-    simp (length-take, length-drop) (omega (arith, start .pre))
+abbrev row2 : tie.After-chi-row4 → tie.After-chi-row3
+row2 c = c .before .before .before
+
+abbrev row1 : tie.After-chi-row3 → tie.After-chi-row2
+row1 c = c .before .before .before
+
+abbrev row0 : tie.After-chi-row2 → tie.After-chi-row
+row0 c = c .before .before .before
+
+abbrev parts : tie.After-chi-row → tie.After-ws4
+parts c = c .before .before .before
+
+abbrev slices : tie.After-ws4 → tie.After-ws1
+slices c = c .before .before .before
+
+abbrev start : tie.After-chi-row → tie.Start
+start c = slices (parts c) .before .before
+
+-- ---- facts
+
+-- five masks stand in the strip from i on
+fits : (s : tie.Start) (i : ℕ) → i ≤ 20
+    → 5 ≤ length (take (length (s .args .ws .now) - i) (drop i (s .args .ws .now)))
+fits s i h = simp (length-take, length-drop) (omega (arith, s .pre))
 
 returns : tie.Need-returns
-unfolding chiRows zip tab
+unfolding maskedChiRows zip tab
 returns c cs =
-    let c1 = c .before in
-    let c2 = c1 .before in
-    let c3 = c2 .before in
-    let c4 = c3 .before in
-    let c5 = c4 .before in
-    let c6 = c5 .before in
-    let c7 = c6 .before in
-    let c8 = c7 .before in
-    let c9 = c8 .before in
-    let c10 = c9 .before in
-    let c11 = c10 .before in
-    let c12 = c11 .before in
-    let c13 = c12 .before in
-    let c14 = c13 .before in
-    let c15 = c14 .before in
-    let c16 = c15 .before in
-    let c17 = c16 .before in
-    let ws = c17 .before .before .before .before .before .before .args .ws .now in
-    rw (chi-rows, c2 .whole .ensures, c1 .whole2 .ensures)
-    (bind _ (rows-ran (c17 .row-at .ensures) (c16 .row-at2 .ensures) (c15 .chi-row .ensures cs))
-    (bind _ (rows-ran (c14 .row-at3 .ensures) (c13 .row-at4 .ensures) (part-words ws 5 5 (c12 .chi-row2 .ensures cs)))
-    (bind _ (rows-ran (c11 .row-at5 .ensures) (c10 .row-at6 .ensures) (part-words ws 10 5 (c9 .chi-row3 .ensures cs)))
-    (bind _ (rows-ran (c8 .row-at7 .ensures) (c7 .row-at8 .ensures) (part-words ws 15 5 (c6 .chi-row4 .ensures cs)))
-    (bind _ (rows-ran (c5 .row-at9 .ensures) (c4 .row-at10 .ensures) (part-words ws 20 5 (c3 .chi-row5 .ensures cs))) over)))))
+    let t = c .before in
+    let s = t .before in
+    let r4 = s .before in
+    let r3 = row3 r4 in
+    let r2 = row2 r3 in
+    let r1 = row1 r2 in
+    let r0 = row0 r1 in
+    let ws = start r0 .args .ws .now in
+    let ran0 = r0 .chi-row .ensures cs in
+    let ran1 = part-words ws 5 5 (r1 .chi-row2 .ensures cs) in
+    let ran2 = part-words ws 10 5 (r2 .chi-row3 .ensures cs) in
+    let ran3 = part-words ws 15 5 (r3 .chi-row4 .ensures cs) in
+    let ran4 = part-words ws 20 5 (r4 .chi-row5 .ensures cs) in
+    rw (maskedChi-rows, s .whole .ensures, t .whole2 .ensures)
+    (bind _ (rows-ran (r0 .before .before .row-at .ensures) (r0 .before .row-at2 .ensures) ran0)
+    (bind _ (rows-ran (r1 .before .before .row-at3 .ensures) (r1 .before .row-at4 .ensures) ran1)
+    (bind _ (rows-ran (r2 .before .before .row-at5 .ensures) (r2 .before .row-at6 .ensures) ran2)
+    (bind _ (rows-ran (r3 .before .before .row-at7 .ensures) (r3 .before .row-at8 .ensures) ran3)
+    (bind _ (rows-ran (r4 .before .before .row-at9 .ensures) (r4 .before .row-at10 .ensures) ran4) over)))))
 
 pub chi-spec : {M : Type 1} → statement M
 chi-spec =
@@ -78,13 +89,13 @@ chi-spec =
     (λ c κs. search needs)
     (λ c κs. search needs)
     (λ c κs. search needs)
-    chi-row-requires-3
+    (λ c κs. fits (start (row0 (c .before .before))) 10 (omega arith))
     (λ c κs. search needs)
     (λ c κs. search needs)
-    chi-row-requires-4
+    (λ c κs. fits (start (row0 (row1 (c .before .before)))) 15 (omega arith))
     (λ c κs. search needs)
     (λ c κs. search needs)
-    chi-row-requires-5
+    (λ c κs. fits (start (row0 (row1 (row2 (c .before .before))))) 20 (omega arith))
     (λ c κs. tt)
     (λ c κs. tt)
     returns)

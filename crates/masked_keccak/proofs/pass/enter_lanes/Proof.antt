@@ -1,20 +1,16 @@
+-- Each turn enters the next lane: the entries so far are those of the first i lanes.
 use Prim.Native.Nat.{_-_}
 use borrow.Author.Needs.{needs}
-use Rattle.masked_keccak.proofs.Lanes.{EntersFirst, enters-start, enters-turn, enters-end}
+use Rattle.masked_keccak.proofs.EnteredLanes.{EntersFirst, enters-start, enters-turn, enters-end}
 use Rattle.masked_keccak.proofs.pass.enter_lanes.Statement.{statement}
 use Rattle.masked_keccak.proofs.pass.enter_lanes.Tie as tie
 
+-- i lanes entered
 abbrev Inv-loop : tie.InvT-loop
 Inv-loop s rec₀ i₀ rec i = EntersFirst 25 (s .lanes) i rec₀ rec
 
 abbrev μ-loop : tie.MeasureT-loop
 μ-loop s rec₀ i₀ rec i = 25 - i
-
-loop-again : tie.Need-loop-again Inv-loop μ-loop
-loop-again c = enters-turn (c .before .before .before .loop .inv) (search needs) (c .enter .ensures)
-
-returns : tie.Need-returns Inv-loop μ-loop
-returns c = enters-end (c .before .loop .inv) (search needs)
 
 pub enter-lanes-spec : {M : Type 1} → statement M
 enter-lanes-spec =
@@ -28,5 +24,5 @@ enter-lanes-spec =
     (λ c κs. search needs)
     (λ c. search needs)
     (λ c. search needs)
-    loop-again
-    returns)
+    (λ c. enters-turn (c .before .before .before .loop .inv) (search needs) (c .enter .ensures))
+    (λ c. enters-end (c .before .loop .inv) (search needs)))

@@ -1,3 +1,4 @@
+-- A number moved down by j places, modulo 2, is its digit j by definition, and a digit is below 2.
 use mathlib.Core.Path.{refl}
 use borrow.Author.Needs.{needs}
 use Rattle.words.specs.Digit.{digit}

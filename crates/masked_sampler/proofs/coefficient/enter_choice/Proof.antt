@@ -1,3 +1,4 @@
+-- A list of two elements, read at a bit, is the choice between them.
 use Prim.Native.Nat.{ℕ, zero, suc, _<_}
 use mathlib.Core.Bool.{cond}
 use mathlib.Core.List.{[], _∷_}
@@ -15,7 +16,10 @@ getD-cond (suc zero) t₀ t₁ h = refl
 getD-cond (suc (suc b)) t₀ t₁ h = absurd (omega arith)
 
 returns : tie.Need-returns
-returns c = let s = c .before in rw (getD-cond (s .args .b0) (s .args .t0) (s .args .t1) (s .pre)) (c .enter-coeff .ensures)
+returns c =
+    let start = c .before in
+    let a = start .args in
+    rw (getD-cond (a .b0) (a .t0) (a .t1) (start .pre)) (c .enter-coeff .ensures)
 
 pub enter-choice-spec : {M : Type 1} → statement M
 enter-choice-spec = tie.close (tie.spec (λ c. search needs) (λ c. search needs) (λ c κs. tt) returns)

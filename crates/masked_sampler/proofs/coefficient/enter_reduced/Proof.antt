@@ -1,3 +1,4 @@
+-- What is entered is what the reduction gave, and that is the remainder.
 use Rattle.masked_sampler.proofs.coefficient.enter_reduced.Statement.{statement}
 use Rattle.masked_sampler.proofs.coefficient.enter_reduced.Tie as tie
 

@@ -1,3 +1,4 @@
+-- The xor of two bits is a bit, so that its product with the weight has 16 bits, and the sum with the mask 17.
 use Prim.Native.Nat.{ℕ, _*_, _<_, _≤_}
 use native.Mathlib.Nat.{mul-le-mul}
 use native.Mathlib.Omega.{arith}
@@ -15,22 +16,19 @@ bit-mul i b w h g l =
     let m = mul-le-mul y z in
     (x, omega arith)
 
-cast-enter-reduced : tie.Need-cast-enter-reduced
-cast-enter-reduced c = let a = c .args in let h = bit-mul (a .i) (a .b1) (a .w) (c .pre .0) (c .pre .1) (omega arith) in omega arith
-
-mul-enter-reduced : tie.Need-mul-enter-reduced
-mul-enter-reduced c = let a = c .args in let h = bit-mul (a .i) (a .b1) (a .w) (c .pre .0) (c .pre .1) (omega arith) in omega arith
-
-add-enter-reduced : tie.Need-add-enter-reduced
-add-enter-reduced c = let a = c .args in let h = bit-mul (a .i) (a .b1) (a .w) (c .pre .0) (c .pre .1) (omega arith) in omega arith
-
-enter-reduced-requires : tie.Need-enter-reduced-requires
-enter-reduced-requires c κs =
-    let a = c .args in let h = bit-mul (a .i) (a .b1) (a .w) (c .pre .0) (c .pre .1) (omega arith) in omega arith
+small : (c : tie.Start) → let a = c .args in (bitXor (a .i) (a .b1) < 2) × (bitXor (a .i) (a .b1) * a .w ≤ 65535)
+small c = let a = c .args in bit-mul (a .i) (a .b1) (a .w) (c .pre .0) (c .pre .1) (omega arith)
 
 returns : tie.Need-returns
 unfolding xor
 returns c = c .enter-reduced .ensures
 
 pub enter-table-spec : {M : Type 1} → statement M
-enter-table-spec = tie.close (tie.spec cast-enter-reduced mul-enter-reduced add-enter-reduced enter-reduced-requires returns)
+enter-table-spec =
+    tie.close
+    (tie.spec
+    (λ c. omega (arith, small c))
+    (λ c. omega (arith, small c))
+    (λ c. omega (arith, small c))
+    (λ c κs. omega (arith, small c))
+    returns)

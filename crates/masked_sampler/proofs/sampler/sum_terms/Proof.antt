@@ -1,3 +1,4 @@
+-- The loop is the definition's own: s is the sum of the first j + 1 terms, entered from the left.
 use Prim.Native.Nat.{ℕ, _-_, _≤_}
 use mathlib.Core.Path.{_≡_}
 use mathlib.Core.List.{List}
@@ -10,6 +11,7 @@ use borrow.Author.Needs.{needs}
 use Rattle.masked_sampler.proofs.sampler.sum_terms.Statement.{statement}
 use Rattle.masked_sampler.proofs.sampler.sum_terms.Tie as tie
 
+-- j sums entered
 abbrev Inv-loop : tie.InvT-loop
 Inv-loop n x rec₀ s₀ j₀ rec s j = (j ≤ n) × ((ws cs : List ℕ) → Ran (sums j (λ k. getD x k 0)) rec₀ ws cs s rec ws cs)
 
@@ -27,7 +29,10 @@ loop-again c =
     (omega arith, λ ws cs. loop-turn _ _ (l .j) (l .inv .1 ws cs) (c .before .enter-sum .ensures ws cs))
 
 returns : tie.Need-returns Inv-loop μ-loop
-returns c ws cs = let l = c .before .loop in let e : l .j ≡ c .before .before .args .n = omega arith in rw e at (l .inv .1 ws cs)
+returns c ws cs =
+    let head = c .before in
+    let e : head .loop .j ≡ head .before .args .n = omega arith in
+    rw e at (head .loop .inv .1 ws cs)
 
 pub sum-terms-spec : {M : Type 1} → statement M
 sum-terms-spec =
@@ -35,13 +40,13 @@ sum-terms-spec =
     (tie.spec
     Inv-loop
     μ-loop
-    (λ c. search needs)  -- array-read-s
+    (λ c. search needs)
     loop-holds
-    (λ c. search needs)  -- add-enter-sum
-    (λ c. search needs)  -- mul-enter-sum
-    (λ c. search needs)  -- array-read-enter-sum
-    (λ c κs. search needs)  -- enter-sum-requires
-    (λ c. search needs)  -- add-j
-    (λ c. search needs)  -- loop-less
+    (λ c. search needs)
+    (λ c. search needs)
+    (λ c. search needs)
+    (λ c κs. search needs)
+    (λ c. search needs)
+    (λ c. search needs)
     loop-again
     returns)

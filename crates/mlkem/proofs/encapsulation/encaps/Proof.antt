@@ -1,27 +1,29 @@
-use mathlib.Core.Path.{refl, sym, ap, _∙_}
-use mathlib.Core.List.{List}
-use Prim.Native.Nat.{ℕ}
-use borrow.Author.Tests.{not-true, not-false}
-use lib.ListN.{getD}
-use Rattle.mlkem.specs.declared.Answer.the-variants.{WrongLength}
-use Rattle.mlkem.specs.MlKem.{same}
-use Rattle.mlkem.specs.Refusals.{sized}
-use Rattle.mlkem.specs.RefusalLaws.{refused}
-use Rattle.mlkem.specs.TestLaws.{same-true}
-use Rattle.mlkem.specs.Calls.{encapsAnswer}
+-- A wrong length is row 1, which comes first; else all lengths are exact, as encaps_sized asks.
+use mathlib.Core.Path.{sym, _∙_}
 use borrow.Author.Needs.{needs}
+use borrow.Author.Tests.{not-true}
+use native.Mathlib.Omega.{arith}
+use Rattle.kpke.specs.Parameters.{mlKem768}
+use Rattle.refusals.specs.declared.Answer.the-variants.{WrongLength}
+use Rattle.refusals.specs.Same.{same}
+use Rattle.refusals.specs.Refusals.{sized}
+use Rattle.refusals.specs.RefusalLaws.{refused}
+use Rattle.mlkem.specs.Calls.{encapsAnswer}
+use Rattle.mlkem.specs.CallLaws.{exact-at, encaps-refused}
 use Rattle.mlkem.proofs.encapsulation.encaps.Statement.{statement}
 use Rattle.mlkem.proofs.encapsulation.encaps.Tie as tie
 
 returns : tie.Need-returns
 unfolding encapsAnswer sized same
-returns c = (sym (refused WrongLength _ (sym (c .before .exact .ensures) ∙ not-true _ (c .if1 .taken))), (refl, refl))
+returns c =
+    let row1 = refused WrongLength _ (sym (c .before .exact .ensures) ∙ not-true _ (c .if1 .taken)) in
+    encaps-refused mlKem768 WrongLength (omega arith) _ _ _ _ row1
 
 encaps-sized-requires : tie.Need-encaps-sized-requires
 encaps-sized-requires c κs =
-    let e = same-true _ _ (sym (c .before .before .before .exact .ensures) ∙ not-false _ (c .before .before .if1 .left)) in
-    let at : (i : ℕ) → _ = λ i. ap (λ (l : List ℕ). getD l i 0) e in
-    (at 0, at 1, at 2, at 3)
+    let test = c .before .before in
+    let at = exact-at _ _ (test .before .exact .ensures) (test .if1 .left) in
+    record { ek = at 0; m = at 1; ct = at 2; k = at 3 }
 
 pub encaps-spec : {M : Type 1} → statement M
 encaps-spec =

@@ -1,57 +1,92 @@
-use mathlib.Core.Path.{_≡_, refl, sym, ap, _∙_}
+-- The tests go by the rows that are left: a public key out of range is row 2 and a stream that is too short row 7;
+-- else a holds A-hat, from which the secret is made.
+use mathlib.Core.Path.{_≡_, sym, ap, _∙_}
 use mathlib.Core.Bool.{true}
 use mathlib.Core.List.{List}
 use Prim.Native.Nat.{ℕ}
-use native.Mathlib.Omega.{arith}
+use borrow.Author.Needs.{needs}
 use borrow.Author.Tests.{not-true, not-false}
+use native.Mathlib.Omega.{arith}
 use lib.ListN.{take, drop}
 use Rattle.words.specs.Part.{part-rest}
+use Rattle.kpke.specs.Parameters.{mlKem768}
 use Rattle.kpke.specs.KPke.{concat, coefficients, matrix, matrixFull}
 use Rattle.kpke.specs.Expanded.{expanded-concat}
-use Rattle.mlkem.specs.declared.Answer.the-variants.{WrongLength, PublicKeyRange, ShortStream}
-use Rattle.mlkem.specs.Refusals.{reduced}
-use Rattle.mlkem.specs.RefusalLaws.{refused, passed, no-row, exact-sized}
-use Rattle.mlkem.specs.Calls.{encapsAnswer}
-use borrow.Author.Needs.{needs}
+use Rattle.refusals.specs.declared.Answer.the-variants.{Done, PublicKeyRange, ShortStream}
+use Rattle.refusals.specs.Refusals.{number}
+use Rattle.refusals.specs.RefusalLaws.{refused, passed, no-row}
+use Rattle.mlkem.specs.Reduced.{reduced}
+use Rattle.mlkem.specs.CallLaws.{encaps-answer, encaps-refused}
 use Rattle.mlkem.proofs.encapsulation.encaps_sized.Statement.{statement}
 use Rattle.mlkem.proofs.encapsulation.encaps_sized.Tie as tie
 
--- row 1 is passed, row 2 by the first test and row 7 by the second
-reduced-passed : (c : tie.Else1) → reduced (coefficients 3 (take 1152 (c .before .before .before .before .before .before .before .args .ek .now))) ≡ true
+-- ---- places: the tests and the start, from further on
+
+abbrev known : tie.After-vector-reduced → tie.After-slice-known
+known c = c .before .before .before
+
+abbrev start : tie.After-vector-reduced → tie.Start
+start c = known c .before .before .before
+
+abbrev in-range : tie.After-expand → tie.Else1
+in-range c = c .before .before .before
+
+abbrev full-start : tie.After-expand → tie.Start
+full-start c = start (in-range c .before)
+
+abbrev expanded : tie.After-write-secret-arg2 → tie.Else2
+expanded c = c .before .before .before
+
+abbrev made : tie.After-slice-known4 → tie.After-ct
+made c = c .before .before .before
+
+-- ---- facts
+
+reduced-passed : (c : tie.Else1) → reduced (coefficients 3 (take 1152 (start (c .before) .args .ek .now))) ≡ true
 reduced-passed c = sym (c .before .vector-reduced .ensures) ∙ not-false _ (c .if1 .left)
 
-full-by : (c : tie.After-expand) → matrixFull 3 (drop 1152 (c .before .before .before .before .before .before .before .before .before .before .args .ek .now)) ≡ c .expand .result
-full-by c = sym (ap (matrixFull 3) (part-rest 1152 (c .before .before .before .before .before .before .before .before .before .before .args .ek .now))) ∙ sym (c .expand .ensures .0)
+full-by : (c : tie.After-expand) → matrixFull 3 (drop 1152 (full-start c .args .ek .now)) ≡ c .expand .result
+full-by c =
+    sym (ap (matrixFull 3) (part-rest 1152 (full-start c .args .ek .now))) ∙ sym (c .expand .ensures .0)
+
+full : (c : tie.Else2) → matrixFull 3 (drop 1152 (full-start (c .before .before) .args .ek .now)) ≡ true
+full c = full-by (c .before .before) ∙ not-false _ (c .if2 .left)
 
 returns : tie.Need-returns
-unfolding encapsAnswer
 returns c =
-    let p = c .before .before .before .before .before .before .before .pre in
-    (sym (passed WrongLength _ (exact-sized _ (p .0, (p .1, (p .2, (p .3, tt))))) (refused PublicKeyRange _ (sym (c .before .vector-reduced .ensures) ∙ not-true _ (c .if1 .taken)))), (refl, refl))
+    let row2 = refused PublicKeyRange _ (sym (c .before .vector-reduced .ensures) ∙ not-true _ (c .if1 .taken)) in
+    encaps-refused mlKem768 PublicKeyRange (omega arith) _ _ _ _
+    (encaps-answer mlKem768 PublicKeyRange (start (c .before) .pre) row2)
 
 returns-2 : tie.Need-returns-2
-unfolding encapsAnswer
 returns-2 c =
-    let p = c .before .before .before .before .before .before .before .before .before .before .before .before .pre in (
-      sym (passed WrongLength _ (exact-sized _ (p .0, (p .1, (p .2, (p .3, tt))))) (passed PublicKeyRange _ (reduced-passed (c .before .before .before .before .before)) (refused ShortStream _ (full-by (c .before .before) ∙ not-true _ (c .if2 .taken))))),
-      (refl, refl),
-    )
+    let x = c .before .before in
+    let row7 = refused ShortStream _ (full-by x ∙ not-true _ (c .if2 .taken)) in
+    let row2 = passed PublicKeyRange _ (reduced-passed (in-range x)) row7 in
+    encaps-refused mlKem768 ShortStream (omega arith) _ _ _ _
+    (encaps-answer mlKem768 ShortStream (full-start x .pre) row2)
 
 write-secret-requires : tie.Need-write-secret-requires
 write-secret-requires c κs =
-    let ek = c .before .before .before .before .before .before .before .before .before .before .before .before .before .before .before .args .ek .now in
-    let x = c .before .before .before .before .before .expand in
-    let t = not-false (x .result) (c .before .before .before .if2 .left) in
-    let e = x .ensures .1 t ∙ ap (λ (l : List ℕ). concat 3 (λ i. concat 3 (matrix l i))) (part-rest 1152 ek) in
-    (rw e (expanded-concat 3 (drop 1152 ek) (full-by (c .before .before .before .before .before) ∙ t)), omega arith, omega arith, omega arith, omega arith)
+    let row7 = expanded c in
+    let x = row7 .before .before in
+    let s = full-start x in
+    let rho = part-rest 1152 (s .args .ek .now) in
+    let by-rho = ap (λ (l : List ℕ). concat 3 (λ i. concat 3 (matrix l i))) rho in
+    let e = x .expand .ensures .1 (not-false _ (row7 .if2 .left)) ∙ by-rho in
+    (rw e (expanded-concat 3 (drop 1152 (s .args .ek .now)) (full row7)), s .pre)
 
 returns-3 : tie.Need-returns-3
-unfolding encapsAnswer
 returns-3 c =
-    let p = c .before .before .before .before .before .before .before .before .before .before .before .before .before .before .before .before .before .before .before .before .pre in (
-      sym (passed WrongLength _ (exact-sized _ (p .0, (p .1, (p .2, (p .3, tt))))) (passed PublicKeyRange _ (reduced-passed (c .before .before .before .before .before .before .before .before .before .before .before .before .before)) (passed ShortStream _ (full-by (c .before .before .before .before .before .before .before .before .before .before) ∙ not-false _ (c .before .before .before .before .before .before .before .before .if2 .left)) no-row))),
-      c .before .before .before .before .write-secret .ensures,
-    )
+    let secret = made c .before in
+    let row7 = expanded (secret .before) in
+    let x = row7 .before .before in
+    let rows = passed PublicKeyRange _ (reduced-passed (in-range x)) (passed ShortStream _ (full row7) no-row) in
+    record {
+      answer = ap number (sym (encaps-answer mlKem768 Done (full-start x .pre) rows));
+      ct = secret .write-secret .ensures .0;
+      k = secret .write-secret .ensures .1;
+    }
 
 pub encaps-sized-spec : {M : Type 1} → statement M
 encaps-sized-spec =

@@ -1,43 +1,68 @@
-use mathlib.Core.Path.{refl, sym, ap, _∙_}
-use mathlib.Core.List.{List}
-use Prim.Native.Nat.{ℕ}
-use borrow.Author.Tests.{not-true, not-false}
-use lib.ListN.{getD}
-use Rattle.mlkem.specs.declared.Answer.the-variants.{WrongLength, ShortStream}
-use Rattle.mlkem.specs.MlKem.{same}
-use Rattle.mlkem.specs.Refusals.{sized}
-use Rattle.mlkem.specs.RefusalLaws.{refused, passed, no-row}
-use Rattle.mlkem.specs.TestLaws.{same-true}
-use Rattle.mlkem.specs.Calls.{sampleAnswer}
-use Rattle.codec.specs.Sample.{full}
-use Rattle.mlkem.proofs.Sampled.{full-true, full-false}
+-- A wrong length is row 1 and a stream that is too short row 7; SampleNTT says which, and leaves out as it was where
+-- it gives up.
+use mathlib.Core.Path.{sym, ap, _∙_}
 use borrow.Author.Needs.{needs}
+use borrow.Author.Tests.{not-true, not-false}
+use native.Mathlib.Omega.{arith}
+use Rattle.codec.specs.Sample.{full}
+use Rattle.refusals.specs.declared.Answer.the-variants.{WrongLength, ShortStream}
+use Rattle.refusals.specs.Same.{same}
+use Rattle.refusals.specs.Refusals.{number, sized}
+use Rattle.refusals.specs.RefusalLaws.{refused, passed, no-row}
+use Rattle.mlkem.specs.Calls.{sampleAnswer}
+use Rattle.mlkem.specs.CallLaws.{exact-at, sample-refused}
+use Rattle.mlkem.proofs.Sampled.{full-true, full-false}
 use Rattle.mlkem.proofs.sampling.sample.Statement.{statement}
 use Rattle.mlkem.proofs.sampling.sample.Tie as tie
 
+-- ---- places: the call, the test of lengths and the start, from further on
+
+abbrev drawn : tie.After-slice-known2 → tie.After-sample-ntt
+drawn c = c .before .before
+
+abbrev exact : tie.After-sample-ntt → tie.Else1
+exact c = c .before .before
+
+abbrev lent : tie.Else1 → tie.After-exact-arg
+lent c = c .before .before .before
+
+abbrev start : tie.After-sample-ntt → tie.Start
+start c = lent (exact c) .before .before .before
+
+-- ---- needs
+
 returns : tie.Need-returns
 unfolding sampleAnswer sized same
-returns c = (sym (refused WrongLength _ (sym (c .before .exact .ensures) ∙ not-true _ (c .if1 .taken))), refl)
+returns c =
+    let row1 = refused WrongLength _ (sym (c .before .exact .ensures) ∙ not-true _ (c .if1 .taken)) in
+    sample-refused WrongLength (omega arith) row1
 
 sample-ntt-requires : tie.Need-sample-ntt-requires
 sample-ntt-requires c κs =
-    let e = same-true _ _ (sym (c .before .before .exact .ensures) ∙ not-false _ (c .before .if1 .left)) in
-    let at : (i : ℕ) → _ = λ i. ap (λ (l : List ℕ). getD l i 0) e in
+    let at = exact-at _ _ (c .before .before .exact .ensures) (c .before .if1 .left) in
     (at 0, at 1)
 
 returns-2 : tie.Need-returns-2
 unfolding sampleAnswer sized same
 returns-2 c =
-    let n = c .before .before .before .before .sample-ntt in
-    let t = full-true (full (c .before .before .before .before .before .before .before .before .before .before .before .before .args .stream .now)) (c .enum-told .given .1) (n .ensures .0) in
-    (sym (passed WrongLength _ (sym (c .before .before .before .before .before .before .before .exact .ensures) ∙ not-false _ (c .before .before .before .before .before .before .if1 .left)) (passed ShortStream _ t no-row)), rw t at (n .ensures .1))
+    let x = drawn (c .before .before) in
+    let test = exact x in
+    let n = x .sample-ntt .ensures in
+    let t = full-true (full (start x .args .stream .now)) (c .enum-told .given .1) (n .0) in
+    let row7 = passed ShortStream _ t no-row in
+    let row1 = passed WrongLength _ (sym (test .before .exact .ensures) ∙ not-false _ (test .if1 .left)) row7 in
+    record { answer = ap number (sym row1); out = rw t at (n .1) }
 
 returns-3 : tie.Need-returns-3
 unfolding sampleAnswer sized same
 returns-3 c =
-    let n = c .before .before .before .before .sample-ntt in
-    let t = full-false (full (c .before .before .before .before .before .before .before .before .before .before .before .before .args .stream .now)) (c .enum-told2 .given .1) (n .ensures .0) in
-    (sym (passed WrongLength _ (sym (c .before .before .before .before .before .before .before .exact .ensures) ∙ not-false _ (c .before .before .before .before .before .before .if1 .left)) (refused ShortStream _ t)), rw t at (n .ensures .1))
+    let x = drawn (c .before .before) in
+    let test = exact x in
+    let n = x .sample-ntt .ensures in
+    let t = full-false (full (start x .args .stream .now)) (c .enum-told2 .given .1) (n .0) in
+    let row7 = refused ShortStream _ t in
+    let row1 = passed WrongLength _ (sym (test .before .exact .ensures) ∙ not-false _ (test .if1 .left)) row7 in
+    record { answer = ap number (sym row1); out = rw t at (n .1) }
 
 pub sample-spec : {M : Type 1} → statement M
 sample-spec =

@@ -1,27 +1,36 @@
-use mathlib.Core.Path.{refl, sym, ap, _∙_}
-use mathlib.Core.List.{List}
-use Prim.Native.Nat.{ℕ}
-use borrow.Author.Tests.{not-true, not-false}
-use lib.ListN.{getD}
-use Rattle.mlkem.specs.declared.Answer.the-variants.{WrongLength}
-use Rattle.mlkem.specs.MlKem.{same}
-use Rattle.mlkem.specs.Refusals.{sized}
-use Rattle.mlkem.specs.RefusalLaws.{refused}
-use Rattle.mlkem.specs.TestLaws.{same-true}
-use Rattle.mlkem.specs.Calls.{importAnswer}
+-- A wrong length is row 1, which comes first; else all lengths are exact, as import_sized asks.
+use mathlib.Core.Path.{sym, _∙_}
 use borrow.Author.Needs.{needs}
+use borrow.Author.Tests.{not-true}
+use native.Mathlib.Omega.{arith}
+use Rattle.kpke.specs.Parameters.{mlKem768}
+use Rattle.refusals.specs.declared.Answer.the-variants.{WrongLength}
+use Rattle.refusals.specs.Same.{same}
+use Rattle.refusals.specs.Refusals.{sized}
+use Rattle.refusals.specs.RefusalLaws.{refused}
+use Rattle.mlkem.specs.Calls.{importAnswer}
+use Rattle.mlkem.specs.CallLaws.{exact-at, import-refused}
 use Rattle.mlkem.proofs.splitting.import.Statement.{statement}
 use Rattle.mlkem.proofs.splitting.import.Tie as tie
 
 returns : tie.Need-returns
 unfolding importAnswer sized same
-returns c = (sym (refused WrongLength _ (sym (c .before .exact .ensures) ∙ not-true _ (c .if1 .taken))), (refl, (refl, (refl, (refl, refl)))))
+returns c =
+    let row1 = refused WrongLength _ (sym (c .before .exact .ensures) ∙ not-true _ (c .if1 .taken)) in
+    import-refused mlKem768 WrongLength (omega arith) _ _ _ _ _ _ _ _ row1
+
+-- the test of the lengths, from the call
+abbrev lent : tie.After-import-sized-arg5 → tie.After-import-sized-arg2
+lent c = c .before .before .before
+
+abbrev tested : tie.After-import-sized-arg5 → tie.Else1
+tested c = lent c .before .before
 
 import-sized-requires : tie.Need-import-sized-requires
 import-sized-requires c κs =
-    let e = same-true _ _ (sym (c .before .before .before .before .before .before .exact .ensures) ∙ not-false _ (c .before .before .before .before .before .if1 .left)) in
-    let at : (i : ℕ) → _ = λ i. ap (λ (l : List ℕ). getD l i 0) e in
-    (at 0, at 1, at 2, at 3, at 4, at 5, at 6, at 7)
+    let test = tested c in
+    let at = exact-at _ _ (test .before .exact .ensures) (test .if1 .left) in
+    record { dk = at 0; coeffs = at 1; words = at 2; s0 = at 3; s1 = at 4; z0 = at 5; z1 = at 6; public = at 7 }
 
 pub import-spec : {M : Type 1} → statement M
 import-spec =

@@ -1,79 +1,163 @@
-use mathlib.Core.Path.{_≡_, refl, sym, ap, ap₂, _∙_}
+-- The tests go by rows 2 to 5, so that the first that fails gives the answer; where none fails, s are the key's
+-- coefficients and the shares of them are written.
+use mathlib.Core.Path.{_≡_, sym, ap, _∙_}
 use mathlib.Core.Bool.{true}
-use native.Mathlib.Omega.{arith}
+use borrow.Author.Needs.{needs}
 use borrow.Author.Tests.{not-true, not-false}
+use native.Mathlib.Omega.{arith}
 use lib.ListN.{length, take}
-use Rattle.ring.specs.Polynomial.{sub}
 use Rattle.kpke.specs.Parameters.{mlKem768}
 use Rattle.kpke.specs.Functions.{H}
 use Rattle.kpke.specs.KPke.{coefficients}
-use Rattle.mlkem.specs.declared.Answer.the-variants.{WrongLength, PublicKeyRange, WrongHash, SecretRange, MaskRange}
-use Rattle.mlkem.specs.MlKem.{same, secretPart, publicPart, hashPart}
-use Rattle.mlkem.specs.Refusals.{reduced}
-use Rattle.mlkem.specs.RefusalLaws.{refused, passed, no-row, exact-sized}
-use Rattle.mlkem.specs.TestLaws.{reduced-below}
-use Rattle.mlkem.specs.Calls.{keyRows, importAnswer}
-use Rattle.mlkem.proofs.Shares.{sub-secondCoeffs}
-use borrow.Author.Needs.{needs}
+use Rattle.refusals.specs.declared.Answer.the-variants.{Done, PublicKeyRange, WrongHash, SecretRange, MaskRange}
+use Rattle.refusals.specs.Same.{same}
+use Rattle.refusals.specs.Refusals.{number}
+use Rattle.refusals.specs.RefusalLaws.{refused, passed, no-row}
+use Rattle.mlkem.specs.MlKem.{secretPart, publicPart, hashPart}
+use Rattle.mlkem.specs.Reduced.{reduced}
+use Rattle.mlkem.specs.Calls.{keyRows}
+use Rattle.mlkem.specs.CallLaws.{import-answer, import-refused}
+use Rattle.mlkem.proofs.Shares.{secondCoeffs-of}
 use Rattle.mlkem.proofs.splitting.import_sized.Statement.{statement}
 use Rattle.mlkem.proofs.splitting.import_sized.Tie as tie
 
--- what the tests say of the key, where they have been passed
-public-passed : (c : tie.Else1) → reduced (coefficients 3 (take 1152 (publicPart mlKem768 (c .before .before .before .before .before .before .before .before .before .before .before .before .args .dk .now)))) ≡ true
+-- ---- places: the tests from the last to the first, and the start
+
+abbrev lent-ek : tie.After-vector-reduced → tie.After-slice-known5
+lent-ek c = c .before .before .before
+
+abbrev known : tie.After-slice-known5 → tie.After-slice-known2
+known c = c .before .before .before
+
+abbrev shared : tie.After-slice-known2 → tie.After-shared-slice-known2
+shared c = c .before .before .before
+
+abbrev start : tie.After-vector-reduced → tie.Start
+start c = shared (known (lent-ek c)) .before .before
+
+abbrev in-range : tie.After-hash-matches → tie.Else1
+in-range c = c .before .before
+
+abbrev decoded : tie.After-reduced → tie.After-decode-all
+decoded c = c .before .before .before
+
+abbrev matched : tie.After-decode-all → tie.Else2
+matched c = c .before .before .before
+
+abbrev small : tie.After-reduced2 → tie.Else3
+small c = c .before
+
+abbrev lent : tie.After-write-split-arg5 → tie.After-write-split-arg2
+lent c = c .before .before .before
+
+abbrev masked : tie.After-write-split-arg5 → tie.Else4
+masked c = lent c .before .before .before
+
+abbrev returned : tie.After-slice-known10 → tie.After-z1
+returned c = c .before .before .before
+
+abbrev returned-z : tie.After-z1 → tie.After-slice-known7
+returned-z c = c .before .before .before
+
+abbrev returned-s : tie.After-slice-known7 → tie.After-s0
+returned-s c = c .before .before .before
+
+-- ---- facts: what the tests say of the key, where they have been passed
+
+public-passed : (c : tie.Else1)
+    → reduced (coefficients 3 (take 1152 (publicPart mlKem768 (start (c .before) .args .dk .now)))) ≡ true
 public-passed c = sym (c .before .vector-reduced .ensures) ∙ not-false _ (c .if1 .left)
 
-hash-passed : (c : tie.Else2) → same (hashPart mlKem768 (c .before .before .before .before .before .before .before .before .before .before .before .before .before .before .before .args .dk .now)) (H (publicPart mlKem768 (c .before .before .before .before .before .before .before .before .before .before .before .before .before .before .before .args .dk .now))) ≡ true
+hash-passed : (c : tie.Else2)
+    → (let dk = start (in-range (c .before) .before) .args .dk .now in
+    same (hashPart mlKem768 dk) (H (publicPart mlKem768 dk)) ≡ true)
 hash-passed c = sym (c .before .hash-matches .ensures) ∙ not-false _ (c .if2 .left)
 
-secret-by : (c : tie.After-reduced) → reduced (coefficients 3 (secretPart mlKem768 (c .before .before .before .before .before .before .before .before .before .before .before .before .before .before .before .before .before .before .before .before .before .args .dk .now))) ≡ c .reduced .result
-secret-by c = sym (ap reduced (c .before .before .before .decode-all .ensures)) ∙ sym (c .reduced .ensures)
+-- the start, from the test of the secret
+abbrev whole : tie.After-reduced → tie.Start
+whole c = start (in-range (matched (decoded c) .before) .before)
+
+secret-by : (c : tie.After-reduced)
+    → reduced (coefficients 3 (secretPart mlKem768 (whole c .args .dk .now))) ≡ c .reduced .result
+secret-by c = sym (ap reduced (decoded c .decode-all .ensures)) ∙ sym (c .reduced .ensures)
+
+secret-passed : (c : tie.Else3)
+    → reduced (coefficients 3 (secretPart mlKem768 (whole (c .before) .args .dk .now))) ≡ true
+secret-passed c = secret-by (c .before) ∙ not-false _ (c .if3 .left)
+
+masks-passed : (c : tie.Else4) → reduced (whole (small (c .before) .before) .args .coeffs .now) ≡ true
+masks-passed c = sym (c .before .reduced2 .ensures) ∙ not-false _ (c .if4 .left)
+
+-- s has the key's 768 coefficients
+long : (c : tie.After-decode-all) → length (c .decode-all .last .1 .1 .0) ≡ 768
+long c = omega (arith, c .decode-all .kept .1 .1 .0)
+
+-- ---- needs
 
 returns : tie.Need-returns
-unfolding importAnswer keyRows
+unfolding keyRows
 returns c =
-    let p = c .before .before .before .before .before .before .before .before .before .before .before .before .pre in
-    (sym (passed WrongLength _ (exact-sized _ (p .0, (p .1, (p .2, (p .3, (p .4, (p .5, (p .6, (p .7, tt))))))))) (refused PublicKeyRange _ (sym (c .before .vector-reduced .ensures) ∙ not-true _ (c .if1 .taken)))), (refl, (refl, (refl, (refl, refl)))))
+    let row2 = refused PublicKeyRange _ (sym (c .before .vector-reduced .ensures) ∙ not-true _ (c .if1 .taken)) in
+    import-refused mlKem768 PublicKeyRange (omega arith) _ _ _ _ _ _ _ _
+    (import-answer mlKem768 PublicKeyRange (start (c .before) .pre) row2)
 
 returns-2 : tie.Need-returns-2
-unfolding importAnswer keyRows
+unfolding keyRows
 returns-2 c =
-    let p = c .before .before .before .before .before .before .before .before .before .before .before .before .before .before .before .pre in (
-      sym (passed WrongLength _ (exact-sized _ (p .0, (p .1, (p .2, (p .3, (p .4, (p .5, (p .6, (p .7, tt))))))))) (passed PublicKeyRange _ (public-passed (c .before .before .before)) (refused WrongHash _ (sym (c .before .hash-matches .ensures) ∙ not-true _ (c .if2 .taken))))),
-      (refl, (refl, (refl, (refl, refl)))),
-    )
+    let test = in-range (c .before) in
+    let row3 = refused WrongHash _ (sym (c .before .hash-matches .ensures) ∙ not-true _ (c .if2 .taken)) in
+    import-refused mlKem768 WrongHash (omega arith) _ _ _ _ _ _ _ _
+    (import-answer mlKem768 WrongHash (start (test .before) .pre) (passed PublicKeyRange _ (public-passed test) row3))
 
 returns-3 : tie.Need-returns-3
-unfolding importAnswer keyRows
+unfolding keyRows
 returns-3 c =
-    let p = c .before .before .before .before .before .before .before .before .before .before .before .before .before .before .before .before .before .before .before .before .before .before .pre in (
-      sym (passed WrongLength _ (exact-sized _ (p .0, (p .1, (p .2, (p .3, (p .4, (p .5, (p .6, (p .7, tt))))))))) (passed PublicKeyRange _ (public-passed (c .before .before .before .before .before .before .before .before .before .before)) (passed WrongHash _ (hash-passed (c .before .before .before .before .before .before .before)) (refused SecretRange _ (secret-by (c .before) ∙ not-true _ (c .if3 .taken)))))),
-      (refl, (refl, (refl, (refl, refl)))),
-    )
+    let hash = matched (decoded (c .before)) in
+    let row4 = refused SecretRange _ (secret-by (c .before) ∙ not-true _ (c .if3 .taken)) in
+    let row3 = passed WrongHash _ (hash-passed hash) row4 in
+    let row2 = passed PublicKeyRange _ (public-passed (in-range (hash .before))) row3 in
+    import-refused mlKem768 SecretRange (omega arith) _ _ _ _ _ _ _ _
+    (import-answer mlKem768 SecretRange (whole (c .before) .pre) row2)
 
 returns-4 : tie.Need-returns-4
-unfolding importAnswer keyRows
+unfolding keyRows
 returns-4 c =
-    let p = c .before .before .before .before .before .before .before .before .before .before .before .before .before .before .before .before .before .before .before .before .before .before .before .before .pre in (
-      sym (passed WrongLength _ (exact-sized _ (p .0, (p .1, (p .2, (p .3, (p .4, (p .5, (p .6, (p .7, tt))))))))) (passed PublicKeyRange _ (public-passed (c .before .before .before .before .before .before .before .before .before .before .before .before)) (passed WrongHash _ (hash-passed (c .before .before .before .before .before .before .before .before .before)) (passed SecretRange _ (secret-by (c .before .before .before) ∙ not-false _ (c .before .before .if3 .left)) (refused MaskRange _ (sym (c .before .reduced2 .ensures) ∙ not-true _ (c .if4 .taken))))))),
-      (refl, (refl, (refl, (refl, refl)))),
-    )
+    let secret = small (c .before) in
+    let hash = matched (decoded (secret .before)) in
+    let row5 = refused MaskRange _ (sym (c .before .reduced2 .ensures) ∙ not-true _ (c .if4 .taken)) in
+    let row4 = passed SecretRange _ (secret-passed secret) row5 in
+    let row3 = passed WrongHash _ (hash-passed hash) row4 in
+    let row2 = passed PublicKeyRange _ (public-passed (in-range (hash .before))) row3 in
+    import-refused mlKem768 MaskRange (omega arith) _ _ _ _ _ _ _ _
+    (import-answer mlKem768 MaskRange (whole (secret .before) .pre) row2)
 
 write-split-requires : tie.Need-write-split-requires
 write-split-requires c κs =
-    let p = c .before .before .before .before .before .before .before .before .before .before .before .before .before .before .before .before .before .before .before .before .before .before .before .before .before .before .before .before .before .before .pre in
-    (p .0, omega (arith, c .before .before .before .before .before .before .before .before .before .before .before .before .decode-all .kept .1 .1 .0), p .1, p .2, p .3, p .4, p .5, p .6, p .7)
+    let secret = small (masked c .before) .before in
+    (omega (arith, decoded secret .decode-all .kept .1 .1 .0), whole secret .pre)
 
 returns-5 : tie.Need-returns-5
-unfolding importAnswer keyRows
+unfolding keyRows
 returns-5 c =
-    let p = c .before .before .before .before .before .before .before .before .before .before .before .before .before .before .before .before .before .before .before .before .before .before .before .before .before .before .before .before .before .before .before .before .before .before .before .before .before .before .before .before .before .pre in
-    let a = c .before .before .before .before .before .before .before .before .before .before .before .before .before .before .before .before .before .before .before .before .before .before .before .before .before .before .before .before .before .before .before .before .before .before .before .before .before .before .before .before .before .args in
-    let e = c .before .before .before .before .before .before .before .before .before .before .write-split .ensures in
-    let d = c .before .before .before .before .before .before .before .before .before .before .before .before .before .before .before .before .before .before .before .before .before .before .before .decode-all in
-    let m = sym (c .before .before .before .before .before .before .before .before .before .before .before .before .before .before .before .before .before .before .reduced2 .ensures) ∙ not-false _ (c .before .before .before .before .before .before .before .before .before .before .before .before .before .before .before .before .before .if4 .left) in (
-      sym (passed WrongLength _ (exact-sized _ (p .0, (p .1, (p .2, (p .3, (p .4, (p .5, (p .6, (p .7, tt))))))))) (passed PublicKeyRange _ (public-passed (c .before .before .before .before .before .before .before .before .before .before .before .before .before .before .before .before .before .before .before .before .before .before .before .before .before .before .before .before .before)) (passed WrongHash _ (hash-passed (c .before .before .before .before .before .before .before .before .before .before .before .before .before .before .before .before .before .before .before .before .before .before .before .before .before .before)) (passed SecretRange _ (secret-by (c .before .before .before .before .before .before .before .before .before .before .before .before .before .before .before .before .before .before .before .before) ∙ not-false _ (c .before .before .before .before .before .before .before .before .before .before .before .before .before .before .before .before .before .before .before .if3 .left)) (passed MaskRange _ m no-row))))),
-      (e .0, (e .1 .0 ∙ ap₂ sub (d .ensures) refl ∙ sub-secondCoeffs (a .dk .now) (a .coeffs .now) (sym (ap length (d .ensures)) ∙ omega (arith, d .kept .1 .1 .0)) (reduced-below (a .coeffs .now) m), e .1 .1)),
-    )
+    let split = returned-s (returned-z (returned c)) .before in
+    let masks = masked (split .before) in
+    let secret = small (masks .before) in
+    let d = decoded (secret .before) in
+    let hash = matched d in
+    let s = whole (secret .before) in
+    let row4 = passed SecretRange _ (secret-passed secret) (passed MaskRange _ (masks-passed masks) no-row) in
+    let row3 = passed WrongHash _ (hash-passed hash) row4 in
+    let row2 = passed PublicKeyRange _ (public-passed (in-range (hash .before))) row3 in
+    let e = split .write-split .ensures in
+    let key = s .args .dk .now in
+    record {
+      answer = ap number (sym (import-answer mlKem768 Done (s .pre) row2));
+      s0 = e .0;
+      s1 = secondCoeffs-of key _ (d .decode-all .ensures) (long d) (masks-passed masks) (e .1 .0);
+      z0 = e .1 .1 .0;
+      z1 = e .1 .1 .1 .0;
+      public = e .1 .1 .1 .1;
+    }
 
 pub import-sized-spec : {M : Type 1} → statement M
 import-sized-spec =

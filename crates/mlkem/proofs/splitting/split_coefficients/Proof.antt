@@ -1,11 +1,7 @@
-use mathlib.Core.Path.{refl, ap₂, _∙_}
-use Rattle.ring.specs.Polynomial.{sub}
+-- s0 is a copy of r, and s1 a copy of s from which r is then taken.
 use borrow.Author.Needs.{needs}
 use Rattle.mlkem.proofs.splitting.split_coefficients.Statement.{statement}
 use Rattle.mlkem.proofs.splitting.split_coefficients.Tie as tie
-
-returns : tie.Need-returns
-returns c = (c .before .before .before .before .before .before .before .before .before .before .copy-coefficients .ensures, c .before .before .sub-from .ensures ∙ ap₂ sub (c .before .before .before .before .before .before .copy-coefficients2 .ensures) refl)
 
 pub split-coefficients-spec : {M : Type 1} → statement M
 split-coefficients-spec =
@@ -16,4 +12,4 @@ split-coefficients-spec =
     (λ c κs. search needs)
     (λ c. search needs)
     (λ c. search needs)
-    returns)
+    (λ c. (cc, cc)))

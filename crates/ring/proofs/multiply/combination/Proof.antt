@@ -1,3 +1,4 @@
+-- u x is reduced first, so that the sum fits 32 bits: q + 2^16 + 65535^2 at most.
 use Prim.Native.Nat.{_*_, _≤_}
 use native.Mathlib.Nat.{mul-le-mul}
 use native.Mathlib.Omega.{arith}

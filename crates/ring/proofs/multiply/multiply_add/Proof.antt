@@ -1,55 +1,56 @@
-use mathlib.Core.Path.{_≡_, sym, ap, ap₂, _∙_}
+-- Turn by turn one more pair of f g is added to s, with the constant that FIPS 203 gives it.
+use mathlib.Core.Path.{_≡_, ap, _∙_}
 use mathlib.Core.List.{List}
-use Prim.Native.Nat.{ℕ, _+_, _-_, _*_, _%_, _<_, _≤_}
+use Prim.Native.Nat.{ℕ, _-_}
 use native.Mathlib.Omega.{arith}
-use lib.ListN.{length, getD}
-use Rattle.words.specs.Residue.{q}
+use lib.ListN.{getD}
 use Rattle.words.specs.Tab.{tab, getD-tab}
-use Rattle.words.specs.Fill.{Replaced, replaced-start, replaced-turn, replaced-end}
-use Rattle.ring.specs.Polynomial.{add}
-use Rattle.ring.specs.Transform.{gamma, multiplyNtts}
-use Rattle.ring.specs.MultiplyLaws.{getD-multiplyNtts-even, getD-multiplyNtts-odd}
-use Rattle.ring.proofs.Powers.{gammas, gammas-tab}
+use Rattle.ring.specs.Transform.{gamma}
+use Rattle.ring.proofs.Powers.{zetas-tab}
+use Rattle.ring.proofs.Products.{Added, added-start, added-turn, added-end}
 use Rattle.ring.proofs.multiply.multiply_add.Statement.{statement}
 use Rattle.ring.proofs.multiply.multiply_add.Tie as tie
 
--- coefficient k of s + f g
-abbrev sumAt : List ℕ → List ℕ → List ℕ → ℕ → ℕ
-sumAt s f g k = (getD s k 0 + getD (multiplyNtts f g) k 0) % q
-
+-- i pairs added
 abbrev Inv-loop : tie.InvT-loop
-Inv-loop s₀ f g gammas i₀ s i = (gammas ≡ tab 128 gamma) × (length s ≡ 256) × (i ≤ 128) × Replaced 256 (sumAt s₀ f g) 0 s₀ (2 * i) s
+Inv-loop s₀ f g gammas i₀ s i = (gammas ≡ tab 128 gamma) × Added f g s₀ i s
 
 abbrev μ-loop : tie.MeasureT-loop
 μ-loop s₀ f g gammas i₀ s i = 128 - i
 
-loop-holds : tie.Need-loop-holds Inv-loop μ-loop
-unfolding gammas
-loop-holds c = (gammas-tab, omega arith, omega arith, replaced-start (omega arith))
+-- ---- places: where the constants are made, the function's start, and the loop's head from the end of a turn
+
+abbrev made : tie.At-loop Inv-loop μ-loop → tie.After-gammas-of Inv-loop μ-loop
+made c = c .before .before
+
+abbrev entered : tie.After-gammas-of Inv-loop μ-loop → tie.After-shared-slice-known2 Inv-loop μ-loop
+entered c = c .before .before .before
+
+abbrev start : tie.After-shared-slice-known2 Inv-loop μ-loop → tie.Start Inv-loop μ-loop
+start c = c .before .before .before
+
+abbrev turning : tie.After-base-case-multiply Inv-loop μ-loop → tie.At-loop Inv-loop μ-loop
+turning c = c .before .before .before
+
+-- ---- facts
 
 base-case-multiply-requires : tie.Need-base-case-multiply-requires Inv-loop μ-loop
 base-case-multiply-requires c κs =
-    let a = c .before .before .loop in
-    (omega arith, omega arith, omega arith, ap (λ (l : List ℕ). getD l (a .i) 0) (a .inv .0) ∙ getD-tab 128 gamma (a .i) 0 (omega arith))
+    let a = c .before .before .loop in (
+      omega arith,
+      omega arith,
+      omega arith,
+      ap (λ (l : List ℕ). getD l (a .i) 0) (a .inv .0) ∙ getD-tab 128 gamma (a .i) 0 (omega arith),
+    )
 
 loop-again : tie.Need-loop-again Inv-loop μ-loop
 loop-again c =
-    let a = c .before .before .before .before .before .loop in
-    let s = c .before .before .before .before .before .before .before .before .before .args in
-    let n = a .i in
-    let h : n < 128 = omega arith in
-    let r = a .inv .3 in
-    let add-at : ℕ → ℕ → ℕ = λ x y. (x + y) % q in
-    let even = ap₂ add-at (r .rest (2 * n) (omega arith)) (sym (getD-multiplyNtts-even (s .f .now) (s .g .now) n h (omega arith))) in
-    let odd = ap₂ add-at (r .rest (2 * n + 1) (omega arith)) (sym (getD-multiplyNtts-odd (s .f .now) (s .g .now) n h (omega arith))) in
-    let e : 2 * (n + 1) ≡ 2 * n + 1 + 1 = omega arith in
-    (a .inv .0, omega arith, omega arith, rw (c .before .before .base-case-multiply .ensures, e) (replaced-turn (replaced-turn r (omega arith) even) (omega arith) odd))
+    let added = c .before .before in
+    let a = turning added .loop in
+    (a .inv .0, rw (added .base-case-multiply .ensures) (added-turn (a .inv .1) (omega arith)))
 
 returns : tie.Need-returns Inv-loop μ-loop
-unfolding add
-returns c =
-    let s = c .before .before .before .before .before .args in
-    replaced-end (c .before .loop .inv .3) (omega arith) ∙ ap (λ (n : ℕ). tab n (sumAt (s .s .now) (s .f .now) (s .g .now))) (omega arith)
+returns c = added-end (c .before .loop .inv .1) (start (entered (made (c .before))) .pre .0) (omega arith)
 
 pub multiply-add-spec : {M : Type 1} → statement M
 multiply-add-spec =
@@ -57,7 +58,10 @@ multiply-add-spec =
     (tie.spec
     Inv-loop
     μ-loop
-    loop-holds
+    (λ c. omega arith)
+    (λ c. omega arith)
+    (λ c κs. (zetas-tab, omega arith))
+    (λ c. (c .before .gammas-of .ensures, added-start (omega arith)))
     (λ c. omega arith)
     (λ c. omega arith)
     base-case-multiply-requires

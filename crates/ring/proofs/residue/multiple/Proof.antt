@@ -1,4 +1,6 @@
-use Prim.Native.Nat.{_≤_}
+-- Shoup's estimate is the product's quotient or one less, so what is left is below 2 q, and one subtraction of q
+-- reduces it.
+use Prim.Native.Nat.{_*_, _≤_}
 use native.Mathlib.Nat.{mul-le-mul}
 use native.Mathlib.Omega.{arith}
 use borrow.Author.Needs.{needs}
@@ -6,23 +8,18 @@ use Rattle.ring.proofs.Shoup.{shoup}
 use Rattle.ring.proofs.residue.multiple.Statement.{statement}
 use Rattle.ring.proofs.residue.multiple.Tie as tie
 
-mul-estimate : tie.Need-mul-estimate
-mul-estimate c =
+-- a product of two 16-bit numbers
+wx : (c : tie.Start) → c .args .w * c .args .x ≤ 65535 * 65535
+wx c =
     let h : c .args .w ≤ 65535 = omega arith in
     let k : c .args .x ≤ 65535 = omega arith in
-    omega (arith, mul-le-mul h k)
+    mul-le-mul h k
 
-mul-low-difference : tie.Need-mul-low-difference
-mul-low-difference c =
+zx : (c : tie.Start) → c .args .z * c .args .x ≤ 65535 * 65535
+zx c =
     let h : c .args .z ≤ 65535 = omega arith in
     let k : c .args .x ≤ 65535 = omega arith in
-    omega (arith, mul-le-mul h k)
-
-mul-low-difference-2 : tie.Need-mul-low-difference-2
-mul-low-difference-2 c =
-    let h : c .args .w ≤ 65535 = omega arith in
-    let k : c .args .x ≤ 65535 = omega arith in
-    omega (arith, mul-le-mul h k)
+    mul-le-mul h k
 
 low-difference-requires : tie.Need-low-difference-requires
 low-difference-requires c κs =
@@ -37,4 +34,10 @@ reduce-once-requires c κs =
 pub multiple-spec : {M : Type 1} → statement M
 multiple-spec =
     tie.close
-    (tie.spec mul-estimate mul-low-difference mul-low-difference-2 low-difference-requires reduce-once-requires (λ c. search needs))
+    (tie.spec
+    (λ c. omega (arith, wx c))
+    (λ c. omega (arith, zx c))
+    (λ c. omega (arith, wx c))
+    low-difference-requires
+    reduce-once-requires
+    (λ c. search needs))

@@ -1,3 +1,4 @@
+-- A product of two 16-bit numbers fits 32 bits.
 use Prim.Native.Nat.{_≤_}
 use native.Mathlib.Nat.{mul-le-mul}
 use native.Mathlib.Omega.{arith}

@@ -1,3 +1,4 @@
+-- 20159 / 2^26 is so near to 1 / q that below 2^17 the estimate is the quotient itself.
 use mathlib.Core.Path.{_≡_}
 use Prim.Native.Nat.{_*_, _/_, _^_}
 use native.Mathlib.Omega.{arith}

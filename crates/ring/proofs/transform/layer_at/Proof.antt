@@ -1,52 +1,61 @@
-use mathlib.Core.Path.{_≡_, refl, ap, _∙_}
-use Prim.Native.Nat.{ℕ, _+_, _-_, _*_}
-use native.Mathlib.Nat.{mul-le-mul-right}
+-- One block a turn, each with the root that the table holds for it, by the law of layers that the transform and its
+-- inverse share.
+use mathlib.Core.Path.{_≡_, ap, _∙_}
+use Prim.Native.Nat.{_+_, _-_, _*_, _≤_}
 use native.Mathlib.Omega.{arith}
 use lib.ListN.{length}
 use Rattle.words.specs.Tab.{length-tab}
-use Rattle.words.specs.Iterate.{Reached, reached-start, reached-turn, reached-end}
 use Rattle.ring.specs.Transform.{zeta, block, layer}
-use Rattle.ring.proofs.Powers.{root, root-below}
+use Rattle.ring.proofs.Powers.{root-below}
+use Rattle.ring.proofs.Layers.{Layered, layered-start, layered-turn, layered-end, block-fits}
 use Rattle.ring.proofs.transform.layer_at.Statement.{statement}
 use Rattle.ring.proofs.transform.layer_at.Tie as tie
 
+-- b blocks done
 abbrev Inv-loop : tie.InvT-loop
-Inv-loop f₀ zetas k len b₀ f b =
-    (length zetas ≡ 128) × (length f ≡ length f₀) × Reached k (λ b. block (zeta (k + b)) len (b * (2 * len))) f₀ b f
+Inv-loop f₀ zetas k len b₀ f b = (length zetas ≡ 128) × Layered block (λ b. k + b) k len f₀ b f
 
 abbrev μ-loop : tie.MeasureT-loop
 μ-loop f₀ zetas k len b₀ f b = k - b
 
-loop-holds : tie.Need-loop-holds Inv-loop μ-loop
-loop-holds c = (ap length (c .before .before .pre .3) ∙ length-tab 128 zeta, refl, reached-start)
+-- ---- places: the function's start from the loop's head, the head from where a block's root is read, a block's end
 
-mul-block-at-3 : tie.Need-mul-block-at-3 Inv-loop μ-loop
-mul-block-at-3 c =
-    omega (arith, mul-le-mul-right (2 * c .before .before .before .before .before .before .args .len) (c .before .before .loop-test .taken))
+abbrev start : tie.At-loop Inv-loop μ-loop → tie.Start Inv-loop μ-loop
+start c = c .before .before .before
+
+abbrev reading : tie.After-shared-slice-known2 Inv-loop μ-loop → tie.At-loop Inv-loop μ-loop
+reading c = c .before .before .before
+
+abbrev done : tie.After-slice-known2 Inv-loop μ-loop → tie.After-block-at Inv-loop μ-loop
+done c = c .before .before
+
+-- ---- facts
+
+inside : (c : tie.After-shared-slice-known2 Inv-loop μ-loop)
+    → reading c .loop .b * (2 * start (reading c) .args .len) + 2 * start (reading c) .args .len
+    ≤ length (start (reading c) .args .f .now)
+inside c =
+    let s = start (reading c) in
+    block-fits (s .args .k) (s .args .len) (reading c .loop .b) (s .pre .0) (c .before .before .loop-test .taken)
 
 block-at-requires : tie.Need-block-at-requires Inv-loop μ-loop
 block-at-requires c κs =
-    let s = c .before .before .before .before .before .before in
-    let a = c .before .before .before .loop in (
-      omega (arith, mul-le-mul-right (2 * s .args .len) (c .before .before .loop-test .taken)),
-      root-below (s .pre .3) (s .args .k + a .b) (omega arith),
-    )
+    let head = reading c in
+    let s = start head in
+    (omega (arith, inside c), root-below (s .pre .3) (s .args .k + head .loop .b) (omega arith))
 
 loop-again : tie.Need-loop-again Inv-loop μ-loop
 loop-again c =
-    let a = c .before .before .before .before .before .before .loop in
-    let s = c .before .before .before .before .before .before .before .before .before in
-    let i = s .args .k + a .b in
-    let e = root (s .pre .3) i (omega arith) in (
+    let blocked = done c in
+    let head = reading (blocked .before) in (
       omega arith,
-      omega arith,
-      reached-turn (a .inv .2) (omega arith)
-          (c .before .before .block-at .ensures ∙ ap (λ (z : ℕ). block z (s .args .len) (a .b * (2 * s .args .len)) (a .f)) e),
+      layered-turn (start head .pre .3) (head .loop .inv .1) (omega arith) (omega arith) (omega arith)
+          (blocked .block-at .ensures),
     )
 
 returns : tie.Need-returns Inv-loop μ-loop
 unfolding layer
-returns c = reached-end (c .before .loop .inv .2) (omega arith)
+returns c = layered-end (c .before .loop .inv .1) (omega arith)
 
 pub layer-at-spec : {M : Type 1} → statement M
 layer-at-spec =
@@ -54,12 +63,12 @@ layer-at-spec =
     (tie.spec
     Inv-loop
     μ-loop
-    loop-holds
+    (λ c. (ap length (c .before .before .pre .3) ∙ length-tab 128 zeta, layered-start))
     (λ c. omega arith)
     (λ c. omega arith)
     (λ c. omega arith)
     (λ c. omega arith)
-    mul-block-at-3
+    (λ c. omega (arith, inside c))
     block-at-requires
     (λ c. omega arith)
     (λ c. omega arith)

@@ -1,3 +1,4 @@
+-- Both branches give the glyph of io's definition, which goes by the same test.
 use borrow.Author.Needs.{needs}
 use borrow.Author.Tests.{lt-ltb, le-ltb}
 use Rattle.text.proofs.hex.glyph.Statement.{statement}

@@ -1,3 +1,4 @@
+-- Place i takes digit i, so that after the last turn all digits are there.
 use Prim.Native.Nat.{_-_, _*_}
 use mathlib.Core.Path.{_≡_}
 use native.Mathlib.Omega.{arith}
@@ -7,6 +8,7 @@ use Rattle.text.specs.Hex.{hex, digitAt}
 use Rattle.text.proofs.hex.spell.Statement.{statement}
 use Rattle.text.proofs.hex.spell.Tie as tie
 
+-- i digits are written
 abbrev Inv-loop : tie.InvT-loop
 Inv-loop b out₀ i₀ i-end out i = (i-end ≡ 2 * length b) × Filled (2 * length b) (digitAt b) i out
 
@@ -28,6 +30,6 @@ spell-spec =
     (λ c. omega arith)
     (λ c. omega arith)
     (λ c. omega arith)
-    (λ c. (c .before .before .loop .inv .0, filled-turn (c .before .before .loop .inv .1) (omega arith) (c .digit .ensures)))
+    (λ c. let inv = c .before .before .loop .inv in (inv .0, filled-turn (inv .1) (omega arith) (c .digit .ensures)))
     (λ c. omega arith)
     returns)

@@ -1,3 +1,4 @@
+-- Share 0's complement is the one entry, and share 1 goes through as it is.
 use Rattle.worksheet.specs.Gates.{maskedNot}
 use Rattle.worksheet.specs.Ran.{bind, over}
 use Rattle.worksheet.proofs.gates.masked_not.Statement.{statement}

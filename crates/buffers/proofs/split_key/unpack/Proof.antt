@@ -1,0 +1,102 @@
+-- Each call reads its own part of the string into its own buffer, and no later one touches that buffer.
+use borrow.Author.Needs.{needs}
+use native.Mathlib.Omega.{arith}
+use lib.ListN.{take, drop}
+use Rattle.words.specs.Part.{length-part}
+use Rattle.buffers.specs.LittleEndian.{numbers-sized}
+use Rattle.buffers.proofs.split_key.unpack.Statement.{statement}
+use Rattle.buffers.proofs.split_key.unpack.Tie as tie
+
+-- ---- places, from the end back: where a buffer is read and where its part is lent
+
+abbrev public-read : tie.After-slice-known10 → tie.After-copy-bytes
+public-read c = c .before .before
+
+abbrev public-lent : tie.After-copy-bytes-arg2 → tie.After-slice-known9
+public-lent c = c .before .before
+
+abbrev z1-read : tie.After-slice-known9 → tie.After-get-words2
+z1-read c = c .before .before
+
+abbrev z1-lent : tie.After-get-words2 → tie.After-slice-known8
+z1-lent c = c .before .before .before
+
+abbrev z0-read : tie.After-slice-known8 → tie.After-get-words
+z0-read c = c .before .before
+
+abbrev z0-lent : tie.After-get-words → tie.After-slice-known7
+z0-lent c = c .before .before .before
+
+abbrev s1-read : tie.After-slice-known7 → tie.After-get-coefficients2
+s1-read c = c .before .before
+
+abbrev s1-lent : tie.After-get-coefficients2 → tie.After-slice-known6
+s1-lent c = c .before .before .before
+
+abbrev s0-read : tie.After-slice-known6 → tie.After-get-coefficients
+s0-read c = c .before .before
+
+abbrev s0-lent : tie.After-get-coefficients → tie.After-slice-known5
+s0-lent c = c .before .before .before
+
+abbrev known : tie.After-slice-known5 → tie.After-slice-known2
+known c = c .before .before .before
+
+abbrev start : tie.After-slice-known2 → tie.Start
+start c = c .before .before .before
+
+-- ---- facts
+
+copy-bytes-requires : tie.Need-copy-bytes-requires
+copy-bytes-requires c κs =
+    let s0 = s0-read (s1-lent (s1-read (z0-lent (z0-read (z1-lent (z1-read (public-lent c))))))) in
+    let s = start (known (s0-lent s0)) in
+    omega (arith, length-part 3136 1216 (s .args .b .now) (omega (arith, s .pre)), s .pre .1)
+
+returns : tie.Need-returns
+returns c =
+    let z1 = z1-read (public-lent (public-read c .before)) in
+    let z0 = z0-read (z1-lent z1) in
+    let s1 = s1-read (z0-lent z0) in
+    let s0 = s0-read (s1-lent s1) in
+    let s = start (known (s0-lent s0)) in
+    let b = s .args .b .now in
+    let p = s .pre .1 in
+    record {
+      secret0 = numbers-sized 2 (take 1536 b) (s0 .get-coefficients .ensures) (p .s0-long);
+      secret1 = numbers-sized 2 (take 1536 (drop 1536 b)) (s1 .get-coefficients2 .ensures) (p .s1-long);
+      reject0 = numbers-sized 8 (take 32 (drop 3072 b)) (z0 .get-words .ensures) (p .z0-long);
+      reject1 = numbers-sized 8 (take 32 (drop 3104 b)) (z1 .get-words2 .ensures) (p .z1-long);
+      public = public-read c .copy-bytes .ensures;
+    }
+
+pub unpack-spec : {M : Type 1} → statement M
+unpack-spec =
+    tie.close
+    (tie.spec
+    (λ c. search needs)
+    (λ c. search needs)
+    (λ c. search needs)
+    (λ c κs. search needs)
+    (λ c. search needs)
+    (λ c. search needs)
+    (λ c. search needs)
+    (λ c κs. search needs)
+    (λ c. search needs)
+    (λ c. search needs)
+    (λ c. search needs)
+    (λ c κs. search needs)
+    (λ c. search needs)
+    (λ c. search needs)
+    (λ c. search needs)
+    (λ c κs. search needs)
+    (λ c. search needs)
+    (λ c. search needs)
+    (λ c. search needs)
+    copy-bytes-requires
+    (λ c. search needs)
+    (λ c. search needs)
+    (λ c. search needs)
+    (λ c. search needs)
+    (λ c. search needs)
+    returns)

@@ -1,0 +1,29 @@
+-- The file of a split key.
+use mathlib.Core.Path.{_≡_}
+use mathlib.Core.List.{List, _++_}
+use Prim.Native.Nat.{ℕ}
+use lib.ListN.{length, take, drop}
+use Rattle.words.specs.LittleEndian.{wordsToBytes}
+use Rattle.buffers.specs.LittleEndian.{numbers}
+
+-- the parts of a split key have their lengths: the shares of the secret's coefficients, those of z's words,
+-- the public part
+pub record Sized (s0 s1 z0 z1 pub-h : List ℕ) : Type 0 where
+  pub s0-long : length s0 ≡ 768
+  pub s1-long : length s1 ≡ 768
+  pub z0-long : length z0 ≡ 4
+  pub z1-long : length z1 ≡ 4
+  pub public-long : length pub-h ≡ 1216
+
+-- what the file holds, in this order
+unfoldable pub splitBytes : List ℕ → List ℕ → List ℕ → List ℕ → List ℕ → List ℕ
+splitBytes s0 s1 z0 z1 pub-h =
+    (wordsToBytes 2 s0 ++ wordsToBytes 2 s1) ++ ((wordsToBytes 8 z0 ++ wordsToBytes 8 z1) ++ pub-h)
+
+-- what the file b of a split key is read into
+pub record Unpacked (b s0 s1 z0 z1 pub-h : List ℕ) : Type 0 where
+  pub secret0 : s0 ≡ numbers 2 768 (take 1536 b)
+  pub secret1 : s1 ≡ numbers 2 768 (take 1536 (drop 1536 b))
+  pub reject0 : z0 ≡ numbers 8 4 (take 32 (drop 3072 b))
+  pub reject1 : z1 ≡ numbers 8 4 (take 32 (drop 3104 b))
+  pub public : pub-h ≡ take 1216 (drop 3136 b)

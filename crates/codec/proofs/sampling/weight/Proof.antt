@@ -1,0 +1,14 @@
+-- Three digits of v to the base 2, added up, are what the definition sums.
+use native.Mathlib.Omega.{arith}
+use borrow.Author.Needs.{needs}
+use Rattle.words.specs.Numeral.{digits}
+use Rattle.codec.specs.Sample.{sum}
+use Rattle.codec.proofs.sampling.weight.Statement.{statement}
+use Rattle.codec.proofs.sampling.weight.Tie as tie
+
+returns : tie.Need-returns
+unfolding sum digits
+returns c = (omega arith, omega arith)
+
+pub weight-spec : {M : Type 1} → statement M
+weight-spec = tie.close (tie.spec (λ c. search needs) (λ c. search needs) returns)

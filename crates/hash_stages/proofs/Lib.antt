@@ -1,2 +1,0 @@
-pub mod Hashed
-pub mod Sampled

@@ -1,0 +1,47 @@
+-- Vectors of polynomials in one slice.
+use mathlib.Core.Path.{_≡_, refl, ap, _∙_}
+use mathlib.Core.List.{List}
+use Prim.Native.Nat.{ℕ, _+_, _-_, _*_, _<_}
+use native.Mathlib.Omega.{arith}
+use lib.ListN.{length, take, drop}
+use lib.Seq.{length-take-le, drop-drop}
+use Rattle.words.specs.Part.{length-part, part-take}
+use Rattle.ring.specs.Linear.{ntt-linear}
+use Rattle.ring.specs.Transform.{ntt}
+use Rattle.kpke.specs.KPke.{parts, concat, dot}
+use Rattle.kpke.specs.VectorLaws.{part-fits, parts-concat, dot-cong}
+
+-- the product with all parts of a
+pub dot-whole : (k : ℕ) (a : List ℕ) (g : ℕ → List ℕ) → dot k (λ j. parts 256 a (0 + 1 * j)) g ≡ dot k (parts 256 a) g
+dot-whole k a g = dot-cong k (λ j h. let e : 0 + 1 * j ≡ j = omega arith in ap (parts 256 a) e) (λ j h. refl)
+
+-- the transforms of the parts of y
+pub transformed-at : (k : ℕ) (y : List ℕ) {z : List ℕ} → length y ≡ 256 * k → z ≡ concat k (λ j. ntt (parts 256 y j))
+    → (j : ℕ) → j < k → parts 256 z j ≡ ntt (parts 256 y j)
+transformed-at k y l e j h =
+    let long : (i : ℕ) → i < k → length (parts 256 y i) ≡ 256 =
+    λ i g. length-part (256 * i) 256 y (omega (arith, part-fits 256 g)) in
+    ap (λ (t : List ℕ). parts 256 t j) e
+    ∙ parts-concat (record { long = λ i g. ntt-linear .long (parts 256 y i) (long i g) }) j h
+
+-- ---- the noise y, e1 and e2 in one slice, 2 k + 1 polynomials
+
+module _ (k : ℕ) (n : List ℕ) (e : length n ≡ 256 * k + 256 * k + 256) where
+  -- y, transformed in another slice
+  pub y-at : {z : List ℕ} → z ≡ concat k (λ j. ntt (parts 256 (take (256 * k) n) j)) → (j : ℕ) → j < k
+      → parts 256 z j ≡ ntt (parts 256 n j)
+  y-at h j g =
+      transformed-at k (take (256 * k) n) (length-take-le (256 * k) n (omega arith)) h j g
+      ∙ ap ntt (part-take (256 * j) 256 (256 * k) n (part-fits 256 g))
+
+  pub e1-at : (i : ℕ) → i < k → parts 256 (take (256 * k) (drop (256 * k) n)) i ≡ parts 256 n (k + i)
+  e1-at i g =
+      part-take (256 * i) 256 (256 * k) (drop (256 * k) n) (part-fits 256 g)
+      ∙ ap (take 256) (drop-drop (256 * i) (256 * k) n)
+      ∙ ap (λ (x : ℕ). take 256 (drop x n)) {x = 256 * k + 256 * i} {y = 256 * (k + i)} (omega arith)
+
+  pub e2-at : take (length n - (256 * k + 256 * k)) (drop (256 * k + 256 * k) n) ≡ parts 256 n (2 * k)
+  e2-at =
+      let a : length n - (256 * k + 256 * k) ≡ 256 = omega arith in
+      let b : 256 * k + 256 * k ≡ 256 * (2 * k) = omega arith in
+      rw (a, b)

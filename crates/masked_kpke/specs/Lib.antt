@@ -1,0 +1,4 @@
+pub mod Slices
+pub mod SliceLaws
+pub mod Passes
+pub mod Encryption

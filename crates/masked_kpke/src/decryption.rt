@@ -1,0 +1,128 @@
+// Stages 1 and 2: masked decryption.
+ghost use mathlib.Core.List.{map};
+ghost use mathlib.Core.Path.{_≡_};
+ghost use Prim.Native.Nat.{_*_, _<_, _≤_};
+ghost use lib.ListN.{length};
+ghost use Rattle.codec.specs.Bytes.{byteDecode};
+ghost use Rattle.codec.specs.Compress.{decompress};
+ghost use Rattle.ring.specs.Polynomial.{sub};
+ghost use Rattle.ring.specs.Transform.{ntt as nttOf, inverseNtt};
+ghost use Rattle.worksheet.specs.Prog.{word};
+ghost use Rattle.worksheet.specs.Ran.{Makes, Draws};
+ghost use Rattle.worksheet.specs.SharedList.{sharedList};
+ghost use Rattle.kpke.specs.Parameters.{mlKem768};
+ghost use Rattle.kpke.specs.KPke.{parts, concat, dot as dotOf, firstDecoded, secondDecoded};
+ghost use Rattle.stages.specs.Worksheet.{stage1 as stage1Of, maskedDecrypt};
+ghost use Rattle.masked_kpke.specs.Slices.{Long, Residues};
+use crate::compression::stage2;
+use crate::passes::enter_both;
+use codec::byte_decode;
+use codec::decompress_all;
+use kpke::vector::clear;
+use kpke::vector::dot;
+use kpke::vector::ntt_all;
+use ring::inverse_ntt;
+use ring::sub_from;
+use worksheet::Recorder;
+
+// The polynomial that b holds at depth d.
+fn decoded(b: &[u8], d: u32, f: &mut [u16])
+    requires { ⌜ (length (now b) ≡ 32 * d) × (0 < d) × (d ≤ 11) × (length (now f) ≡ 256) ⌝ }
+    ensures { λ _. ⌜ now (f .exit) ≡ map (decompress d) (byteDecode d (now (b .entry))) ⌝ }
+{
+    byte_decode(b, d, f);
+    decompress_all(f, d);
+}
+
+// The k polynomials that b holds.
+fn decoded_all(b: &[u8], d: u32, k: usize, u: &mut [u16])
+    requires { ⌜ (length (now b) ≡ 32 * d * k) × (0 < d) × (d ≤ 11) × (length (now u) ≡ 256 * k) ⌝ }
+    ensures { λ _. ⌜
+        now (u .exit) ≡ concat k (λ i. map (decompress d) (byteDecode d (parts (32 * d) (now (b .entry)) i))) ⌝ }
+{
+    let n = 32 * (d as usize);
+    for i in 0..k {
+        let a = 256 * i;
+        let e = a + 256;
+        let s = n * i;
+        let se = s + n;
+        decoded(&b[s..se], d, &mut u[a..e]);
+    }
+}
+
+// The transforms of the polynomials that the ciphertext's first part holds.
+fn transformed_first(c: &[u8], u: &mut [u16])
+    requires { ⌜ (length (now c) ≡ 1088) × (length (now u) ≡ 768) ⌝ }
+    ensures { λ _. ⌜ now (u .exit) ≡ concat 3 (λ i. nttOf (firstDecoded mlKem768 (now (c .entry)) i)) ⌝ }
+{
+    decoded_all(&c[0..960], 10, 3, u);
+    ntt_all(u, 3);
+}
+
+// The polynomial that the ciphertext's second part holds.
+fn decoded_second(c: &[u8], v: &mut [u16])
+    requires { ⌜ (length (now c) ≡ 1088) × (length (now v) ≡ 256) ⌝ }
+    ensures { λ _. ⌜ now (v .exit) ≡ secondDecoded mlKem768 (now (c .entry)) ⌝ }
+{
+    decoded(&c[960..], 4, v);
+}
+
+// A pass on one share: its product with u, transformed back, is taken from w.
+fn take_product(s: &[u16], u: &[u16], w: &mut [u16])
+    requires { ⌜ (length (now s) ≡ 768) × (length (now u) ≡ 768) × (length (now w) ≡ 256) ⌝ }
+    ensures { λ _. ⌜
+        now (w .exit)
+        ≡ sub (now (w .entry)) (inverseNtt (dotOf 3 (parts 256 (now (s .entry))) (parts 256 (now (u .entry))))) ⌝ }
+{
+    let mut f = [0u16; 256];
+    dot(s, 0, 1, u, 3, &mut f);
+    inverse_ntt(&mut f);
+    sub_from(w, &f);
+}
+
+// The noisy message.
+fn stage1(
+    rec: Recorder,
+    s0: &[u16],
+    s1: &[u16],
+    c: &[u8],
+    w0: &mut [u16],
+    w1: &mut [u16],
+) -> Recorder
+    requires { ⌜
+        Long 768 (sharedList (now s0) (now s1)) × (length (now c) ≡ 1088) × Long 256 (sharedList (now w0) (now w1)) ⌝ }
+    ensures { λ r. ⌜
+        Makes (stage1Of mlKem768 (sharedList (now (s0 .entry)) (now (s1 .entry))) (now (c .entry)))
+        rec (sharedList (now (w0 .exit)) (now (w1 .exit))) r ⌝ }
+    ensures { λ _. ⌜ Residues 256 (sharedList (now (w0 .exit)) (now (w1 .exit))) ⌝ }
+{
+    let mut u = [0u16; 768];
+    transformed_first(c, &mut u);
+    decoded_second(c, w0);
+    take_product(s0, &u, w0);
+    clear(w1);
+    take_product(s1, &u, w1);
+    enter_both(rec, w0, w1)
+}
+
+// m', four words.
+pub fn masked_decrypt(
+    rec: Recorder,
+    s0: &[u16],
+    s1: &[u16],
+    c: &[u8],
+    ws: &[u64],
+    m0: &mut [u64],
+    m1: &mut [u64],
+) -> Recorder
+    requires { ⌜ Long 768 (sharedList (now s0) (now s1)) × (length (now c) ≡ 1088) ⌝ }
+    requires { ⌜ (164 ≤ length (now ws)) × Long 4 (sharedList (now m0) (now m1)) ⌝ }
+    ensures { λ r. ⌜
+        Draws word 164 (maskedDecrypt mlKem768 (sharedList (now (s0 .entry)) (now (s1 .entry))) (now (c .entry)))
+        rec (now (ws .entry)) (sharedList (now (m0 .exit)) (now (m1 .exit))) r ⌝ }
+{
+    let mut w0 = [0u16; 256];
+    let mut w1 = [0u16; 256];
+    let rec = stage1(rec, s0, s1, c, &mut w0, &mut w1);
+    stage2(rec, &w0, &w1, ws, m0, m1)
+}

@@ -1,0 +1,76 @@
+// Stages 4 to 7: masked encryption.
+ghost use Prim.Native.Nat.{_≤_};
+ghost use lib.ListN.{length, drop};
+ghost use Rattle.worksheet.specs.Prog.{word};
+ghost use Rattle.worksheet.specs.Ran.{Ran, Draws};
+ghost use Rattle.worksheet.specs.SharedList.{sharedList, zip};
+ghost use Rattle.kpke.specs.Parameters.{mlKem768};
+ghost use Rattle.stages.specs.Worksheet.{maskedEncrypt};
+ghost use Rattle.stages.specs.Layout.{polynomials};
+ghost use Rattle.masked_kpke.specs.Encryption.{encryptWith};
+ghost use Rattle.masked_kpke.specs.Slices.{Long, Masks, Key};
+use crate::compression::stage7;
+use crate::message::stage4;
+use crate::noise::stage5;
+use crate::reencryption::stage6;
+use worksheet::Recorder;
+
+// Stages 6 and 7, for the matrix a and the noise n0, n1.
+fn encrypt_with(
+    rec: Recorder,
+    a: &[u16],
+    ek: &[u8],
+    n0: &[u16],
+    n1: &[u16],
+    mu0: &[u16],
+    mu1: &[u16],
+    ws: &[u64],
+    w0: &mut [u64],
+    w1: &mut [u64],
+) -> Recorder
+    requires { ⌜ Key (now ek) (now a) × Long 1792 (sharedList (now n0) (now n1)) × (1016 ≤ length (now ws)) ⌝ }
+    requires { ⌜ Long 256 (sharedList (now mu0) (now mu1)) × Long 136 (sharedList (now w0) (now w1)) ⌝ }
+    ensures { λ r. ⌜
+        Draws word 1016
+        (encryptWith mlKem768 (now (ek .entry)) (polynomials 7 (sharedList (now (n0 .entry)) (now (n1 .entry))))
+        (sharedList (now (mu0 .entry)) (now (mu1 .entry))))
+        rec (now (ws .entry)) (zip 136 (sharedList (now (w0 .exit)) (now (w1 .exit)))) r ⌝ }
+{
+    let mut uv0 = [0u16; 1024];
+    let mut uv1 = [0u16; 1024];
+    let rec = stage6(rec, a, ek, n0, n1, mu0, mu1, &mut uv0, &mut uv1);
+    stage7(rec, &uv0, &uv1, ws, w0, w1)
+}
+
+// The planes of the ciphertext of m0, m1 under the coins r0, r1, for the matrix a.
+pub fn masked_encrypt(
+    rec: Recorder,
+    a: &[u16],
+    ek: &[u8],
+    m0: &[u64],
+    m1: &[u64],
+    r0: &[u64],
+    r1: &[u64],
+    ws: &[u64],
+    cs: &[u16],
+    w0: &mut [u64],
+    w1: &mut [u64],
+) -> Recorder
+    requires { ⌜
+        Key (now ek) (now a) × Long 4 (sharedList (now m0) (now m1)) × Long 4 (sharedList (now r0) (now r1)) ⌝ }
+    requires { ⌜ (5391 ≤ length (now ws)) × Masks 7424 (now cs) × Long 136 (sharedList (now w0) (now w1)) ⌝ }
+    ensures { λ r. ⌜
+        Ran
+        (maskedEncrypt mlKem768 (now (ek .entry)) (sharedList (now (m0 .entry)) (now (m1 .entry)))
+        (sharedList (now (r0 .entry)) (now (r1 .entry))))
+        rec (now (ws .entry)) (now (cs .entry)) (zip 136 (sharedList (now (w0 .exit)) (now (w1 .exit))))
+        r (drop 5391 (now (ws .entry))) (drop 7424 (now (cs .entry))) ⌝ }
+{
+    let mut mu0 = [0u16; 256];
+    let mut mu1 = [0u16; 256];
+    let mut n0 = [0u16; 1792];
+    let mut n1 = [0u16; 1792];
+    let rec = stage4(rec, m0, m1, cs, &mut mu0, &mut mu1);
+    let rec = stage5(rec, r0, r1, ws, &cs[256..], &mut n0, &mut n1);
+    encrypt_with(rec, a, ek, &n0, &n1, &mu0, &mu1, &ws[4375..], w0, w1)
+}

@@ -1,0 +1,117 @@
+// Stage 6: re-encryption, share by share.
+ghost use mathlib.Core.Path.{_≡_};
+ghost use Prim.Native.Nat.{_*_, _<_};
+ghost use lib.ListN.{length};
+ghost use Rattle.ring.specs.Transform.{ntt};
+ghost use Rattle.worksheet.specs.Ran.{Makes};
+ghost use Rattle.worksheet.specs.SharedList.{sharedList};
+ghost use Rattle.kpke.specs.Parameters.{mlKem768};
+ghost use Rattle.kpke.specs.KPke.{parts, concat};
+ghost use Rattle.kpke.specs.Expanded.{placesOf};
+ghost use Rattle.stages.specs.Worksheet.{stage6 as stage6Of};
+ghost use Rattle.stages.specs.Layout.{polynomials};
+ghost use Rattle.masked_kpke.specs.Passes.{uPass, vPass, uvPass};
+ghost use Rattle.masked_kpke.specs.Slices.{Long, Residues, Key};
+use crate::passes::enter_polynomials;
+use kpke::copy::copy_coefficients;
+use kpke::vector::decode12_all;
+use kpke::vector::dot;
+use kpke::vector::ntt_all;
+use ring::add_to;
+use ring::inverse_ntt;
+use worksheet::Recorder;
+
+fn transformed(y: &[u16], k: usize, z: &mut [u16])
+    requires { ⌜ (length (now y) ≡ 256 * k) × (length (now z) ≡ 256 * k) ⌝ }
+    ensures { λ _. ⌜ now (z .exit) ≡ concat k (λ j. ntt (parts 256 (now (y .entry)) j)) ⌝ }
+{
+    copy_coefficients(y, z);
+    ntt_all(z, k);
+}
+
+// Row i of u, for the matrix a, the transformed y and row i of e1.
+fn u_pass(a: &[u16], y: &[u16], e1: &[u16], k: usize, i: usize, u: &mut [u16])
+    requires { ⌜
+        (length (now a) ≡ 256 * k * k) × (length (now y) ≡ 256 * k) × (length (now e1) ≡ 256) × (i < k)
+        × (length (now u) ≡ 256) ⌝ }
+    ensures { λ _. ⌜
+        now (u .exit) ≡ uPass k (placesOf k (now (a .entry))) (parts 256 (now (y .entry))) (now (e1 .entry)) i ⌝ }
+{
+    dot(a, i, k, y, k, u);
+    inverse_ntt(u);
+    add_to(u, e1);
+}
+
+fn u_passes(a: &[u16], y: &[u16], e1: &[u16], k: usize, u: &mut [u16])
+    requires { ⌜
+        (length (now a) ≡ 256 * k * k) × (length (now y) ≡ 256 * k) × (length (now e1) ≡ 256 * k)
+        × (length (now u) ≡ 256 * k) ⌝ }
+    ensures { λ _. ⌜
+        now (u .exit)
+        ≡ concat k (λ i.
+        uPass k (placesOf k (now (a .entry))) (parts 256 (now (y .entry))) (parts 256 (now (e1 .entry)) i) i) ⌝ }
+{
+    for i in 0..k {
+        let s = 256 * i;
+        let e = s + 256;
+        u_pass(a, y, &e1[s..e], k, i, &mut u[s..e]);
+    }
+}
+
+fn v_pass(t: &[u16], y: &[u16], e2: &[u16], mu: &[u16], k: usize, v: &mut [u16])
+    requires { ⌜
+        (length (now t) ≡ 256 * k) × (length (now y) ≡ 256 * k) × (length (now e2) ≡ 256) × (length (now mu) ≡ 256)
+        × (length (now v) ≡ 256) ⌝ }
+    ensures { λ _. ⌜
+        now (v .exit)
+        ≡ vPass k (parts 256 (now (t .entry))) (parts 256 (now (y .entry))) (now (e2 .entry)) (now (mu .entry)) ⌝ }
+{
+    dot(t, 0, 1, y, k, v);
+    inverse_ntt(v);
+    add_to(v, e2);
+    add_to(v, mu);
+}
+
+// A pass on one share, of which n holds y, e1 and e2: u, then v.
+fn uv_pass(a: &[u16], t: &[u16], n: &[u16], mu: &[u16], uv: &mut [u16])
+    requires { ⌜
+        (length (now a) ≡ 2304) × (length (now t) ≡ 768) × (length (now n) ≡ 1792) × (length (now mu) ≡ 256)
+        × (length (now uv) ≡ 1024) ⌝ }
+    ensures { λ _. ⌜
+        now (uv .exit)
+        ≡ uvPass 3 (placesOf 3 (now (a .entry))) (parts 256 (now (t .entry))) (parts 256 (now (n .entry)))
+        (now (mu .entry)) ⌝ }
+{
+    let mut y = [0u16; 768];
+    transformed(&n[0..768], 3, &mut y);
+    u_passes(a, &y, &n[768..1536], 3, &mut uv[0..768]);
+    v_pass(t, &y, &n[1536..], mu, 3, &mut uv[768..]);
+}
+
+// u and v, for the matrix a.
+pub fn stage6(
+    rec: Recorder,
+    a: &[u16],
+    ek: &[u8],
+    n0: &[u16],
+    n1: &[u16],
+    mu0: &[u16],
+    mu1: &[u16],
+    uv0: &mut [u16],
+    uv1: &mut [u16],
+) -> Recorder
+    requires { ⌜ Key (now ek) (now a) × Long 1792 (sharedList (now n0) (now n1)) ⌝ }
+    requires { ⌜ Long 256 (sharedList (now mu0) (now mu1)) × Long 1024 (sharedList (now uv0) (now uv1)) ⌝ }
+    ensures { λ r. ⌜
+        Makes
+        (stage6Of mlKem768 (now (ek .entry)) (polynomials 7 (sharedList (now (n0 .entry)) (now (n1 .entry))))
+        (sharedList (now (mu0 .entry)) (now (mu1 .entry))))
+        rec (polynomials 4 (sharedList (now (uv0 .exit)) (now (uv1 .exit)))) r ⌝ }
+    ensures { λ _. ⌜ Residues 1024 (sharedList (now (uv0 .exit)) (now (uv1 .exit))) ⌝ }
+{
+    let mut t = [0u16; 768];
+    decode12_all(&ek[0..1152], 3, &mut t);
+    uv_pass(a, &t, n0, mu0, uv0);
+    uv_pass(a, &t, n1, mu1, uv1);
+    enter_polynomials(rec, 4, uv0, uv1)
+}

@@ -1,0 +1,167 @@
+-- The words of a ciphertext's planes: two ciphertexts are equal where all these words are, and those of an encoded
+-- ciphertext are the words of the numbers that it encodes.
+use mathlib.Core.Path.{_≡_, refl, sym, ap, ap₂, _∙_}
+use mathlib.Core.List.{List, _++_, flatten}
+use Prim.Native.Nat.{ℕ, _*_, _^_, _<_}
+use native.Mathlib.Omega.{arith}
+use lib.ListN.{length, drop, take-append-drop, length-append, length-drop}
+use lib.Seq.{drop-at}
+use Rattle.words.specs.Bounded.{Below}
+use Rattle.words.specs.BoundedLaws.{below-append, below-take, below-drop}
+use Rattle.words.specs.Part.{length-part, part-append}
+use Rattle.words.specs.Tab.{tab, tab-cong}
+use Rattle.codec.specs.Bytes.{byteEncode, byteDecode}
+use Rattle.codec.specs.BytesLaws.{length-byteEncode, below-byteEncode, length-byteDecode, below-byteDecode}
+use Rattle.codec.specs.BytesLaws.{byteDecode-byteEncode, byteEncode-byteDecode}
+use Rattle.kpke.specs.Parameters.{Parameters, ctBytes}
+use Rattle.kpke.specs.KPke.{parts, concat}
+use Rattle.kpke.specs.VectorLaws.{Each, part-fits, length-concat, concat-cong, concat-parts, parts-concat}
+use Rattle.stages.specs.Worksheet.{planeWords, ciphertextWords, wordCount}
+use Rattle.meaning.specs.FlattenLaws.{flatten-tab, below-concat, length-flatten, flatten-cancel}
+use Rattle.meaning.specs.FlattenLaws.{append-cancel-front, append-cancel-back}
+use Rattle.meaning.specs.PlanesValue.{Numbers, length-planeWords, ext-planeWords}
+
+-- a string of a ciphertext's length
+pub record Ciphertext (p : Parameters) (c : List ℕ) : Type 0 where
+  pub long : length c ≡ ctBytes p
+  pub bytes : Below 256 c
+
+module _ (p : Parameters) where
+  -- the numbers that it encodes: of u, and of v
+  abbrev firstBytes : ℕ
+  firstBytes = 32 * p .du * p .k
+
+  abbrev uNumbers : List ℕ → ℕ → List ℕ
+  uNumbers c i = byteDecode (p .du) (parts (32 * p .du) c i)
+
+  abbrev vNumbers : List ℕ → List ℕ
+  vNumbers c = byteDecode (p .dv) (drop firstBytes c)
+
+  -- the words of the planes of the numbers u and v
+  unfoldable pub wordsOf : (ℕ → List ℕ) → List ℕ → List ℕ
+  wordsOf u v = flatten (tab (p .k) (λ i. planeWords (p .du) (u i))) ++ planeWords (p .dv) v
+
+  ciphertextWords-numbers : (c : List ℕ) → ciphertextWords p c ≡ wordsOf (uNumbers c) (vNumbers c)
+  unfolding ciphertextWords wordsOf
+  ciphertextWords-numbers c = refl
+
+  each-words : (u : ℕ → List ℕ) → Each (4 * p .du) (p .k) (λ i. planeWords (p .du) (u i))
+  each-words u = record { long = λ i h. length-planeWords (p .du) (u i) }
+
+  length-wordsOf : (u : ℕ → List ℕ) (v : List ℕ) → length (wordsOf u v) ≡ wordCount p
+  unfolding wordsOf
+  length-wordsOf u v =
+      length-append (flatten (tab (p .k) (λ i. planeWords (p .du) (u i)))) (planeWords (p .dv) v)
+      ∙ omega (arith, length-flatten (each-words u), length-planeWords (p .dv) v)
+
+  pub length-ciphertextWords : (c : List ℕ) → length (ciphertextWords p c) ≡ wordCount p
+  length-ciphertextWords c = ap length (ciphertextWords-numbers c) ∙ length-wordsOf (uNumbers c) (vNumbers c)
+
+  -- ---- the ciphertext that encodes the numbers u and v
+
+  unfoldable pub encoded : (ℕ → List ℕ) → List ℕ → List ℕ
+  encoded u v = concat (p .k) (λ i. byteEncode (p .du) (u i)) ++ byteEncode (p .dv) v
+
+  module _ {u : ℕ → List ℕ} {v : List ℕ}
+      (nu : (i : ℕ) → i < p .k → Numbers (p .du) (u i)) (nv : Numbers (p .dv) v) where
+    each-encoded : Each (32 * p .du) (p .k) (λ i. byteEncode (p .du) (u i))
+    each-encoded = record { long = λ i h. length-byteEncode (p .du) (u i) }
+
+    pub encoded-ciphertext : Ciphertext p (encoded u v)
+    unfolding encoded
+    encoded-ciphertext =
+        let first = concat (p .k) (λ i. byteEncode (p .du) (u i)) in
+        record {
+          long = length-append first (byteEncode (p .dv) v)
+              ∙ omega (arith, length-concat each-encoded, length-byteEncode (p .dv) v);
+          bytes = below-append first
+              (below-concat (p .k) (omega arith) (λ i h. below-byteEncode (p .du) (u i) (nu i h .long)))
+              (below-byteEncode (p .dv) v (nv .long));
+        }
+
+    uNumbers-encoded : (i : ℕ) → i < p .k → uNumbers (encoded u v) i ≡ u i
+    unfolding encoded
+    uNumbers-encoded i h =
+        ap (byteDecode (p .du))
+        (part-append (32 * p .du * i) (32 * p .du) _ _
+        (omega (arith, part-fits (32 * p .du) h, length-concat each-encoded))
+        ∙ parts-concat each-encoded i h)
+        ∙ byteDecode-byteEncode (p .du) (u i) (nu i h .long) (nu i h .below)
+
+    vNumbers-encoded : vNumbers (encoded u v) ≡ v
+    unfolding encoded
+    vNumbers-encoded =
+        ap (byteDecode (p .dv))
+        (drop-at (concat (p .k) (λ i. byteEncode (p .du) (u i))) (byteEncode (p .dv) v) firstBytes
+        (length-concat each-encoded))
+        ∙ byteDecode-byteEncode (p .dv) v (nv .long) (nv .below)
+
+    pub ciphertextWords-encoded : ciphertextWords p (encoded u v) ≡ wordsOf u v
+    unfolding ciphertextWords wordsOf
+    ciphertextWords-encoded =
+        ap₂ (λ (l m : List ℕ). l ++ m)
+        (ap flatten (tab-cong (p .k) (λ i h. ap (planeWords (p .du)) (uNumbers-encoded i h))))
+        (ap (planeWords (p .dv)) vNumbers-encoded)
+
+  -- ---- a ciphertext is the encoding of its numbers, and these are found again in its words
+
+  module _ {c : List ℕ} (a : Ciphertext p c) where
+    length-first : (i : ℕ) → i < p .k → length (parts (32 * p .du) c i) ≡ 32 * p .du
+    length-first i h =
+        length-part (32 * p .du * i) (32 * p .du) c (omega (arith, part-fits (32 * p .du) h, a .long))
+
+    length-second : length (drop firstBytes c) ≡ 32 * p .dv
+    length-second = length-drop firstBytes c ∙ omega (arith, a .long)
+
+    u-numbers : (i : ℕ) → i < p .k → Numbers (p .du) (uNumbers c i)
+    u-numbers i h =
+        record { long = length-byteDecode (p .du) _; below = below-byteDecode (p .du) _ (length-first i h) }
+
+    v-numbers : Numbers (p .dv) (vNumbers c)
+    v-numbers = record { long = length-byteDecode (p .dv) _; below = below-byteDecode (p .dv) _ length-second }
+
+    encoded-numbers : encoded (uNumbers c) (vNumbers c) ≡ c
+    unfolding encoded
+    encoded-numbers =
+        ap₂ (λ (l m : List ℕ). l ++ m)
+        (concat-cong (p .k) (λ i h.
+        byteEncode-byteDecode (p .du) _ (length-first i h)
+        (below-take (32 * p .du) (below-drop (32 * p .du * i) (a .bytes))))
+        ∙ concat-parts (32 * p .du) (p .k) c)
+        (byteEncode-byteDecode (p .dv) _ length-second (below-drop firstBytes (a .bytes)))
+        ∙ take-append-drop firstBytes c
+
+  module _ {c d : List ℕ} (a : Ciphertext p c) (b : Ciphertext p d)
+      (e : ciphertextWords p c ≡ ciphertextWords p d) where
+    -- the words of u, and of v
+    abbrev uWords : List ℕ → List ℕ
+    uWords l = flatten (tab (p .k) (λ i. planeWords (p .du) (uNumbers l i)))
+
+    abbrev vWords : List ℕ → List ℕ
+    vWords l = planeWords (p .dv) (vNumbers l)
+
+    length-uWords : length (uWords c) ≡ length (uWords d)
+    length-uWords = length-flatten (each-words (uNumbers c)) ∙ sym (length-flatten (each-words (uNumbers d)))
+
+    same-u : (i : ℕ) → i < p .k → uNumbers c i ≡ uNumbers d i
+    unfolding ciphertextWords
+    same-u i h =
+        ext-planeWords (p .du) (u-numbers a i h) (u-numbers b i h)
+        (flatten-cancel (each-words (uNumbers c)) (each-words (uNumbers d))
+        (append-cancel-front (uWords c) (uWords d) (vWords c) (vWords d) length-uWords e) i h)
+
+    same-v : vNumbers c ≡ vNumbers d
+    unfolding ciphertextWords
+    same-v =
+        ext-planeWords (p .dv) (v-numbers a) (v-numbers b)
+        (append-cancel-back (uWords c) (uWords d) (vWords c) (vWords d) length-uWords e)
+
+    same-encoded : encoded (uNumbers c) (vNumbers c) ≡ encoded (uNumbers d) (vNumbers d)
+    unfolding encoded
+    same-encoded =
+        ap₂ (λ (l m : List ℕ). l ++ m)
+        (concat-cong (p .k) (λ i h. ap (byteEncode (p .du)) (same-u i h)))
+        (ap (byteEncode (p .dv)) same-v)
+
+    pub ext-ciphertextWords : c ≡ d
+    ext-ciphertextWords = sym (encoded-numbers a) ∙ same-encoded ∙ encoded-numbers b

@@ -1,0 +1,1 @@
+// What the worksheet's values join to, in specs/. There is no code here.

@@ -1,0 +1,14 @@
+-- t holds H(ek), with which h is compared.
+use borrow.Author.Needs.{needs}
+use Rattle.mlkem.proofs.conditions.hash_matches.Statement.{statement}
+use Rattle.mlkem.proofs.conditions.hash_matches.Tie as tie
+
+pub hash-matches-spec : {M : Type 1} → statement M
+hash-matches-spec =
+    tie.close
+    (tie.spec
+    (λ c. search needs)
+    (λ c κs. search needs)
+    (λ c. search needs)
+    (λ c κs. search needs)
+    (λ c. cc))

@@ -1,0 +1,14 @@
+-- t holds the coefficients that b encodes, each of which is tested.
+use borrow.Author.Needs.{needs}
+use Rattle.mlkem.proofs.conditions.vector_reduced.Statement.{statement}
+use Rattle.mlkem.proofs.conditions.vector_reduced.Tie as tie
+
+pub vector-reduced-spec : {M : Type 1} → statement M
+vector-reduced-spec =
+    tie.close
+    (tie.spec
+    (λ c. search needs)
+    (λ c κs. search needs)
+    (λ c. search needs)
+    (λ c κs. search needs)
+    (λ c. cc))

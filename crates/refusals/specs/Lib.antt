@@ -1,0 +1,4 @@
+pub mod Refusals
+pub mod Same
+pub mod SameLaws
+pub mod RefusalLaws

@@ -1,0 +1,90 @@
+-- Laws of the rows, and of row 1's lengths.
+use mathlib.Core.Path.{_≡_, refl, ap, ap₂}
+use mathlib.Core.Bool.{Bool, true, false, not, cond, _&&_}
+use mathlib.Core.List.{List, [], _∷_, _++_}
+use Prim.Native.Nat.{ℕ, _<_}
+use native.Mathlib.Omega.{arith}
+use borrow.Author.Tests.{eqb-true, eq-eqb, ne-eqb}
+use lib.Dec.{eqb}
+use lib.ListN.{length}
+use Rattle.refusals.specs.declared.Answer.{Answer}
+use Rattle.refusals.specs.declared.Answer.the-variants.{Done, WrongLength, PublicKeyRange, WrongHash, SecretRange}
+use Rattle.refusals.specs.declared.Answer.the-variants.{MaskRange, ShareRange, ShortStream, NoSuchStep}
+use Rattle.refusals.specs.Refusals.{number, Row, row, answer, after, Lent, sized}
+use Rattle.refusals.specs.SameLaws.{and-left, and-right}
+
+-- the answer is that of the first row whose test b fails
+module _ (a : Answer) (rs : List Row) {b : Bool} where
+  pub refused : b ≡ false → answer (row (not b) a ∷ rs) ≡ a
+  unfolding answer
+  refused e = rw e
+
+  pub passed : {x : Answer} → b ≡ true → answer rs ≡ x → answer (row (not b) a ∷ rs) ≡ x
+  unfolding answer
+  passed e h = rw e h
+
+pub no-row : answer [] ≡ Done
+unfolding answer
+no-row = refl
+
+-- a call that is carried out has passed each row
+pub done-passed : (b : Bool) (a : Answer) (rs : List Row) → 0 < number a → answer (row (not b) a ∷ rs) ≡ Done
+    → (b ≡ true) × (answer rs ≡ Done)
+unfolding answer
+done-passed true a rs n h = (refl, h)
+done-passed false a rs n h = absurd (omega (arith, ap number h))
+
+-- ---- what a call leaves
+
+-- the number is 0 for a call that is carried out, and for no other
+pub number-done : (r : Answer) → number r ≡ 0 → r ≡ Done
+number-done Done e = refl
+number-done WrongLength e = absurd (omega arith)
+number-done PublicKeyRange e = absurd (omega arith)
+number-done WrongHash e = absurd (omega arith)
+number-done SecretRange e = absurd (omega arith)
+number-done MaskRange e = absurd (omega arith)
+number-done ShareRange e = absurd (omega arith)
+number-done ShortStream e = absurd (omega arith)
+number-done NoSuchStep e = absurd (omega arith)
+
+pub after-done : {A : Type 0} (n : ℕ) (new old : A) → n ≡ 0 → after n new old ≡ new
+after-done {A} n new old e = ap (λ (b : Bool). cond b new old) (eq-eqb n 0 e)
+
+pub after-refused : {A : Type 0} (n : ℕ) (new old : A) → (n ≡ 0 → ⊥) → after n new old ≡ old
+after-refused {A} n new old h = ap (λ (b : Bool). cond b new old) (ne-eqb n 0 h)
+
+-- ---- lengths
+
+-- each lent buffer has its length
+abbrev pub Exact : List Lent → Type 0
+Exact [] = Unit {0}
+Exact (b ∷ bs) = (length (b .list) ≡ b .size) × Exact bs
+
+pub sized-exact : (bs : List Lent) → sized bs ≡ true → Exact bs
+unfolding sized
+sized-exact [] e = tt
+sized-exact (b ∷ bs) e =
+    let c = eqb (length (b .list)) (b .size) in
+    (eqb-true (length (b .list)) (b .size) (and-left c (sized bs) e), sized-exact bs (and-right c (sized bs) e))
+
+pub exact-sized : (bs : List Lent) → Exact bs → sized bs ≡ true
+unfolding sized
+exact-sized [] x = refl
+exact-sized (b ∷ bs) x =
+    ap₂ (λ (c d : Bool). c && d) (eq-eqb (length (b .list)) (b .size) (x .0)) (exact-sized bs (x .1))
+
+-- more buffers that have their lengths change nothing
+pub sized-more : (bs cs : List Lent) → Exact cs → sized (bs ++ cs) ≡ sized bs
+unfolding sized
+sized-more [] cs x = exact-sized cs x
+sized-more (b ∷ bs) cs x =
+    ap (λ (c : Bool). eqb (length (b .list)) (b .size) && c) (sized-more bs cs x)
+
+pub sized-first : (bs cs : List Lent) → sized (bs ++ cs) ≡ true → sized bs ≡ true
+unfolding sized
+sized-first [] cs e = refl
+sized-first (b ∷ bs) cs e =
+    let c = eqb (length (b .list)) (b .size) in
+    ap₂ (λ (x y : Bool). x && y) (and-left c (sized (bs ++ cs)) e)
+    (sized-first bs cs (and-right c (sized (bs ++ cs)) e))

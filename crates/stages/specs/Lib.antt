@@ -1,0 +1,10 @@
+pub mod Moves
+pub mod MovesLaws
+pub mod Worksheet
+pub mod PlaneWordsLaws
+pub mod Counts
+pub mod Counts768
+pub mod WorksheetUses
+pub mod Layout
+pub mod LayoutLaws
+pub mod Fits

@@ -1,0 +1,68 @@
+// A case of decapsulation, told in numbers: the turn whose key and ciphertext are taken, the masks, what is wrong.
+use test_support::edges::Lengths;
+use test_support::edges::exact;
+use test_support::masks::Masks;
+
+// The turn's own, its random one, or its own with byte .0 exclusive or .1.
+pub enum Ciphertext {
+    True,
+    Random,
+    Damaged(usize, u8),
+}
+
+// Whose coefficient is out of range. Both: the second share's and the strip's. All: each one of shares and strip.
+pub enum Part {
+    None,
+    Strip,
+    FirstShare,
+    SecondShare,
+    Both,
+    All,
+}
+
+// Coefficient `at` of the part is v.
+pub struct Fault {
+    pub part: Part,
+    pub at: usize,
+    pub v: u16,
+}
+
+// The key is split under masks of one kind, the strip is of another.
+pub struct Case {
+    pub turn: usize,
+    pub ciphertext: Ciphertext,
+    pub split: Masks,
+    pub strip: Masks,
+    pub fault: Fault,
+    pub lengths: Lengths,
+}
+
+// Nothing is wrong.
+pub fn right(turn: usize, ciphertext: Ciphertext, split: Masks, strip: Masks) -> Case {
+    let fault = Fault {
+        part: Part::None,
+        at: 0,
+        v: 0,
+    };
+    let lengths = exact();
+    Case {
+        turn: turn,
+        ciphertext: ciphertext,
+        split: split,
+        strip: strip,
+        fault: fault,
+        lengths: lengths,
+    }
+}
+
+// Turn 0's key and ciphertext, with something wrong.
+pub fn wrong(fault: Fault, lengths: Lengths) -> Case {
+    Case {
+        turn: 0,
+        ciphertext: Ciphertext::True,
+        split: Masks::Drawn(9),
+        strip: Masks::Drawn(9),
+        fault: fault,
+        lengths: lengths,
+    }
+}

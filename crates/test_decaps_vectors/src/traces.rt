@@ -1,0 +1,151 @@
+// Traced values of one key, split and strip, for its true and its random ciphertext.
+ghost use mathlib.Core.Path.{_≡_};
+ghost use Prim.Native.Nat.{_+_, _*_, _<_, _≤_};
+ghost use lib.ListN.{length};
+use refusals::number;
+use test_decaps_support::calls::decaps;
+use test_decaps_support::calls::trace;
+use test_decaps_support::case::Case;
+use test_decaps_support::case::Ciphertext;
+use test_decaps_support::case::right;
+use test_support::answers::print_number;
+use test_support::hashes::print_hash;
+use test_support::masks::Masks;
+use text::print;
+use text::print_decimal;
+
+fn print_step(case: Case, step: u64) {
+    let mut value: u64 = 0;
+    let n = number(trace(case, step, &mut value));
+    print(b"step ");
+    print_decimal(step);
+    print(b": ");
+    print_number(n);
+    print(b" ");
+    print_decimal(value);
+    print(b"\n");
+}
+
+// The first and the last step of each stage.
+fn edge_steps() -> [u64; 20]
+    ensures { λ r. ⌜ 20 ≡ length r ⌝ }
+{
+    [
+        0,
+        511,
+        512,
+        1975,
+        1976,
+        9817,
+        9818,
+        10841,
+        10842,
+        105271,
+        105272,
+        107319,
+        107320,
+        115335,
+        115336,
+        117023,
+        117024,
+        187745,
+        187746,
+        187793,
+    ]
+}
+
+fn print_steps(case: Case) {
+    let steps = edge_steps();
+    for i in 0..20 {
+        print_step(case, steps[i]);
+    }
+}
+
+// The step's value as bytes, place i of out.
+fn put(case: Case, step: u64, i: usize, out: &mut [u8])
+    requires { ⌜ (i < 524) × (8 * i + 8 ≤ length (now out)) ⌝ }
+{
+    let mut value: u64 = 0;
+    let a = 8 * i;
+    let e = a + 8;
+    trace(case, step, &mut value);
+    fips202::bytes::store(value, &mut out[a..e]);
+}
+
+// The values of n steps, from 0 on, a stride apart.
+fn put_all(case: Case, stride: u64, n: usize, out: &mut [u8])
+    requires { ⌜ (n ≤ 524) × (stride < 1000) × (length (now out) ≡ 8 * n) ⌝ }
+{
+    let mut step: u64 = 0;
+    for i in 0..n {
+        put(case, step, i, out);
+        step += stride;
+    }
+}
+
+fn print_hashes(case: Case) {
+    let mut stage1 = [0u8; 4096];
+    let mut all = [0u8; 4192];
+    put_all(case, 1, 512, &mut stage1);
+    print(b"steps 0 to 511 ");
+    print_hash(&stage1);
+    put_all(case, 359, 524, &mut all);
+    print(b"each step divisible by 359 ");
+    print_hash(&all);
+}
+
+// 1 where the step's value is v.
+fn entered(case: Case, step: u64, v: u64) -> u64
+    ensures { λ r. ⌜ r ≤ 1 ⌝ }
+{
+    let mut value: u64 = 0;
+    trace(case, step, &mut value);
+    if value == v { 1 } else { 0 }
+}
+
+// How many of the two shares of word j of K are the last two of its twelve entries.
+fn entered_word(case: Case, j: usize, k0: &[u64], k1: &[u64]) -> u64
+    requires { ⌜ (j < 4) × (length (now k0) ≡ 4) × (length (now k1) ≡ 4) ⌝ }
+    ensures { λ r. ⌜ r ≤ 2 ⌝ }
+{
+    let step = 187756 + 12 * (j as u64);
+    entered(case, step, k0[j]) + entered(case, step + 1, k1[j])
+}
+
+// How many of the eight shares.
+fn entered_shares(case: Case, k0: &[u64], k1: &[u64]) -> u64
+    requires { ⌜ (length (now k0) ≡ 4) × (length (now k1) ≡ 4) ⌝ }
+{
+    let mut found: u64 = 0;
+    for j in 0..4 {
+        found += entered_word(case, j, k0, k1);
+    }
+    found
+}
+
+// The shares that decapsulation hands back are entered last.
+fn print_shares(case: Case) {
+    let mut k0 = [0u64; 4];
+    let mut k1 = [0u64; 4];
+    decaps(case, &mut k0, &mut k1);
+    print(b"shares entered last: ");
+    print_decimal(entered_shares(case, &k0, &k1));
+    print(b" equal\n");
+}
+
+fn print_traces(case: Case) {
+    print_steps(case);
+    print_hashes(case);
+    print_shares(case);
+}
+
+fn drawn(ciphertext: Ciphertext) -> Case {
+    right(0, ciphertext, Masks::Drawn(9), Masks::Drawn(9))
+}
+
+pub fn run() {
+    print(b"trace, true\n");
+    print_traces(drawn(Ciphertext::True));
+    print(b"trace, random\n");
+    print_traces(drawn(Ciphertext::Random));
+}

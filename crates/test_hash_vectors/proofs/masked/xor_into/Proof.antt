@@ -1,0 +1,30 @@
+-- Each turn stores one byte, so that the length stays and the index moves on to it.
+use Prim.Native.Nat.{_-_, _≤_}
+use mathlib.Core.Path.{_≡_}
+use borrow.Author.Needs.{needs}
+use lib.ListN.{length, length-set}
+use Rattle.test_hash_vectors.proofs.masked.xor_into.Statement.{statement}
+use Rattle.test_hash_vectors.proofs.masked.xor_into.Tie as tie
+
+-- i bytes are xored
+abbrev Inv-loop : tie.InvT-loop
+Inv-loop a₀ b i₀ a i = (i ≤ length a₀) × (length a ≡ length a₀)
+
+abbrev μ-loop : tie.MeasureT-loop
+μ-loop a₀ b i₀ a i = length a₀ - i
+
+pub xor-into-spec : {M : Type 1} → statement M
+xor-into-spec =
+    tie.close
+    (tie.spec
+    Inv-loop
+    μ-loop
+    (λ c. search needs)
+    (λ c. search needs)
+    (λ c κs. search needs)
+    (λ c. search needs)
+    (λ c. search needs)
+    (λ c. search needs)
+    (λ c. (search needs, simp length-set (search needs)))
+    (λ c. search needs)
+    (λ c. search needs))

@@ -1,0 +1,203 @@
+// One value at each place of a key or of the masks, and what the call answers.
+ghost use mathlib.Core.Path.{_≡_};
+ghost use Prim.Native.Nat.{_+_, _<_, _≤_};
+ghost use lib.ListN.{length};
+use kpke::copy::copy_bytes;
+use refusals::number;
+use test_support::answers::print_number;
+use test_support::bytes::unchanged;
+use test_support::hashes::print_hash;
+use test_support::import::import;
+use test_support::import::import_masked;
+use test_support::import::mask_coefficients;
+use test_support::import::mask_words;
+use text::print;
+use text::print_decimal;
+
+// What is changed, and the call that gets it.
+enum Part {
+    EncapsPublicKey,
+    ImportPublicKey,
+    ImportHash,
+    ImportSecret,
+    ImportMask,
+}
+
+fn even_middle(b: u8, v: u16) -> u8 {
+    (b & 0xf0) | (v / 256 % 16) as u8
+}
+
+fn odd_middle(b: u8, v: u16) -> u8 {
+    (b & 0x0f) | (v % 16 * 16) as u8
+}
+
+// Coefficient i of an encoded vector becomes v.
+pub fn put(bytes: &mut [u8], i: usize, v: u16)
+    requires { ⌜ (length (now bytes) ≡ 1152) × (i < 768) ⌝ }
+{
+    let j = i / 2 * 3;
+    if i % 2 == 0 {
+        bytes[j + 1] = even_middle(bytes[j + 1], v);
+        bytes[j] = (v % 256) as u8;
+        return;
+    }
+    bytes[j + 1] = odd_middle(bytes[j + 1], v);
+    bytes[j + 2] = (v / 16 % 256) as u8;
+}
+
+// The same in the part of a key that starts at byte `at`.
+pub fn put_at(key: &mut [u8], at: usize, i: usize, v: u16)
+    requires { ⌜ (at + 1152 ≤ length (now key)) × (at ≤ 1152) × (i < 768) ⌝ }
+{
+    let e = at + 1152;
+    put(&mut key[at..e], i, v);
+}
+
+// out is the secret where the call is carried out.
+fn encaps_public_key(ek: &[u8], i: usize, v: u16, out: &mut [u8]) -> u64
+    requires { ⌜ (length (now ek) ≡ 1184) × (i < 768) ⌝ }
+{
+    let mut key = [0u8; 1184];
+    let m = [7u8; 32];
+    let mut ct = [0xeeu8; 1088];
+    copy_bytes(ek, &mut key);
+    put_at(&mut key, 0, i, v);
+    let n = number(mlkem::encaps(&key, &m, &mut ct, out));
+    if n == 0 {
+        return 0;
+    }
+    if unchanged(&ct) & unchanged(out) {
+        return n;
+    }
+    99
+}
+
+// The stored hash becomes the public key's.
+fn hash_public_key(key: &mut [u8])
+    requires { ⌜ length (now key) ≡ 2400 ⌝ }
+{
+    let mut h = [0u8; 32];
+    fips202::sha3_256(&key[1152..2336], &mut h);
+    copy_bytes(&h, &mut key[2336..2368]);
+}
+
+fn import_public_key(dk: &[u8], i: usize, v: u16, out: &mut [u8]) -> u64
+    requires { ⌜ (length (now dk) ≡ 2400) × (i < 768) ⌝ }
+{
+    let mut key = [0u8; 2400];
+    copy_bytes(dk, &mut key);
+    put_at(&mut key, 1152, i, v);
+    hash_public_key(&mut key);
+    import_masked(&key, out)
+}
+
+// Byte i of the stored hash, exclusive or v.
+fn import_hash(dk: &[u8], i: usize, v: u16, out: &mut [u8]) -> u64
+    requires { ⌜ length (now dk) ≡ 2400 ⌝ }
+{
+    let mut key = [0u8; 2400];
+    let j = 2336 + i % 32;
+    copy_bytes(dk, &mut key);
+    key[j] = dk[j] ^ (v % 256) as u8;
+    import_masked(&key, out)
+}
+
+fn import_secret(dk: &[u8], i: usize, v: u16, out: &mut [u8]) -> u64
+    requires { ⌜ (length (now dk) ≡ 2400) × (i < 768) ⌝ }
+{
+    let mut key = [0u8; 2400];
+    copy_bytes(dk, &mut key);
+    put_at(&mut key, 0, i, v);
+    import_masked(&key, out)
+}
+
+fn import_mask(dk: &[u8], i: usize, v: u16, out: &mut [u8]) -> u64
+    requires { ⌜ i < 768 ⌝ }
+{
+    let mut coeffs = [0u16; 768];
+    let words = mask_words();
+    mask_coefficients(&mut coeffs);
+    coeffs[i] = v;
+    import(dk, &coeffs, &words, out)
+}
+
+fn answer_at(part: Part, dk: &[u8], i: usize, v: u16, out: &mut [u8]) -> u64
+    requires { ⌜ (length (now dk) ≡ 2400) × (i < 768) ⌝ }
+{
+    match part {
+        Part::EncapsPublicKey => encaps_public_key(&dk[1152..2336], i, v, out),
+        Part::ImportPublicKey => import_public_key(dk, i, v, out),
+        Part::ImportHash => import_hash(dk, i, v, out),
+        Part::ImportSecret => import_secret(dk, i, v, out),
+        Part::ImportMask => import_mask(dk, i, v, out),
+    }
+}
+
+// 1 where the two are equal.
+fn equal(a: u64, b: u64) -> usize
+    ensures { λ r. ⌜ r ≤ 1 ⌝ }
+{
+    if a == b { 1 } else { 0 }
+}
+
+// Each place has 32 bytes of the results.
+fn answer_into(part: Part, dk: &[u8], i: usize, v: u16, results: &mut [u8]) -> u64
+    requires { ⌜ (length (now dk) ≡ 2400) × (i < 768) × (length (now results) ≡ 24576) ⌝ }
+{
+    let a = 32 * i;
+    let e = a + 32;
+    answer_at(part, dk, i, v, &mut results[a..e])
+}
+
+// How many of the first n places have the answer `first`.
+fn count(part: Part, dk: &[u8], n: usize, v: u16, first: u64, results: &mut [u8]) -> usize
+    requires { ⌜ (length (now dk) ≡ 2400) × (n ≤ 768) × (length (now results) ≡ 24576) ⌝ }
+{
+    let mut found: usize = 0;
+    for i in 0..n {
+        found += equal(answer_into(part, dk, i, v, results), first);
+    }
+    found
+}
+
+// The answer at the first place, how many places have it, and SHA3-256 of all results, which are 238s where the call
+// is refused.
+fn line(part: Part, dk: &[u8], n: usize, v: u16)
+    requires { ⌜ (length (now dk) ≡ 2400) × (n ≤ 768) ⌝ }
+{
+    let mut results = [0xeeu8; 24576];
+    let mut result = [0xeeu8; 32];
+    let first = answer_at(part, dk, 0, v, &mut result);
+    let found = count(part, dk, n, v, first, &mut results);
+    print_decimal(v as u64);
+    print(b": ");
+    print_number(first);
+    print(b" at ");
+    print_decimal(found as u64);
+    print(b" places ");
+    print_hash(&results);
+}
+
+// Three values at each of n places.
+fn lines(part: Part, dk: &[u8], n: usize, u: u16, v: u16, w: u16)
+    requires { ⌜ (length (now dk) ≡ 2400) × (n ≤ 768) ⌝ }
+{
+    line(part, dk, n, u);
+    line(part, dk, n, v);
+    line(part, dk, n, w);
+}
+
+pub fn run(dk: &[u8])
+    requires { ⌜ length (now dk) ≡ 2400 ⌝ }
+{
+    print(b"encaps, each coefficient of the public key\n");
+    lines(Part::EncapsPublicKey, dk, 768, 3328, 3329, 4095);
+    print(b"import, each coefficient of the public key\n");
+    lines(Part::ImportPublicKey, dk, 768, 3328, 3329, 4095);
+    print(b"import, each byte of the hash xor\n");
+    lines(Part::ImportHash, dk, 32, 0, 1, 128);
+    print(b"import, each coefficient of the secret part\n");
+    lines(Part::ImportSecret, dk, 768, 3328, 3329, 4095);
+    print(b"import, each mask coefficient\n");
+    lines(Part::ImportMask, dk, 768, 3328, 3329, 65535);
+}

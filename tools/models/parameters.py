@@ -1,0 +1,144 @@
+"""A parameter set of FIPS 203, and what follows from it by formula: lengths of keys, ciphertexts and split keys, and, by document 01's gadgets, the
+entries and masks of each stage of the worksheet."""
+from dataclasses import dataclass
+
+Q, N = 3329, 256
+
+
+@dataclass(frozen=True)
+class Use:
+    """Entries made, and mask words and mask coefficients drawn."""
+
+    entries: int = 0
+    words: int = 0
+    coeffs: int = 0
+
+    def __add__(self, other):
+        return Use(self.entries + other.entries, self.words + other.words, self.coeffs + other.coeffs)
+
+    def __rmul__(self, times):
+        return Use(times * self.entries, times * self.words, times * self.coeffs)
+
+
+# ---- the gadgets
+AND, XOR, ENTRY, COEFFICIENT = Use(8, 1), Use(2), Use(1), Use(4, 0, 1)
+OR = 3 * ENTRY + AND
+POLYNOMIAL = 2 * N * ENTRY
+CHI = ENTRY + AND + XOR
+PERMUTATION = 24 * (50 * ENTRY + 25 * CHI + ENTRY)
+
+
+def adder(planes):
+    return 2 * planes * Use(1, 1) + (planes - 1) * (3 * XOR + AND) + planes * XOR
+
+
+def compressed(depth):
+    """A polynomial, in four groups of 64."""
+    return 4 * (128 * ENTRY + adder(depth + 13))
+
+
+def sampled(eta):
+    return N * (2 * eta * COEFFICIENT + 2 * (2 * eta - 1) * ENTRY)
+
+
+def hashed(rate, length, words):
+    """Of so many bytes, with so many words of output."""
+    return Use(0, 25) + (length // rate + 1) * (rate // 8 * XOR + PERMUTATION) + (words - 1) // (rate // 8) * PERMUTATION
+
+
+@dataclass(frozen=True)
+class Parameters:
+    k: int
+    eta1: int
+    eta2: int
+    du: int
+    dv: int
+
+    @property
+    def coefficients(self):
+        return N * self.k
+
+    # ---- lengths in bytes
+    @property
+    def vector_bytes(self):
+        return 384 * self.k
+
+    @property
+    def ek_bytes(self):
+        return self.vector_bytes + 32
+
+    @property
+    def public_bytes(self):
+        """The public key, then its hash."""
+        return self.ek_bytes + 32
+
+    @property
+    def dk_bytes(self):
+        return self.vector_bytes + self.public_bytes + 32
+
+    @property
+    def u_bytes(self):
+        return 32 * self.du * self.k
+
+    @property
+    def ct_bytes(self):
+        return self.u_bytes + 32 * self.dv
+
+    # ---- the parts of a decapsulation key
+    def secret(self, dk):
+        return dk[:self.vector_bytes]
+
+    def ek(self, dk):
+        return dk[self.vector_bytes:][:self.ek_bytes]
+
+    def public(self, dk):
+        return dk[self.vector_bytes:][:self.public_bytes]
+
+    def z(self, dk):
+        return dk[self.dk_bytes - 32:]
+
+    # ---- the worksheet
+    @property
+    def plane_words(self):
+        return 4 * (self.k * self.du + self.dv)
+
+    @property
+    def stages(self):
+        """What each of the ten stages uses."""
+        noise = {eta: hashed(136, 33, 8 * eta) + sampled(eta) for eta in (self.eta1, self.eta2)}
+        return [
+            POLYNOMIAL,
+            compressed(1),
+            hashed(72, 64, 8),
+            N * COEFFICIENT,
+            self.k * noise[self.eta1] + (self.k + 1) * noise[self.eta2],
+            (self.k + 1) * POLYNOMIAL,
+            self.k * compressed(self.du) + compressed(self.dv),
+            self.plane_words * ENTRY + (self.plane_words - 1 + 6) * OR + ENTRY,
+            hashed(136, 32 + self.ct_bytes, 4),
+            4 * (2 * XOR + AND),
+        ]
+
+    @property
+    def use(self):
+        return sum(self.stages, Use())
+
+    @property
+    def starts(self):
+        """The first step of each stage."""
+        return [sum(self.stages[:i], Use()).entries for i in range(len(self.stages))]
+
+    @property
+    def steps(self):
+        return self.use.entries
+
+    @property
+    def strip_words(self):
+        return self.use.words
+
+    @property
+    def strip_coeffs(self):
+        return self.use.coeffs
+
+
+ML_KEM_768 = Parameters(k=3, eta1=2, eta2=2, du=10, dv=4)

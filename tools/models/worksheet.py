@@ -1,0 +1,204 @@
+"""A plain model of masked decapsulation at ML-KEM-768, written down from the gadgets and the ten stages: every entry of the worksheet, in order.
+
+A value on two shares is a pair. Slow, and for comparison only.
+"""
+from .fips203 import add, decode, decompress, dot, inverse_ntt, matrix, ntt, subtract, vector
+from .parameters import N, Q, ML_KEM_768 as P
+
+ALL = 2**64 - 1
+COLUMNS = [(x, y) for y in range(5) for x in range(5)]
+
+
+def rotate(v, n):
+    return (v << n | v >> 64 - n) & ALL
+
+
+def offsets():
+    rho, x, y = {(0, 0): 0}, 1, 0
+    for t in range(24):
+        rho[x, y] = (t + 1) * (t + 2) // 2 % 64
+        x, y = y, (2 * x + 3 * y) % 5
+    return rho
+
+
+def constants():
+    r, out = 1, []
+    for _ in range(24):
+        word = 0
+        for j in range(7):
+            word |= (r & 1) << 2**j - 1
+            r = r << 1 ^ (0x171 if r >> 7 else 0)
+        out.append(word)
+    return out
+
+
+RHO, CONSTANTS = offsets(), constants()
+
+
+def linear(a):
+    """Theta, rho and pi."""
+    c = [a[x] ^ a[x + 5] ^ a[x + 10] ^ a[x + 15] ^ a[x + 20] for x in range(5)]
+    d = [c[x - 1] ^ rotate(c[(x + 1) % 5], 1) for x in range(5)]
+    out = [0] * 25
+    for x, y in COLUMNS:
+        out[y + 5 * ((2 * x + 3 * y) % 5)] = rotate(a[x + 5 * y] ^ d[x], RHO[x, y])
+    return out
+
+
+class Worksheet:
+    def __init__(self, words, coeffs):
+        self.entries, self.words, self.coeffs = [], iter(words), iter(coeffs)
+
+    def enter(self, value):
+        self.entries.append(value)
+        return value
+
+    def xor(self, u, v):
+        return self.enter(u[0] ^ v[0]), self.enter(u[1] ^ v[1])
+
+    def complement(self, u, ones=ALL):
+        return self.enter(u[0] ^ ones), u[1]
+
+    def and_(self, u, v, ones=ALL):
+        r, e = next(self.words) & ones, self.enter
+        cross = e(e(u[0] & v[1]) ^ r)
+        z0 = e(e(u[0] & v[0]) ^ cross)
+        cross = e(e(u[1] & v[0]) ^ r)
+        return z0, e(e(u[1] & v[1]) ^ cross)
+
+    def or_(self, u, v, ones=ALL):
+        u = self.complement(u, ones)
+        return self.complement(self.and_(u, self.complement(v, ones), ones), ones)
+
+    def coefficient(self, bit, weight):
+        r = next(self.coeffs)
+        table = [self.enter(((i ^ bit[1]) * weight + r) % Q) for i in (0, 1)]
+        return self.enter(table[bit[0]]), self.enter((Q - r) % Q)
+
+    def total(self, values):
+        sum = values[0]
+        for v in values[1:]:
+            sum = self.enter((sum + v) % Q)
+        return sum
+
+    def sample(self, bits):
+        eta = len(bits) // 2
+        parts = [self.coefficient(b, w) for b, w in zip(bits, eta * [1] + eta * [Q - 1])]
+        return tuple(self.total([p[i] for p in parts]) for i in (0, 1))
+
+    def masked(self, planes):
+        out = []
+        for p in planes:
+            r = next(self.words)
+            out.append((self.enter(p ^ r), r))
+        return out
+
+    def adder(self, a, b):
+        a = self.masked(a)
+        b = self.masked(b)
+        carries = [(0, 0)]
+        for x, y in zip(a[:-1], b[:-1]):
+            left = self.xor(x, y)
+            carries.append(self.xor(x, self.and_(left, self.xor(x, carries[-1]))))
+        return [tuple(self.enter(x[i] ^ y[i] ^ c[i]) for i in (0, 1)) for x, y, c in zip(a, b, carries)]
+
+    def compress(self, d, f):
+        """256 coefficients: d planes for each group of 64."""
+        out = []
+        for g in range(0, 256, 64):
+            numbers = [[self.enter((((x << d + 13) // Q) + 4096 * i) % (1 << d + 13)) for x in f[i][g:g + 64]] for i in (0, 1)]
+            out += self.adder(*([sum((x >> j & 1) << k for k, x in enumerate(n)) for j in range(d + 13)] for n in numbers))[-d:]
+        return out
+
+    def permute(self, s):
+        for constant in CONSTANTS:
+            s = [[self.enter(v) for v in linear(a)] for a in s]
+            lanes = [(s[0][i], s[1][i]) for i in range(25)]
+            out = []
+            for x, y in COLUMNS:
+                a, b, c = (lanes[5 * y + (x + k) % 5] for k in range(3))
+                out.append(self.xor(a, self.and_(self.complement(b), c)))
+            s = [[v[i] for v in out] for i in (0, 1)]
+            s[0][0] = self.enter(s[0][0] ^ constant)
+        return s
+
+    def hash(self, rate, last, shared, public, length):
+        """Of words on two shares, then public bytes: the first words, as many as length says."""
+        data = [b"".join(v[i].to_bytes(8, "little") for v in shared) for i in (0, 1)]
+        data[0] += public + bytes([last])
+        size = -(-len(data[0]) // rate) * rate
+        data = [d.ljust(size, b"\0") for d in data]
+        data[0] = data[0][:-1] + bytes([data[0][-1] ^ 0x80])
+        start = [next(self.words) for _ in range(25)]
+        s = [list(start), list(start)]
+        for at in range(0, size, rate):
+            for lane in range(rate // 8):
+                for i in (0, 1):
+                    s[i][lane] = self.enter(s[i][lane] ^ int.from_bytes(data[i][at + 8 * lane:][:8], "little"))
+            s = self.permute(s)
+        return list(zip(s[0], s[1]))[:length]
+
+    def all_zero(self, words):
+        word = words[0]
+        for v in words[1:]:
+            word = self.or_(word, v)
+        for n in (32, 16, 8, 4, 2, 1):
+            ones = (1 << n) - 1
+            word = self.or_((word[0] & ones, word[1] & ones), (word[0] >> n, word[1] >> n), ones)
+        return self.complement(word, 1)
+
+
+def bits(words):
+    return [(v[0] >> j & 1, v[1] >> j & 1) for v in words for j in range(64)]
+
+
+def planes(d, data):
+    f = decode(d, data)
+    return [sum((x >> j & 1) << k for k, x in enumerate(f[g:g + 64])) for g in range(0, len(f), 64) for j in range(d)]
+
+
+def pairs(f):
+    return [x[0] for x in f], [x[1] for x in f]
+
+
+def polynomial(sheet, *shares):
+    return tuple([sheet.enter(x) for x in f] for f in shares)
+
+
+def decrypt(sheet, s, ct):
+    u = [ntt(decompress(P.du, f)) for f in vector(P.du, ct[:P.u_bytes])]
+    v = decompress(P.dv, decode(P.dv, ct[P.u_bytes:]))
+    products = [inverse_ntt(dot([list(s[i][N * j:N * (j + 1)]) for j in range(P.k)], u)) for i in (0, 1)]
+    return polynomial(sheet, subtract(v, products[0]), subtract([0] * N, products[1]))
+
+
+def encrypt(sheet, ek, message, coins):
+    mu = pairs([sheet.coefficient(b, 1665) for b in bits(message)])
+    noise = []
+    for n in range(2 * P.k + 1):
+        eta = P.eta1 if n < P.k else P.eta2
+        b = bits(sheet.hash(136, 0x1f, coins, bytes([n]), 8 * eta))
+        noise.append(pairs([sheet.sample(b[2 * eta * i:2 * eta * (i + 1)]) for i in range(N)]))
+    a, t = matrix(ek[P.vector_bytes:]), vector(12, ek[:P.vector_bytes])
+    y = [[ntt(noise[j][i]) for j in range(P.k)] for i in (0, 1)]
+    e1, e2 = noise[P.k:2 * P.k], noise[2 * P.k]
+    u = [polynomial(sheet, *(add(inverse_ntt(dot(column, y[i])), e1[j][i]) for i in (0, 1))) for j, column in enumerate(zip(*a))]
+    return u + [polynomial(sheet, *(add(add(inverse_ntt(dot(t, y[i])), e2[i]), mu[i]) for i in (0, 1)))]
+
+
+def worksheet(split, ct, masks):
+    """Entries, and the shares of K."""
+    s0, s1, z0, z1, public = split
+    public, ct, sheet = bytes(public), bytes(ct), Worksheet(*masks)
+    message = sheet.compress(1, decrypt(sheet, (s0, s1), ct))
+    g = sheet.hash(72, 6, message, public[P.ek_bytes:], 8)
+    again = encrypt(sheet, public[:P.ek_bytes], message, g[4:])
+    words = [v for d, f in zip(P.k * [P.du] + [P.dv], again) for v in sheet.compress(d, f)]
+    size = 32 * P.du
+    theirs = [p for i in range(P.k) for p in planes(P.du, ct[size * i:size * (i + 1)])] + planes(P.dv, ct[P.u_bytes:])
+    equal = sheet.all_zero([(sheet.enter(v[0] ^ c), v[1]) for v, c in zip(words, theirs)])
+    copies = tuple(ALL * b for b in equal)
+    rejected = sheet.hash(136, 0x1f, list(zip(z0, z1)), ct, 4)
+    k = [sheet.xor(r, sheet.and_(copies, sheet.xor(v, r))) for v, r in zip(g, rejected)]
+    assert next(sheet.words, None) is None and next(sheet.coeffs, None) is None
+    return sheet.entries, k
