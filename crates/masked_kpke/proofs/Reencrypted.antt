@@ -5,8 +5,8 @@ use Prim.Native.Nat.{ℕ, _+_, _-_, _*_, _<_}
 use native.Mathlib.Decide.{decLt}
 use native.Mathlib.Omega.{arith}
 use borrow.Author.Tests.{lt-ltb, le-ltb}
-use lib.ListN.{length, take, drop}
-use lib.Seq.{take-all, drop-at}
+use lib.ListN.{length, take, drop, length-append, length-drop}
+use lib.Seq.{take-all, take-at, drop-at, drop-drop}
 use Rattle.words.specs.Bounded.{Below}
 use Rattle.words.specs.BoundedLaws.{below-append}
 use Rattle.words.specs.Part.{part-append}
@@ -33,7 +33,7 @@ use Rattle.stages.specs.Worksheet.{uShare, vShare, uvShare, stage6}
 use Rattle.stages.specs.Layout.{partOf, partsBy, polynomials}
 use Rattle.masked_kpke.specs.Passes.{uPass, vPass, uvPass}
 use Rattle.masked_kpke.proofs.StoredRun.{ran-as}
-use Rattle.masked_kpke.proofs.Vectors.{y-at, e1-at, e2-at}
+use Rattle.masked_kpke.proofs.Vectors.{length-y, y-at, e1-at, e2-at}
 
 length-inverseNtt : (f : List ℕ) → length (inverseNtt f) ≡ 256
 unfolding inverseNtt
@@ -53,6 +53,14 @@ module _ (k : ℕ) (y : ℕ → List ℕ) where
 length-us : (k : ℕ) (a : ℕ → ℕ → List ℕ) (y e1 : ℕ → List ℕ) → length (concat k (λ i. uPass k a y (e1 i) i)) ≡ 256 * k
 length-us k a y e1 = length-concat (record { long = λ i h. length-uPass k y a (e1 i) i })
 
+pub length-uvPass : (k : ℕ) (a : ℕ → ℕ → List ℕ) (t n : ℕ → List ℕ) (mu : List ℕ)
+    → length (uvPass k a t n mu) ≡ 256 * k + 256
+unfolding uvPass
+length-uvPass k a t n mu =
+    let y : ℕ → List ℕ = λ j. ntt (n j) in
+    length-append (concat k (λ i. uPass k a y (n (k + i)) i)) (vPass k t y (n (2 * k)) mu)
+    ∙ ap₂ (λ (u v : ℕ). u + v) (length-us k a y (λ i. n (k + i))) (length-vPass k y t (n (2 * k)) mu)
+
 pub below-uvPass : (k : ℕ) (a : ℕ → ℕ → List ℕ) (t n : ℕ → List ℕ) (mu : List ℕ) → Below q (uvPass k a t n mu)
 unfolding uvPass uPass vPass
 below-uvPass k a t n mu = below-append _ (below-concat k (omega arith) (λ i. below-add _ _)) (below-add _ _)
@@ -71,7 +79,7 @@ module _ (k : ℕ) {y z : ℕ → List ℕ} (h : (j : ℕ) → j < k → y j ≡
 -- u and v, written one behind the other in the slice l, from y transformed in the slice z
 module _ (k : ℕ) (l n mu : List ℕ) (a : ℕ → ℕ → List ℕ) (t : ℕ → List ℕ) (long : length l ≡ 256 * k + 256)
     (e : length n ≡ 256 * k + 256 * k + 256) where
-  pub uv-written : (z : List ℕ) {r₁ r₂ : List ℕ} → z ≡ concat k (λ j. ntt (parts 256 (take (256 * k) n) j))
+  uv-written : (z : List ℕ) {r₁ r₂ : List ℕ} → z ≡ concat k (λ j. ntt (parts 256 (take (256 * k) n) j))
       → r₁ ≡ concat k (λ i. uPass k a (parts 256 z) (parts 256 (take (256 * k) (drop (256 * k) n)) i) i)
       → r₂
       ≡ vPass k t (parts 256 z) (take (length n - (256 * k + 256 * k)) (drop (256 * k + 256 * k) n)) mu
@@ -86,6 +94,28 @@ module _ (k : ℕ) (l n mu : List ℕ) (a : ℕ → ℕ → List ℕ) (t : ℕ �
       ∙ ap₂ (λ (x y : List ℕ). x ++ y)
       (concat-cong k (λ i g. uPass-cong k (y-at k n e h₀) a a i (λ j m. refl) (e1-at k n e i g)))
       (vPass-cong k (y-at k n e h₀) mu (λ j m. refl) (e2-at k n e))
+
+  -- y is transformed in its own place in n
+  pub uv-written-in : (z : List ℕ) {r₁ r₂ : List ℕ} → z ≡ concat k (λ j. ntt (parts 256 (take (256 * k) n) j))
+      → (let m = z ++ drop (256 * k) n in
+      r₁ ≡ concat k (λ i. uPass k a (parts 256 (take (256 * k) m)) (parts 256 (take (256 * k) (drop (256 * k) m)) i) i))
+      → (let m = z ++ drop (256 * k) n in
+      r₂
+      ≡ vPass k t (parts 256 (take (256 * k) m))
+      (take (length m - (256 * k + 256 * k)) (drop (256 * k + 256 * k) m)) mu)
+      → (let m = take 0 l ++ (r₁ ++ drop (256 * k - 0) (drop 0 l)) in
+      take (256 * k) m ++ (r₂ ++ drop (length m - 256 * k) (drop (256 * k) m)))
+      ≡ uvPass k a t (parts 256 n) mu
+  uv-written-in z h₀ h₁ h₂ =
+      let lz : length z ≡ 256 * k = length-y k n e h₀ in
+      let m = z ++ drop (256 * k) n in
+      let front : take (256 * k) m ≡ z = take-at z (drop (256 * k) n) (256 * k) lz in
+      let rest : drop (256 * k) m ≡ drop (256 * k) n = drop-at z (drop (256 * k) n) (256 * k) lz in
+      let last : drop (256 * k + 256 * k) m ≡ drop (256 * k + 256 * k) n =
+      sym (drop-drop (256 * k) (256 * k) m) ∙ ap (drop (256 * k)) rest ∙ drop-drop (256 * k) (256 * k) n in
+      let long-m : length m ≡ length n =
+      length-append z (drop (256 * k) n) ∙ omega (arith, length-drop (256 * k) n) in
+      uv-written z h₀ (rw (front, rest) at h₁) (rw (front, last, long-m) at h₂)
 
 -- ---- the stage
 

@@ -9,25 +9,33 @@ use Rattle.words.specs.Part.{length-part, part-take}
 use Rattle.ring.specs.Linear.{ntt-linear}
 use Rattle.ring.specs.Transform.{ntt}
 use Rattle.kpke.specs.KPke.{parts, concat, dot}
-use Rattle.kpke.specs.VectorLaws.{part-fits, parts-concat, dot-cong}
+use Rattle.kpke.specs.VectorLaws.{Each, part-fits, length-concat, parts-concat, dot-cong}
 
 -- the product with all parts of a
 pub dot-whole : (k : ℕ) (a : List ℕ) (g : ℕ → List ℕ) → dot k (λ j. parts 256 a (0 + 1 * j)) g ≡ dot k (parts 256 a) g
 dot-whole k a g = dot-cong k (λ j h. let e : 0 + 1 * j ≡ j = omega arith in ap (parts 256 a) e) (λ j h. refl)
 
--- the transforms of the parts of y
-pub transformed-at : (k : ℕ) (y : List ℕ) {z : List ℕ} → length y ≡ 256 * k → z ≡ concat k (λ j. ntt (parts 256 y j))
-    → (j : ℕ) → j < k → parts 256 z j ≡ ntt (parts 256 y j)
-transformed-at k y l e j h =
-    let long : (i : ℕ) → i < k → length (parts 256 y i) ≡ 256 =
-    λ i g. length-part (256 * i) 256 y (omega (arith, part-fits 256 g)) in
-    ap (λ (t : List ℕ). parts 256 t j) e
-    ∙ parts-concat (record { long = λ i g. ntt-linear .long (parts 256 y i) (long i g) }) j h
+-- z holds the transforms of the k parts of y
+module _ (k : ℕ) (y : List ℕ) {z : List ℕ} (l : length y ≡ 256 * k) (e : z ≡ concat k (λ j. ntt (parts 256 y j))) where
+  each-transformed : Each 256 k (λ j. ntt (parts 256 y j))
+  each-transformed =
+      let long : (i : ℕ) → i < k → length (parts 256 y i) ≡ 256 =
+      λ i g. length-part (256 * i) 256 y (omega (arith, l, part-fits 256 g)) in
+      record { long = λ i g. ntt-linear .long (parts 256 y i) (long i g) }
+
+  pub length-transformed : length z ≡ 256 * k
+  length-transformed = ap length e ∙ length-concat each-transformed
+
+  pub transformed-at : (j : ℕ) → j < k → parts 256 z j ≡ ntt (parts 256 y j)
+  transformed-at j h = ap (λ (t : List ℕ). parts 256 t j) e ∙ parts-concat each-transformed j h
 
 -- ---- the noise y, e1 and e2 in one slice, 2 k + 1 polynomials
 
 module _ (k : ℕ) (n : List ℕ) (e : length n ≡ 256 * k + 256 * k + 256) where
-  -- y, transformed in another slice
+  pub length-y : {z : List ℕ} → z ≡ concat k (λ j. ntt (parts 256 (take (256 * k) n) j)) → length z ≡ 256 * k
+  length-y h = length-transformed k (take (256 * k) n) (length-take-le (256 * k) n (omega arith)) h
+
+  -- y, transformed
   pub y-at : {z : List ℕ} → z ≡ concat k (λ j. ntt (parts 256 (take (256 * k) n) j)) → (j : ℕ) → j < k
       → parts 256 z j ≡ ntt (parts 256 n j)
   y-at h j g =

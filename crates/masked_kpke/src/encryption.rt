@@ -15,13 +15,13 @@ use crate::noise::stage5;
 use crate::reencryption::stage6;
 use worksheet::Recorder;
 
-// Stages 6 and 7, for the matrix a and the noise n0, n1.
+// Stages 6 and 7, for the matrix a and the noise n0, n1, whose first places u and v take.
 fn encrypt_with(
     rec: Recorder,
     a: &[u16],
     ek: &[u8],
-    n0: &[u16],
-    n1: &[u16],
+    n0: &mut [u16],
+    n1: &mut [u16],
     mu0: &[u16],
     mu1: &[u16],
     ws: &[u64],
@@ -36,10 +36,8 @@ fn encrypt_with(
         (sharedList (now (mu0 .entry)) (now (mu1 .entry))))
         rec (now (ws .entry)) (zip 136 (sharedList (now (w0 .exit)) (now (w1 .exit)))) r ⌝ }
 {
-    let mut uv0 = [0u16; 1024];
-    let mut uv1 = [0u16; 1024];
-    let rec = stage6(rec, a, ek, n0, n1, mu0, mu1, &mut uv0, &mut uv1);
-    stage7(rec, &uv0, &uv1, ws, w0, w1)
+    let rec = stage6(rec, a, ek, n0, n1, mu0, mu1);
+    stage7(rec, &n0[0..1024], &n1[0..1024], ws, w0, w1)
 }
 
 // The planes of the ciphertext of m0, m1 under the coins r0, r1, for the matrix a.
@@ -72,5 +70,16 @@ pub fn masked_encrypt(
     let mut n1 = [0u16; 1792];
     let rec = stage4(rec, m0, m1, cs, &mut mu0, &mut mu1);
     let rec = stage5(rec, r0, r1, ws, &cs[256..], &mut n0, &mut n1);
-    encrypt_with(rec, a, ek, &n0, &n1, &mu0, &mu1, &ws[4375..], w0, w1)
+    encrypt_with(
+        rec,
+        a,
+        ek,
+        &mut n0,
+        &mut n1,
+        &mu0,
+        &mu1,
+        &ws[4375..],
+        w0,
+        w1,
+    )
 }

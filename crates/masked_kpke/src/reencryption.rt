@@ -1,8 +1,7 @@
 // Stage 6: re-encryption, share by share.
 ghost use mathlib.Core.Path.{_≡_};
 ghost use Prim.Native.Nat.{_*_, _<_};
-ghost use lib.ListN.{length};
-ghost use Rattle.ring.specs.Transform.{ntt};
+ghost use lib.ListN.{length, take};
 ghost use Rattle.worksheet.specs.Ran.{Makes};
 ghost use Rattle.worksheet.specs.SharedList.{sharedList};
 ghost use Rattle.kpke.specs.Parameters.{mlKem768};
@@ -20,14 +19,6 @@ use kpke::vector::ntt_all;
 use ring::add_to;
 use ring::inverse_ntt;
 use worksheet::Recorder;
-
-fn transformed(y: &[u16], k: usize, z: &mut [u16])
-    requires { ⌜ (length (now y) ≡ 256 * k) × (length (now z) ≡ 256 * k) ⌝ }
-    ensures { λ _. ⌜ now (z .exit) ≡ concat k (λ j. ntt (parts 256 (now (y .entry)) j)) ⌝ }
-{
-    copy_coefficients(y, z);
-    ntt_all(z, k);
-}
 
 // Row i of u, for the matrix a, the transformed y and row i of e1.
 fn u_pass(a: &[u16], y: &[u16], e1: &[u16], k: usize, i: usize, u: &mut [u16])
@@ -72,8 +63,8 @@ fn v_pass(t: &[u16], y: &[u16], e2: &[u16], mu: &[u16], k: usize, v: &mut [u16])
     add_to(v, mu);
 }
 
-// A pass on one share, of which n holds y, e1 and e2: u, then v.
-fn uv_pass(a: &[u16], t: &[u16], n: &[u16], mu: &[u16], uv: &mut [u16])
+// A pass on one share, of which n holds y, e1 and e2: u, then v. It transforms y where it stands.
+fn uv_pass(a: &[u16], t: &[u16], n: &mut [u16], mu: &[u16], uv: &mut [u16])
     requires { ⌜
         (length (now a) ≡ 2304) × (length (now t) ≡ 768) × (length (now n) ≡ 1792) × (length (now mu) ≡ 256)
         × (length (now uv) ≡ 1024) ⌝ }
@@ -82,36 +73,47 @@ fn uv_pass(a: &[u16], t: &[u16], n: &[u16], mu: &[u16], uv: &mut [u16])
         ≡ uvPass 3 (placesOf 3 (now (a .entry))) (parts 256 (now (t .entry))) (parts 256 (now (n .entry)))
         (now (mu .entry)) ⌝ }
 {
-    let mut y = [0u16; 768];
-    transformed(&n[0..768], 3, &mut y);
-    u_passes(a, &y, &n[768..1536], 3, &mut uv[0..768]);
-    v_pass(t, &y, &n[1536..], mu, 3, &mut uv[768..]);
+    ntt_all(&mut n[0..768], 3);
+    u_passes(a, &n[0..768], &n[768..1536], 3, &mut uv[0..768]);
+    v_pass(t, &n[0..768], &n[1536..], mu, 3, &mut uv[768..]);
 }
 
-// u and v, for the matrix a.
+// u and v of one share take the first places of its noise.
+fn uv_in_place(a: &[u16], t: &[u16], n: &mut [u16], mu: &[u16])
+    requires { ⌜
+        (length (now a) ≡ 2304) × (length (now t) ≡ 768) × (length (now n) ≡ 1792) × (length (now mu) ≡ 256) ⌝ }
+    ensures { λ _. ⌜
+        take 1024 (now (n .exit))
+        ≡ uvPass 3 (placesOf 3 (now (a .entry))) (parts 256 (now (t .entry))) (parts 256 (now (n .entry)))
+        (now (mu .entry)) ⌝ }
+{
+    let mut uv = [0u16; 1024];
+    uv_pass(a, t, n, mu, &mut uv);
+    copy_coefficients(&uv, &mut n[0..1024]);
+}
+
+// u and v, for the matrix a, in the first 1,024 places of the noise.
 pub fn stage6(
     rec: Recorder,
     a: &[u16],
     ek: &[u8],
-    n0: &[u16],
-    n1: &[u16],
+    n0: &mut [u16],
+    n1: &mut [u16],
     mu0: &[u16],
     mu1: &[u16],
-    uv0: &mut [u16],
-    uv1: &mut [u16],
 ) -> Recorder
     requires { ⌜ Key (now ek) (now a) × Long 1792 (sharedList (now n0) (now n1)) ⌝ }
-    requires { ⌜ Long 256 (sharedList (now mu0) (now mu1)) × Long 1024 (sharedList (now uv0) (now uv1)) ⌝ }
+    requires { ⌜ Long 256 (sharedList (now mu0) (now mu1)) ⌝ }
     ensures { λ r. ⌜
         Makes
         (stage6Of mlKem768 (now (ek .entry)) (polynomials 7 (sharedList (now (n0 .entry)) (now (n1 .entry))))
         (sharedList (now (mu0 .entry)) (now (mu1 .entry))))
-        rec (polynomials 4 (sharedList (now (uv0 .exit)) (now (uv1 .exit)))) r ⌝ }
-    ensures { λ _. ⌜ Residues 1024 (sharedList (now (uv0 .exit)) (now (uv1 .exit))) ⌝ }
+        rec (polynomials 4 (sharedList (take 1024 (now (n0 .exit))) (take 1024 (now (n1 .exit))))) r ⌝ }
+    ensures { λ _. ⌜ Residues 1024 (sharedList (take 1024 (now (n0 .exit))) (take 1024 (now (n1 .exit)))) ⌝ }
 {
     let mut t = [0u16; 768];
     decode12_all(&ek[0..1152], 3, &mut t);
-    uv_pass(a, &t, n0, mu0, uv0);
-    uv_pass(a, &t, n1, mu1, uv1);
-    enter_polynomials(rec, 4, uv0, uv1)
+    uv_in_place(a, &t, n0, mu0);
+    uv_in_place(a, &t, n1, mu1);
+    enter_polynomials(rec, 4, &n0[0..1024], &n1[0..1024])
 }

@@ -16,6 +16,9 @@ use Rattle.masked_kpke.proofs.encryption.masked_encrypt.Tie as tie
 abbrev filled : tie.After-slice-known4 → tie.After-w0
 filled c = c .before .before .before
 
+abbrev encrypted : tie.After-w0 → tie.After-encrypt-with
+encrypted c = c .before .before .before
+
 abbrev outputs : tie.After-encrypt-with-arg3 → tie.After-mu13
 outputs c = c .before .before .before
 
@@ -74,7 +77,7 @@ encrypt-with-requires c κs =
 returns : tie.Need-returns
 unfolding maskedEncrypt encryptWith
 returns c =
-    let e = filled c .before in
+    let e = encrypted (filled c) in
     let n = noise (buffers (outputs (e .before))) in
     let m = message (strip (n .before)) in
     let a = start m .args in

@@ -1,86 +1,54 @@
 -- The passes on the two shares make the definition's k + 1 polynomials of each, and they are entered one by one.
-use mathlib.Core.Path.{_∙_}
-use native.Mathlib.Omega.{arith}
 use Rattle.worksheet.specs.SharedList.{sharedList}
 use Rattle.kpke.specs.Parameters.{mlKem768}
-use Rattle.masked_kpke.proofs.Reencrypted.{below-uvPass, stage6-of}
+use Rattle.masked_kpke.proofs.Reencrypted.{length-uvPass, below-uvPass, stage6-of}
 use borrow.Author.Needs.{needs}
 use Rattle.masked_kpke.proofs.reencryption.stage6.Statement.{statement}
 use Rattle.masked_kpke.proofs.reencryption.stage6.Tie as tie
 
 -- ---- places: after the pass on each share, after t is decoded, and the start
 
-abbrev lent : tie.After-enter-polynomials-arg2 → tie.After-slice-known4
-lent c = c .before .before
+abbrev lent : tie.After-enter-polynomials → tie.After-enter-polynomials-arg
+lent c = c .before .before .before
 
-abbrev pass1 : tie.After-slice-known4 → tie.After-uv-pass2
-pass1 c = c .before .before
+abbrev share1 : tie.After-enter-polynomials-arg → tie.After-n1
+share1 c = c .before .before .before
 
-abbrev share1 : tie.After-uv-pass-arg2 → tie.After-slice-known3
-share1 c = c .before .before
+abbrev share0 : tie.After-uv-in-place2 → tie.After-slice-known3
+share0 c = c .before .before .before
 
-abbrev pass0 : tie.After-slice-known3 → tie.After-uv-pass
+abbrev pass0 : tie.After-slice-known3 → tie.After-uv-in-place
 pass0 c = c .before .before
 
-abbrev share0 : tie.After-uv-pass-arg → tie.After-t2
-share0 c = c .before .before
+abbrev t-lent : tie.After-uv-in-place → tie.After-t2
+t-lent c = c .before .before .before
 
-abbrev decoded : tie.After-t2 → tie.After-decode12-all
-decoded c = c .before
-
-abbrev outputs : tie.After-decode12-all → tie.After-slice-known2
+abbrev outputs : tie.After-decode12-all → tie.After-shared-slice-known4
 outputs c = c .before .before .before
 
-abbrev inputs : tie.After-slice-known2 → tie.After-shared-slice-known5
+abbrev inputs : tie.After-shared-slice-known4 → tie.After-slice-known
 inputs c = c .before .before .before
 
-abbrev keys : tie.After-shared-slice-known5 → tie.After-shared-slice-known2
-keys c = c .before .before .before
-
 abbrev start : tie.After-decode12-all → tie.Start
-start c = keys (inputs (outputs c)) .before .before
-
--- ---- facts
-
-uv-pass-requires : tie.Need-uv-pass-requires
-uv-pass-requires c κs =
-    let t = decoded (share0 c) in
-    let s = start t .pre in
-    (s .0 .0 .expanded .long, t .decode12-all .kept .1 .1 .0, s .0 .1 .long0, s .1 .0 .long0, s .1 .1 .long0)
-
-uv-pass-requires-2 : tie.Need-uv-pass-requires-2
-uv-pass-requires-2 c κs =
-    let t = decoded (share0 (pass0 (share1 c) .before)) in
-    let s = start t .pre in
-    (s .0 .0 .expanded .long, t .decode12-all .kept .1 .1 .0, s .0 .1 .long1, s .1 .0 .long1, s .1 .1 .long1)
-
-enter-polynomials-requires : tie.Need-enter-polynomials-requires
-enter-polynomials-requires c κs =
-    let r₁ = pass1 (lent c) in
-    let r₀ = pass0 (share1 (r₁ .before)) in
-    let s = start (decoded (share0 (r₀ .before))) in
-    record {
-      long0 = r₀ .uv-pass .kept .1 .1 .1 .1 .0 ∙ s .pre .1 .1 .long0;
-      long1 = r₁ .uv-pass2 .kept .1 .1 .1 .1 .0 ∙ s .pre .1 .1 .long1;
-    }
+start c = inputs (outputs c) .before .before .before
 
 returns : tie.Need-returns
 returns c =
-    let r₁ = pass1 (lent (c .before)) in
-    let r₀ = pass0 (share1 (r₁ .before)) in
-    let t = decoded (share0 (r₀ .before)) in
+    let r₁ = share1 (lent c) .before in
+    let r₀ = pass0 (share0 r₁) in
+    let t = t-lent r₀ .before in
     let s = start t in
     let a = s .args in
-    let o₀ = r₀ .uv-pass in
-    let o₁ = r₁ .uv-pass2 in (
+    let o₀ = r₀ .uv-in-place .ensures in
+    let o₁ = r₁ .uv-in-place2 .ensures in (
       stage6-of mlKem768 (a .ek .now) (s .pre .0 .0 .expanded) (t .decode12-all .ensures)
           (sharedList (a .n0 .now) (a .n1 .now)) (sharedList (a .mu0 .now) (a .mu1 .now))
-          (o₀ .ensures) (o₁ .ensures) (c .enter-polynomials .ensures),
+          o₀ o₁ (c .enter-polynomials .ensures),
       record {
-        long0 = o₀ .kept .1 .1 .1 .1 .0 ∙ s .pre .1 .1 .long0;
-        long1 = o₁ .kept .1 .1 .1 .1 .0 ∙ s .pre .1 .1 .long1;
-        below0 = rw (o₀ .ensures) (below-uvPass 3 _ _ _ _);
-        below1 = rw (o₁ .ensures) (below-uvPass 3 _ _ _ _);
+        long0 = rw o₀ (length-uvPass 3 _ _ _ _);
+        long1 = rw o₁ (length-uvPass 3 _ _ _ _);
+        below0 = rw o₀ (below-uvPass 3 _ _ _ _);
+        below1 = rw o₁ (below-uvPass 3 _ _ _ _);
       },
     )
 
@@ -94,10 +62,16 @@ stage6-spec =
     (λ c. search needs)
     (λ c κs. search needs)
     (λ c. search needs)
-    uv-pass-requires
+    (λ c κs. search needs)
     (λ c. search needs)
-    uv-pass-requires-2
-    enter-polynomials-requires
+    (λ c κs. search needs)
+    (λ c. search needs)
+    (λ c. search needs)
+    (λ c. search needs)
+    (λ c. search needs)
+    (λ c. search needs)
+    (λ c. search needs)
+    (λ c κs. search needs)
     (λ c. search needs)
     (λ c. search needs)
     returns)

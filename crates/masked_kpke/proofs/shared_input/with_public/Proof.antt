@@ -1,4 +1,4 @@
--- The words fill the first 8 bytes each, and the string what is left.
+-- The words fill 8 bytes each from the front, and the string what is left.
 use Prim.Native.Nat.{_*_}
 use native.Mathlib.Omega.{arith}
 use lib.ListN.{length}

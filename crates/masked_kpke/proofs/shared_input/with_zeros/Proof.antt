@@ -1,4 +1,4 @@
--- The words fill the first 8 bytes each, and zeros what is left.
+-- The words fill 8 bytes each from the front, and zeros what is left.
 use Prim.Native.Nat.{_*_}
 use native.Mathlib.Omega.{arith}
 use lib.ListN.{length}

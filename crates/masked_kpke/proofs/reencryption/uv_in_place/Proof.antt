@@ -1,0 +1,39 @@
+-- The pass's 1,024 coefficients are copied over the first 1,024 of n.
+use mathlib.Core.Path.{_∙_, ap}
+use lib.ListN.{length}
+use lib.Seq.{take-at}
+use Rattle.masked_kpke.proofs.Reencrypted.{length-uvPass}
+use borrow.Author.Needs.{needs}
+use Rattle.masked_kpke.proofs.reencryption.uv_in_place.Statement.{statement}
+use Rattle.masked_kpke.proofs.reencryption.uv_in_place.Tie as tie
+
+-- ---- places: after the copy, and after the pass
+
+abbrev copied : tie.After-slice-known3 → tie.After-copy-coefficients
+copied c = c .before .before
+
+abbrev lent : tie.After-copy-coefficients → tie.After-uv2
+lent c = c .before .before .before
+
+abbrev passed : tie.After-uv2 → tie.After-uv-pass
+passed c = c .before .before .before
+
+returns : tie.Need-returns
+returns c =
+    let d = copied c in
+    let h = d .copy-coefficients .ensures ∙ passed (lent d) .uv-pass .ensures in
+    take-at _ _ 1024 (ap length h ∙ length-uvPass 3 _ _ _ _) ∙ h
+
+pub uv-in-place-spec : {M : Type 1} → statement M
+uv-in-place-spec =
+    tie.close
+    (tie.spec
+    (λ c. search needs)
+    (λ c κs. search needs)
+    (λ c. search needs)
+    (λ c. search needs)
+    (λ c. search needs)
+    (λ c. search needs)
+    (λ c κs. search needs)
+    (λ c. search needs)
+    returns)
