@@ -7,23 +7,21 @@ use native.Mathlib.Nat.{mul-le-mul-right}
 use native.Mathlib.Omega.{arith}
 use borrow.Author.Tests.{lt-ltb, le-ltb}
 use lib.Dec.{ltb}
-use lib.ListN.{length, getD, take, drop}
-use lib.Seq.{getD-take, getD-drop}
+use lib.ListN.{getD}
 use Rattle.words.specs.BoundedLaws.{below-nil, below-cons}
 use Rattle.words.specs.Tab.{tab, tab-cong, tab-of}
-use Rattle.words.specs.Part.{length-part}
 use Rattle.words.specs.DigitLaws.{digit-lt}
 use Rattle.codec.specs.Bytes.{bitsOf}
-use Rattle.codec.specs.BytesLaws.{length-bitsOf}
 use Rattle.ring.specs.Polynomial.{minus}
 use Rattle.codec.specs.Sample.{sum, samplePolyCbd}
+use Rattle.codec.specs.SampleLaws.{length-samplePolyCbd}
 use Rattle.fips202.specs.Sponge.{shake256}
 use Rattle.worksheet.specs.Turns.{Each}
 use Rattle.worksheet.specs.Flatten.{each-append}
 use Rattle.worksheet.specs.Gives.{Gives, ret-g, gives-bind, gives-times}
 use Rattle.worksheet.specs.Sharing.{joined, none}
 use Rattle.worksheet.specs.SharedList.{SharedList}
-use Rattle.masked_sampler.specs.SamplerLaws.{binomial, gives-sampler}
+use Rattle.masked_sampler.specs.SamplerLaws.{binomial, gives-sampler, getD-samplePolyCbd}
 use Rattle.kpke.specs.Parameters.{Parameters}
 use Rattle.kpke.specs.KPke.{noise}
 use Rattle.stages.specs.Fits.{Fits}
@@ -33,30 +31,26 @@ use Rattle.meaning.specs.StageSharing.{PolySharing, BytesSharing}
 use Rattle.meaning.specs.StageSharingLaws.{polySharing-unzip, bytesSharing-length, joined-stringBit}
 use Rattle.meaning.specs.HashValue.{gives-shake}
 
+-- the binomial reads 2 eta bits
+binomial-cong : (eta : ℕ) {x y : ℕ → ℕ} → ((j : ℕ) → j < 2 * eta → x j ≡ y j) → binomial eta x ≡ binomial eta y
+unfolding binomial
+binomial-cong eta e =
+    ap₂ (λ (s t : List ℕ). minus (sum s) (sum t)) (tab-cong eta (λ j h. e j (omega arith)))
+    (tab-cong eta (λ j h. e (eta + j) (omega arith)))
+
 module _ (eta : ℕ) {b : List ℕ} {s : SharedList} (a : BytesSharing (8 * eta) b s) where
-  abbrev bits : List ℕ
-  bits = bitsOf 8 b
-
-  length-bits : length bits ≡ 512 * eta
-  length-bits = length-bitsOf 8 b ∙ omega (arith, bytesSharing-length a)
-
-  -- eta bits, from n on
-  bits-part : (n : ℕ) → n + eta ≤ 512 * eta → take eta (drop n bits) ≡ tab eta (λ j. joined (stringBit s (n + j)))
-  bits-part n h =
-      tab-of 0 (take eta (drop n bits)) eta (length-part n eta bits (omega (arith, length-bits)))
-      (λ j g.
-      getD-take eta (drop n bits) j 0 g ∙ getD-drop n bits j 0 ∙ sym (joined-stringBit a (n + j) (omega arith)))
+  -- bit j of coefficient i
+  bit-at : (i j : ℕ) → i < 256 → j < 2 * eta
+      → getD (bitsOf 8 b) (2 * i * eta + j) 0 ≡ joined (stringBit s (2 * eta * i + j))
+  bit-at i j h g =
+      let e : 2 * i * eta + j ≡ 2 * eta * i + j = omega arith in
+      let n = mul-le-mul-right {m = i + 1} {n = 256} eta (omega arith) in
+      ap (λ (k : ℕ). getD (bitsOf 8 b) k 0) e ∙ sym (joined-stringBit a (2 * eta * i + j) (omega arith))
 
   sampled : samplePolyCbd eta b ≡ tab 256 (λ i. binomial eta (λ j. joined (stringBit s (2 * eta * i + j))))
-  unfolding samplePolyCbd binomial
   sampled =
-      tab-cong 256 (λ i h.
-      let e : 2 * i * eta ≡ 2 * eta * i = omega arith in
-      let n = mul-le-mul-right {m = i + 1} {n = 256} eta (omega arith) in
-      ap₂ (λ (x y : List ℕ). minus (sum x) (sum y))
-      (ap (λ (k : ℕ). take eta (drop k bits)) e ∙ bits-part (2 * eta * i) (omega arith))
-      (bits-part (2 * i * eta + eta) (omega arith)
-      ∙ tab-cong eta (λ j g. ap (λ (k : ℕ). joined (stringBit s k)) (omega arith))))
+      tab-of 0 (samplePolyCbd eta b) 256 (length-samplePolyCbd eta b) (λ i h.
+      getD-samplePolyCbd eta b i (bytesSharing-length a ∙ omega arith) h ∙ binomial-cong eta (λ j g. bit-at i j h g))
 
 -- noise polynomial j of the 2 k + 1: the first k have width eta1, the others eta2
 module _ (p : Parameters) (r : List ℕ) where

@@ -148,7 +148,7 @@ module _ (p : Parameters) where
     r ← stage6 ek n mu
     stage7 r
 
-  -- Algorithm 18, lines 5 to 8, and its comparison: stages 1 to 8
+  -- Algorithm 18, lines 5, 6 and 8, and the comparison of line 9: stages 1 to 8
   unfoldable pub compared : SplitKey → List ℕ → Prog Compared
   compared key c = do
     m ← maskedDecrypt (key .s) c
@@ -157,7 +157,7 @@ module _ (p : Parameters) where
     b ← stage8 c w
     ret (record { equal = b; g = g })
 
-  -- lines 7 and 9 to 12: stages 9 and 10 give K, or the rejected words
+  -- line 7 is stage 9; lines 9 to 12 are stage 10, which gives K' or the rejected words
   unfoldable pub worksheet : SplitKey → List ℕ → Prog SharedList
   worksheet key c = do
     o ← compared key c

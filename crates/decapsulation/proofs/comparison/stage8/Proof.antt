@@ -1,5 +1,4 @@
--- The ciphertext's words go into share 0, so that all words are 0 where the two ciphertexts are equal; the fold says so
--- in one bit.
+-- The ciphertext's words go into share 0, and the fold draws the whole strip: the two runs follow each other.
 use mathlib.Core.List.{[]}
 use native.Mathlib.Omega.{arith}
 use Rattle.kpke.specs.Parameters.{mlKem768}

@@ -1,5 +1,5 @@
 -- The tests go by the rows that are left: a public key out of range is row 2 and a stream that is too short row 7;
--- else a holds A-hat, from which the secret is made.
+-- else a holds A-hat, with which the ciphertext is made.
 use mathlib.Core.Path.{_≡_, sym, ap, _∙_}
 use mathlib.Core.Bool.{true}
 use mathlib.Core.List.{List}
