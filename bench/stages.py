@@ -1,4 +1,4 @@
-"""Reads what callgrind dumped at the borders of stages: instructions of each part of one masked decapsulation, for bench/decaps.
+"""Instructions of each part of one masked decapsulation, for bench/decaps, from what callgrind dumped at the borders of stages.
 
 The ten stage functions are inlined into `decapsulate`. Four functions that aren't inlined, each called at known places, mark the borders. What little is inlined
 between a border and the next stage counts with that stage: the end of stage 3 with stage 4, the start of stage 9's state with stage 8, its end with stage 10.
@@ -9,10 +9,10 @@ sys.dont_write_bytecode = True
 sys.path.append(os.path.join(os.path.dirname(os.path.abspath(__file__)), "..", "tools"))
 from models.parameters import ML_KEM_768 as P
 
-EXPAND, COMPRESS, NOISE, ABSORB = (
+EXPAND, COMPRESS, NOISE, ABSORB = MARKS = (
     "kpke::matrix::expand",
-    "masked_kpke::compression::compress_poly",
-    "masked_kpke::noise::noise_poly",
+    "masked_kpke::compression::compress_groups",
+    "masked_kpke::noise::noise_polys",
     "masked_fips202::masked_absorb::masked_absorb",
 )
 # where each stage ends: at which event, the so-manieth
@@ -21,9 +21,9 @@ ENDS = [
     ("after", COMPRESS, 1),
     ("after", ABSORB, 1),
     ("before", NOISE, 1),
-    ("after", NOISE, 2 * P.k + 1),
+    ("after", NOISE, 2),
     ("before", COMPRESS, 1),
-    ("after", COMPRESS, P.k + 1),
+    ("after", COMPRESS, 2),
     ("before", ABSORB, 1),
     ("after", ABSORB, 1),
     ("at", "end", 1),
@@ -35,7 +35,8 @@ PARTS = [("refusals", "before", EXPAND, 1, 0), ("matrix", "after", EXPAND, 1, 0)
 
 
 def options():
-    return [f"--dump-{when}={f}" for f in (EXPAND, COMPRESS, NOISE, ABSORB) for when in ("before", "after")]
+    """By a function's last name: callgrind loses patterns that begin alike."""
+    return [f"--dump-{when}=*{f.split('::')[-1]}" for f in MARKS for when in ("before", "after")]
 
 
 def dumps(text):
@@ -46,6 +47,7 @@ def dumps(text):
 
 
 def costs(found):
+    """Name, entries and instructions of each part. Found are events along a run, each with the instructions since the one before."""
     parts, out, cost, times = iter(PARTS), [], 0, 0
     name, when, f, wanted, entries = next(parts)
     for event in found:
@@ -70,4 +72,5 @@ def main():
         print(f"{name:<9} {cost:8} instructions {100 * cost / total:5.1f} %{each}")
 
 
-main()
+if __name__ == "__main__":
+    main()

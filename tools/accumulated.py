@@ -1,7 +1,7 @@
 """The accumulated test of ML-KEM-768: one hash over many turns, with the secrets from our masked decapsulation, held to the published values."""
 from hashlib import shake_128
 from models.parameters import ML_KEM_768 as P
-from outward_calls import Stream, decaps, encaps, joined, keygen, split_key, strip, u8
+from outward_calls import Stream, decaps, draw_strip, encaps, joined, keygen, split_key, u8
 
 # by the number of turns: without the decapsulation key, and with it after the public key
 PUBLISHED = {
@@ -16,11 +16,11 @@ PUBLISHED = {
 def turn(number, draw):
     """ek, dk, and then ct, k and the secret of a random ciphertext, both secrets from our shares."""
     seed = b"turn" + number.to_bytes(8, "little")
-    draws = Stream(seed, 2 * P.coefficients + 8 * 4)
+    draws = Stream(seed, P.mask_bytes)
     ek, dk = keygen(draw[:32], draw[32:64])
     ct, k = encaps(ek, draw[64:96])
     split = split_key(dk, draws.coefficients(P.coefficients), draws.words(4))
-    opened, rejected = (joined(*decaps(split, c, strip(seed + bytes([i])))) for i, c in enumerate((ct, u8(draw[96:]))))
+    opened, rejected = (joined(*decaps(split, c, draw_strip(seed + bytes([i])))) for i, c in enumerate((ct, u8(draw[96:]))))
     assert opened == bytes(k)
     return bytes(ek), bytes(dk), bytes(ct) + opened + rejected
 

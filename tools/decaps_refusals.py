@@ -14,8 +14,8 @@ def resized(buffer, n):
 class Case:
     """The ten buffers of decapsulation, of which a trace has eight, and what they held."""
 
-    def __init__(self, split, ct, masks):
-        self.lent = [*split, ct, *masks, u64(range(1, 5)), u64(range(5, 9))]
+    def __init__(self, split, ct, strip):
+        self.lent = [*split, ct, *strip, u64(range(1, 5)), u64(range(5, 9))]
         self.value = ctypes.c_uint64(77)
 
     def refused(self, number, step=0, calls=("decaps", "trace")):
@@ -50,8 +50,8 @@ def refuse_ranges(case, draws):
         buffer[place] = right
 
 
-def refuse_decaps(split, ct, masks, draws):
-    case = Case([resized(b, len(b)) for b in split], ct, [resized(b, len(b)) for b in masks])
+def refuse_decaps(split, ct, strip, draws):
+    case = Case([resized(b, len(b)) for b in split], ct, [resized(b, len(b)) for b in strip])
     refuse_lengths(case)
     refuse_steps(case)
     refuse_ranges(case, draws)

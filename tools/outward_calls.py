@@ -44,8 +44,8 @@ class Stream:
         return u16(mask_coefficients(self.bytes(2 * n)))
 
 
-def strip(seed):
-    draws = Stream(seed, 8 * P.strip_words + 2 * P.strip_coeffs)
+def draw_strip(seed):
+    draws = Stream(seed, P.strip_bytes)
     return draws.words(P.strip_words), draws.coefficients(P.strip_coeffs)
 
 
@@ -61,28 +61,28 @@ def encaps(ek, m):
     return ct, k
 
 
-def split_key(dk, masks, words):
-    """s0, s1, z0, z1 and the public part."""
+def split_key(dk, mask_coeffs, mask_words):
+    """s0, s1, z0, z1, and the public key and h."""
     split = *(u16([0] * P.coefficients) for _ in (0, 1)), *(u64([0] * 4) for _ in (0, 1)), u8(bytes(P.public_bytes))
-    assert call("tifo_import", dk, masks, words, *split) == 0
+    assert call("tifo_import", dk, mask_coeffs, mask_words, *split) == 0
     return split
 
 
-def decaps(split, ct, masks):
+def decaps(split, ct, strip):
     """The two shares of the secret."""
     k0, k1 = u64([0] * 4), u64([0] * 4)
-    assert call("tifo_decaps", *split, ct, *masks, k0, k1) == 0
+    assert call("tifo_decaps", *split, ct, *strip, k0, k1) == 0
     return k0, k1
 
 
-def trace(split, ct, masks, step, value):
+def trace(split, ct, strip, step, value):
     """The answer; value, a c_uint64, takes the step's."""
-    return call("tifo_trace", *split, ct, *masks, more=(ctypes.c_uint64(step), ctypes.byref(value)))
+    return call("tifo_trace", *split, ct, *strip, more=(ctypes.c_uint64(step), ctypes.byref(value)))
 
 
-def traced(split, ct, masks, step):
+def traced(split, ct, strip, step):
     value = ctypes.c_uint64()
-    assert trace(split, ct, masks, step, value) == 0
+    assert trace(split, ct, strip, step, value) == 0
     return value.value
 
 

@@ -106,20 +106,25 @@ def matrix(rho):
 
 
 # algorithms 13 to 15
-def pke_keygen(d):
-    g = sha3_512(d + bytes([P.k])).digest()
-    rho, sigma = g[:32], g[32:]
+def pke_keys(rho, sigma):
     s = [ntt(noise(P.eta1, sigma, i)) for i in range(P.k)]
     e = [ntt(noise(P.eta1, sigma, P.k + i)) for i in range(P.k)]
     t = [add(dot(row, s), e[i]) for i, row in enumerate(matrix(rho))]
     return b"".join(encode(12, f) for f in t) + rho, b"".join(encode(12, f) for f in s)
 
 
+def pke_keygen(d):
+    g = sha3_512(d + bytes([P.k])).digest()
+    return pke_keys(g[:32], g[32:])
+
+
 def pke_encrypt(ek, m, r):
     a, t = matrix(ek[P.vector_bytes:]), vector(12, ek[:P.vector_bytes])
     y = [ntt(noise(P.eta1, r, i)) for i in range(P.k)]
-    u = [add(inverse_ntt(dot(column, y)), noise(P.eta2, r, P.k + i)) for i, column in enumerate(zip(*a))]
-    v = add(add(inverse_ntt(dot(t, y)), noise(P.eta2, r, 2 * P.k)), decompress(1, decode(1, m)))
+    e1, e2 = [noise(P.eta2, r, P.k + i) for i in range(P.k)], noise(P.eta2, r, 2 * P.k)
+    mu = decompress(1, decode(1, m))
+    u = [add(inverse_ntt(dot(column, y)), e1[i]) for i, column in enumerate(zip(*a))]
+    v = add(add(inverse_ntt(dot(t, y)), e2), mu)
     return b"".join(encode(P.du, compress(P.du, f)) for f in u) + encode(P.dv, compress(P.dv, v))
 
 
@@ -128,15 +133,15 @@ def noisy_message(s, c):
     return subtract(decompress(P.dv, decode(P.dv, c[P.u_bytes:])), inverse_ntt(dot(s, u)))
 
 
-def pke_decrypt(s, c):
-    w = noisy_message(vector(12, s), c)
+def pke_decrypt(dk, c):
+    w = noisy_message(vector(12, dk), c)
     return encode(1, compress(1, w))
 
 
 # algorithms 16 to 18
 def keygen(d, z):
-    ek, s = pke_keygen(d)
-    return ek, s + ek + sha3_256(ek).digest() + z
+    ek, dk = pke_keygen(d)
+    return ek, dk + ek + sha3_256(ek).digest() + z
 
 
 def encaps(ek, m):

@@ -25,6 +25,7 @@ AND, XOR, ENTRY, COEFFICIENT = Use(8, 1), Use(2), Use(1), Use(4, 0, 1)
 OR = 3 * ENTRY + AND
 POLYNOMIAL = 2 * N * ENTRY
 CHI = ENTRY + AND + XOR
+SELECTION = 2 * XOR + AND
 PERMUTATION = 24 * (50 * ENTRY + 25 * CHI + ENTRY)
 
 
@@ -84,6 +85,19 @@ class Parameters:
     def ct_bytes(self):
         return self.u_bytes + 32 * self.dv
 
+    # ---- lengths of files: masks, a split key, a strip
+    @property
+    def mask_bytes(self):
+        return 2 * self.coefficients + 8 * 4
+
+    @property
+    def split_bytes(self):
+        return 2 * self.mask_bytes + self.public_bytes
+
+    @property
+    def strip_bytes(self):
+        return 8 * self.strip_words + 2 * self.strip_coeffs
+
     # ---- the parts of a decapsulation key
     def secret(self, dk):
         return dk[:self.vector_bytes]
@@ -116,7 +130,7 @@ class Parameters:
             self.k * compressed(self.du) + compressed(self.dv),
             self.plane_words * ENTRY + (self.plane_words - 1 + 6) * OR + ENTRY,
             hashed(136, 32 + self.ct_bytes, 4),
-            4 * (2 * XOR + AND),
+            4 * SELECTION,
         ]
 
     @property

@@ -105,7 +105,7 @@ class Worksheet:
     def compress(self, d, f):
         """256 coefficients: d planes for each group of 64."""
         out = []
-        for g in range(0, 256, 64):
+        for g in range(0, N, 64):
             numbers = [[self.enter((((x << d + 13) // Q) + 4096 * i) % (1 << d + 13)) for x in f[i][g:g + 64]] for i in (0, 1)]
             out += self.adder(*([sum((x >> j & 1) << k for k, x in enumerate(n)) for j in range(d + 13)] for n in numbers))[-d:]
         return out
@@ -165,15 +165,17 @@ def polynomial(sheet, *shares):
     return tuple([sheet.enter(x) for x in f] for f in shares)
 
 
-def decrypt(sheet, s, ct):
+def noisy_message(sheet, s, ct):
+    """w."""
     u = [ntt(decompress(P.du, f)) for f in vector(P.du, ct[:P.u_bytes])]
     v = decompress(P.dv, decode(P.dv, ct[P.u_bytes:]))
     products = [inverse_ntt(dot([list(s[i][N * j:N * (j + 1)]) for j in range(P.k)], u)) for i in (0, 1)]
     return polynomial(sheet, subtract(v, products[0]), subtract([0] * N, products[1]))
 
 
-def encrypt(sheet, ek, message, coins):
-    mu = pairs([sheet.coefficient(b, 1665) for b in bits(message)])
+def encrypt(sheet, ek, m, coins):
+    """u and v."""
+    mu = pairs([sheet.coefficient(b, 1665) for b in bits(m)])
     noise = []
     for n in range(2 * P.k + 1):
         eta = P.eta1 if n < P.k else P.eta2
@@ -186,14 +188,15 @@ def encrypt(sheet, ek, message, coins):
     return u + [polynomial(sheet, *(add(add(inverse_ntt(dot(t, y[i])), e2[i]), mu[i]) for i in (0, 1)))]
 
 
-def worksheet(split, ct, masks):
+def worksheet(split, ct, strip):
     """Entries, and the shares of K."""
     s0, s1, z0, z1, public = split
-    public, ct, sheet = bytes(public), bytes(ct), Worksheet(*masks)
-    message = sheet.compress(1, decrypt(sheet, (s0, s1), ct))
-    g = sheet.hash(72, 6, message, public[P.ek_bytes:], 8)
-    again = encrypt(sheet, public[:P.ek_bytes], message, g[4:])
-    words = [v for d, f in zip(P.k * [P.du] + [P.dv], again) for v in sheet.compress(d, f)]
+    public, ct, sheet = bytes(public), bytes(ct), Worksheet(*strip)
+    m = sheet.compress(1, noisy_message(sheet, (s0, s1), ct))
+    g = sheet.hash(72, 6, m, public[P.ek_bytes:], 8)
+    coins = g[4:]
+    uv = encrypt(sheet, public[:P.ek_bytes], m, coins)
+    words = [v for d, f in zip(P.k * [P.du] + [P.dv], uv) for v in sheet.compress(d, f)]
     size = 32 * P.du
     theirs = [p for i in range(P.k) for p in planes(P.du, ct[size * i:size * (i + 1)])] + planes(P.dv, ct[P.u_bytes:])
     equal = sheet.all_zero([(sheet.enter(v[0] ^ c), v[1]) for v, c in zip(words, theirs)])

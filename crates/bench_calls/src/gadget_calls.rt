@@ -1,10 +1,8 @@
-// Gadgets for bench/gadgets. Each hands back the entry that is `left` entries ahead, mixed with its result, so that no
-// work is left out.
+// Gadgets for bench/gadgets. Each hands back the entry that is `left` entries ahead, and 0 where there is none or where
+// what is lent is too short or out of range. Where the last entry is asked for no work is left out.
 ghost use Prim.Native.Nat.{_≤_};
-ghost use lib.ListN.{length};
-ghost use Rattle.words.specs.Bounded.{Below};
-ghost use Rattle.words.specs.Residue.{q};
-ghost use Rattle.bench_calls.specs.Group.{Group};
+use masked_compression::compression::masked_compress;
+use mlkem::conditions::reduced;
 use worksheet::Recorder;
 use worksheet::Shares;
 
@@ -17,50 +15,54 @@ pub extern "C" fn bench_adder(x: &[u64; 24], y: &[u64; 24], masks: &[u64], left:
     let a = *x;
     let b = *y;
     let o = masked_compression::adder::adder(Recorder { left, value: 0 }, 23, a, b, masks);
-    let sum = o.value;
-    o.rec.value ^ sum.s0[22] ^ sum.s1[22]
+    o.rec.value
 }
 
-// Masked compression of 64 coefficients at depth 10.
-#[no_mangle]
-pub extern "C" fn bench_compress10(x0: &[u16], x1: &[u16], masks: &[u64], left: u64) -> u64
-    requires { ⌜ Group (now x0) (now x1) (now masks) 68 ⌝ }
+// Masked compression of 64 coefficients at depth d.
+fn compress(d: usize, x0: &[u16], x1: &[u16], masks: &[u64], left: u64) -> u64
+    requires { ⌜ d ≤ 11 ⌝ }
 {
-    let o = masked_compression::compression::masked_compress(
-        Recorder { left, value: 0 },
-        10,
-        x0,
-        x1,
-        masks,
-    );
-    let sum = o.value;
-    o.rec.value ^ sum.s0[22] ^ sum.s1[22]
+    if x0.len() != 64 {
+        return 0;
+    }
+    if x1.len() != 64 {
+        return 0;
+    }
+    if masks.len() < 3 * d + 38 {
+        return 0;
+    }
+    if !reduced(x0) {
+        return 0;
+    }
+    if !reduced(x1) {
+        return 0;
+    }
+    let o = masked_compress(Recorder { left, value: 0 }, d, x0, x1, masks);
+    o.rec.value
 }
 
-// The same at depth 4.
 #[no_mangle]
-pub extern "C" fn bench_compress4(x0: &[u16], x1: &[u16], masks: &[u64], left: u64) -> u64
-    requires { ⌜ Group (now x0) (now x1) (now masks) 50 ⌝ }
-{
-    let o = masked_compression::compression::masked_compress(
-        Recorder { left, value: 0 },
-        4,
-        x0,
-        x1,
-        masks,
-    );
-    let sum = o.value;
-    o.rec.value ^ sum.s0[16] ^ sum.s1[16]
+pub extern "C" fn bench_compress10(x0: &[u16], x1: &[u16], masks: &[u64], left: u64) -> u64 {
+    compress(10, x0, x1, masks, left)
+}
+
+#[no_mangle]
+pub extern "C" fn bench_compress4(x0: &[u16], x1: &[u16], masks: &[u64], left: u64) -> u64 {
+    compress(4, x0, x1, masks, left)
 }
 
 // The sampler of width 2, on the lowest four bits of a word.
 #[no_mangle]
-pub extern "C" fn bench_sampler(b0: u64, b1: u64, masks: &[u16], left: u64) -> u64
-    requires { ⌜ (4 ≤ length (now masks)) × Below q (now masks) ⌝ }
-{
+pub extern "C" fn bench_sampler(b0: u64, b1: u64, masks: &[u16], left: u64) -> u64 {
+    if masks.len() < 4 {
+        return 0;
+    }
+    if !reduced(masks) {
+        return 0;
+    }
     let b = Shares { s0: b0, s1: b1 };
     let o = masked_sampler::sampler::sampler(Recorder { left, value: 0 }, 2, b, masks);
-    o.rec.value ^ (o.s0 as u64) ^ (o.s1 as u64)
+    o.rec.value
 }
 
 // The fold of 136 words to the equal bit.
@@ -82,5 +84,5 @@ pub extern "C" fn bench_fold(w0: &[u64], w1: &[u64], masks: &[u64], left: u64) -
         w1,
         masks,
     );
-    o.rec.value ^ o.value.s0 ^ o.value.s1
+    o.rec.value
 }

@@ -6,7 +6,7 @@ ghost use lib.ListN.{length};
 ghost use Rattle.keccak.specs.KeccakP.{keccak-p};
 ghost use Rattle.worksheet.specs.Run.{run};
 ghost use Rattle.worksheet.specs.SharedList.{sharedList};
-ghost use Rattle.masked_keccak.specs.MaskedKeccak.{maskedKeccakP};
+ghost use Rattle.masked_keccak.specs.MaskedKeccak.{maskedKeccakP, keccakPWords};
 use keccak::state::State;
 use worksheet::Recorder;
 
@@ -31,7 +31,7 @@ pub extern "C" fn bench_masked_keccak_p(
     left: u64,
 ) -> u64
     ensures { λ _. ⌜
-        (600 ≤ length (now (masks .entry))
+        (keccakPWords ≤ length (now (masks .entry))
         → sharedList (now (s .exit)) (now (t .exit))
         ≡ run (maskedKeccakP (sharedList (now (s .entry)) (now (t .entry)))) (now (masks .entry)) [] .value)
         ⌝ }

@@ -6,24 +6,31 @@ use lib.ListN.{length, take, drop}
 use Rattle.words.specs.LittleEndian.{wordsToBytes}
 use Rattle.buffers.specs.LittleEndian.{numbers}
 
--- the parts of a split key have their lengths: the shares of the secret's coefficients, those of z's words,
--- the public part
-pub record Sized (s0 s1 z0 z1 pub-h : List ℕ) : Type 0 where
+-- the parts of a split key have their lengths: the shares of the secret's coefficients, those of z's words, the public
+-- key and h
+pub record Sized (s0 s1 z0 z1 public : List ℕ) : Type 0 where
   pub s0-long : length s0 ≡ 768
   pub s1-long : length s1 ≡ 768
   pub z0-long : length z0 ≡ 4
   pub z1-long : length z1 ≡ 4
+  pub public-long : length public ≡ 1216
+
+-- so do those behind the secret's, and the bytes that they go to
+pub record RestSized (z0 z1 pub-h out : List ℕ) : Type 0 where
+  pub z0-long : length z0 ≡ 4
+  pub z1-long : length z1 ≡ 4
   pub public-long : length pub-h ≡ 1216
+  pub bytes : length out ≡ 1280
 
 -- what the file holds, in this order
 unfoldable pub splitBytes : List ℕ → List ℕ → List ℕ → List ℕ → List ℕ → List ℕ
-splitBytes s0 s1 z0 z1 pub-h =
-    (wordsToBytes 2 s0 ++ wordsToBytes 2 s1) ++ ((wordsToBytes 8 z0 ++ wordsToBytes 8 z1) ++ pub-h)
+splitBytes s0 s1 z0 z1 public =
+    (wordsToBytes 2 s0 ++ wordsToBytes 2 s1) ++ ((wordsToBytes 8 z0 ++ wordsToBytes 8 z1) ++ public)
 
 -- what the file b of a split key is read into
-pub record Unpacked (b s0 s1 z0 z1 pub-h : List ℕ) : Type 0 where
+pub record Unpacked (b s0 s1 z0 z1 public₁ : List ℕ) : Type 0 where
   pub secret0 : s0 ≡ numbers 2 768 (take 1536 b)
   pub secret1 : s1 ≡ numbers 2 768 (take 1536 (drop 1536 b))
   pub reject0 : z0 ≡ numbers 8 4 (take 32 (drop 3072 b))
   pub reject1 : z1 ≡ numbers 8 4 (take 32 (drop 3104 b))
-  pub public : pub-h ≡ take 1216 (drop 3136 b)
+  pub public : public₁ ≡ take 1216 (drop 3136 b)

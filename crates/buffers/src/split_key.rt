@@ -3,7 +3,7 @@ ghost use mathlib.Core.List.{_++_};
 ghost use mathlib.Core.Path.{_≡_};
 ghost use lib.ListN.{length};
 ghost use Rattle.words.specs.LittleEndian.{wordsToBytes};
-ghost use Rattle.buffers.specs.Split.{Sized, splitBytes, Unpacked};
+ghost use Rattle.buffers.specs.Split.{Sized, RestSized, splitBytes, Unpacked};
 use crate::little_endian::get_coefficients;
 use crate::little_endian::get_words;
 use crate::little_endian::put_coefficients;
@@ -27,8 +27,7 @@ pub fn pack_words(z0: &[u64], z1: &[u64], out: &mut [u8])
 }
 
 fn pack_rest(z0: &[u64], z1: &[u64], public: &[u8], out: &mut [u8])
-    requires { ⌜ (length (now z0) ≡ 4) × (length (now z1) ≡ 4)
-        × (length (now public) ≡ 1216) × (length (now out) ≡ 1280) ⌝ }
+    requires { ⌜ RestSized (now z0) (now z1) (now public) (now out) ⌝ }
     ensures { λ _. ⌜ now (out .exit)
         ≡ (wordsToBytes 8 (now (z0 .entry)) ++ wordsToBytes 8 (now (z1 .entry))) ++ now (public .entry) ⌝ }
 {

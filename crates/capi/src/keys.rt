@@ -1,5 +1,6 @@
 // Sampling, key making, encapsulation and import for C.
 ghost use Rattle.kpke.specs.Parameters.{mlKem768};
+ghost use Rattle.mlkem.specs.SplitKey.{splitKey};
 ghost use Rattle.mlkem.specs.Calls.{StreamSampled, KeysMade, Encapsulated, Imported};
 use crate::refusal;
 
@@ -51,8 +52,8 @@ pub extern "C" fn tifo_encaps(ek: &[u8], m: &[u8], ct: &mut [u8], k: &mut [u8]) 
 #[no_mangle]
 pub extern "C" fn tifo_import(
     dk: &[u8],
-    coeffs: &[u16],
-    words: &[u64],
+    mask_coeffs: &[u16],
+    mask_words: &[u64],
     s0: &mut [u16],
     s1: &mut [u16],
     z0: &mut [u64],
@@ -60,23 +61,11 @@ pub extern "C" fn tifo_import(
     public: &mut [u8],
 ) -> u32
     ensures { λ r. ⌜
-        Imported
-        mlKem768
-        (now (dk .entry))
-        (now (coeffs .entry))
-        (now (words .entry))
-        (now (s0 .entry))
-        (now (s1 .entry))
-        (now (z0 .entry))
-        (now (z1 .entry))
-        (now (public .entry))
+        Imported mlKem768 (now (dk .entry)) (now («mask_coeffs» .entry)) (now («mask_words» .entry))
+        (splitKey (now (s0 .entry)) (now (s1 .entry)) (now (z0 .entry)) (now (z1 .entry)) (now (public .entry)))
         r
-        (now (s0 .exit))
-        (now (s1 .exit))
-        (now (z0 .exit))
-        (now (z1 .exit))
-        (now (public .exit))
+        (splitKey (now (s0 .exit)) (now (s1 .exit)) (now (z0 .exit)) (now (z1 .exit)) (now (public .exit)))
         ⌝ }
 {
-    refusal(mlkem::import(dk, coeffs, words, s0, s1, z0, z1, public))
+    refusal(mlkem::import(dk, mask_coeffs, mask_words, s0, s1, z0, z1, public))
 }

@@ -4,13 +4,12 @@ ghost use lib.ListN.{length};
 use crate::lines::print_bytes;
 use crate::lines::print_start;
 use crate::lines::print_step;
-use buffers::little_endian::get_coefficients;
-use buffers::little_endian::get_words;
 use buffers::little_endian::put_words;
 use buffers::values::reduce;
 use buffers::values::xor_words;
 use cli_support::answers::is_refused;
 use cli_support::arguments::same;
+use cli_support::mask_file;
 use cli_support::messages;
 use cli_support::strip_file;
 use libc::STDOUT_FILENO;
@@ -190,8 +189,7 @@ fn run_masks(draws: &[u8], words: &[u64], coeffs: &[u16]) -> bool
 {
     let mut mask_coeffs = [0u16; 768];
     let mut mask_words = [0u64; 4];
-    get_coefficients(&draws[96..1632], &mut mask_coeffs);
-    get_words(&draws[1632..1664], &mut mask_words);
+    mask_file::unpack(&draws[96..1664], &mut mask_coeffs, &mut mask_words);
     reduce(&mut mask_coeffs);
     run_key(&draws[0..96], &mask_coeffs, &mask_words, words, coeffs)
 }

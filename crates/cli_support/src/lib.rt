@@ -2,6 +2,7 @@
 pub mod answers; // refused calls
 pub mod arguments; // the words of the command line
 pub mod inputs; // files, read whole
+pub mod mask_file; // the file of import's masks
 pub mod messages; // lines on standard error
 pub mod outputs; // files, written whole
 pub mod split_file; // the file of a split key

@@ -1,15 +1,14 @@
 // The file of a strip: 11,750 words, then 7,424 coefficients.
 ghost use mathlib.Core.Path.{_≡_};
-ghost use lib.ListN.{length, take, drop};
-ghost use Rattle.buffers.specs.LittleEndian.{numbers};
+ghost use lib.ListN.{length};
+ghost use Rattle.cli_support.specs.StripFile.{StripSized, StripUnpacked};
 use crate::inputs::read_exact;
 use buffers::little_endian::get_coefficients;
 use buffers::little_endian::get_words;
 
 pub fn unpack(b: &[u8], words: &mut [u64], coeffs: &mut [u16])
-    requires { ⌜ (length (now b) ≡ 108848) × (length (now words) ≡ 11750) × (length (now coeffs) ≡ 7424) ⌝ }
-    ensures { λ _. ⌜ now (words .exit) ≡ numbers 8 11750 (take 94000 (now (b .entry))) ⌝ }
-    ensures { λ _. ⌜ now (coeffs .exit) ≡ numbers 2 7424 (drop 94000 (now (b .entry))) ⌝ }
+    requires { ⌜ StripSized (now b) (now words) (now coeffs) ⌝ }
+    ensures { λ _. ⌜ StripUnpacked (now (b .entry)) (now (words .exit)) (now (coeffs .exit)) ⌝ }
 {
     get_words(&b[0..94000], words);
     get_coefficients(&b[94000..], coeffs);

@@ -32,7 +32,7 @@ bitsOf-append d (x ∷ l) m =
     ap (λ (k : List ℕ). digits 2 d x ++ k) (bitsOf-append d l m)
     ∙ sym (append-assoc (digits 2 d x) (bitsOf d l) (bitsOf d m))
 
-pub length-numbersOf : (d n : ℕ) (b : List ℕ) → length (numbersOf d n b) ≡ n
+length-numbersOf : (d n : ℕ) (b : List ℕ) → length (numbersOf d n b) ≡ n
 unfolding numbersOf
 length-numbersOf d zero b = refl
 length-numbersOf d (suc n) b = ap suc (length-numbersOf d n (drop d b))
@@ -47,7 +47,7 @@ getD-numbersOf d (suc n) b (suc i) h =
     getD-numbersOf d n (drop d b) i (omega arith)
     ∙ ap (λ (l : List ℕ). value 2 (take d l)) (drop-drop (d * i) d b ∙ ap (λ (k : ℕ). drop k b) e)
 
-pub below-numbersOf : (d n : ℕ) {b : List ℕ} → length b ≡ d * n → Below 2 b → Below (2 ^ d) (numbersOf d n b)
+below-numbersOf : (d n : ℕ) {b : List ℕ} → length b ≡ d * n → Below 2 b → Below (2 ^ d) (numbersOf d n b)
 unfolding numbersOf
 below-numbersOf d zero e h = below-nil (pow-pos d)
 below-numbersOf d (suc n) {b} e h =

@@ -1,5 +1,5 @@
 -- SampleNTT's loop: numbers are collected in 256 places, and those that find no place are dropped.
-use mathlib.Core.Path.{_≡_, refl, sym, ap, _∙_}
+use mathlib.Core.Path.{_≡_, refl, sym, ap, _∙_, subst}
 use mathlib.Core.List.{List, [], _∷_, _++_, append-nil}
 use Prim.Native.Nat.{ℕ, _+_, _<_, _≤_}
 use native.Mathlib.Numerals.{add-one}
@@ -20,6 +20,9 @@ pub record Collected (l f : List ℕ) (k : ℕ) : Type 0 where
 
 pub collected-start : {f : List ℕ} → length f ≡ 256 → Collected [] f 0
 collected-start h = record { long = h; count = refl; front = refl }
+
+pub collected-as : {l m f : List ℕ} {k : ℕ} → l ≡ m → Collected l f k → Collected m f k
+collected-as {f = f} {k} e c = subst (λ (l : List ℕ). Collected l f k) e c
 
 module _ {l f : List ℕ} {k : ℕ} (c : Collected l f k) where
   -- x is below q, and there is room

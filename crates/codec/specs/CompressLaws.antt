@@ -23,8 +23,8 @@ pub getD-compress : (d : ℕ) (f : List ℕ) (i : ℕ) → getD (map (compress d
 getD-compress d f i =
     ap (λ (z : ℕ). getD (map (compress d) f) i z) (sym (compress-zero d)) ∙ List·getD-map (compress d) f i 0
 
-pub below-compress : {a : ℕ} (d : ℕ) (f : List ℕ) → Below a f → Below (2 ^ d) (map (compress d) f)
-below-compress d f h = below-map (compress d) (pow-pos d) (λ x l. compress-lt d x) f h
+pub below-compress : (d : ℕ) (f : List ℕ) → Below (2 ^ d) (map (compress d) f)
+below-compress d f = below-map (compress d) (pow-pos d) (compress-lt d) f
 
 -- a, b and y are 2^d times two shares and their sum modulo q, v is 2^d where the sum wrapped
 module _ (a b y v : ℕ) (h : a + b ≡ y + q * v) where

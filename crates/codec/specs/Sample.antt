@@ -1,13 +1,11 @@
 -- FIPS 203, section 4.2.2: SampleNTT and SamplePolyCBD.
 use mathlib.Core.List.{List, [], _∷_, _++_}
-use mathlib.Core.Bool.{Bool, true, false, cond}
+use mathlib.Core.Bool.{Bool, cond}
 use Prim.Native.Nat.{ℕ, zero, suc, _+_, _*_, _/_, _%_}
 use lib.Dec.{leb, ltb}
 use lib.ListN.{length, getD, take, drop}
 use Rattle.words.specs.Residue.{q}
 use Rattle.words.specs.Tab.{tab}
-use Rattle.codec.specs.declared.sampling.Sampled.{Sampled}
-use Rattle.codec.specs.declared.sampling.Sampled.the-variants.{Full, Short}
 use Rattle.codec.specs.Bytes.{bitsOf}
 use Rattle.ring.specs.Polynomial.{minus}
 
@@ -35,11 +33,6 @@ sampleNtt s = take 256 (accepted 280 s)
 
 abbrev pub full : List ℕ → Bool
 full s = leb 256 (length (accepted 280 s))
-
--- what the code answers
-abbrev pub answerOf : Bool → Sampled
-answerOf true = Full
-answerOf false = Short
 
 -- ---- Algorithm 8, SamplePolyCBD_eta
 

@@ -8,7 +8,7 @@ use native.Mathlib.Omega.{arith}
 use lib.ListN.{length, take, drop, length-take, length-drop, length-append, length-map, List·getD-map}
 use lib.Seq.{take-at, drop-at, take-add, drop-drop}
 use Rattle.words.specs.Residue.{q}
-use Rattle.words.specs.Tab.{length-tab, tab-of}
+use Rattle.words.specs.TabLaws.{length-tab, tab-of}
 use Rattle.words.specs.Bounded.{Below}
 use Rattle.words.specs.BoundedLaws.{below-append, below-take, below-drop, below-tab}
 use Rattle.words.specs.Numeral.{value, digits}

@@ -1,6 +1,7 @@
 // Numbers by their bits, for the functions of FIPS 203's section 4.2.
 ghost use mathlib.Core.Path.{_≡_};
-ghost use Prim.Native.Nat.{_+_, _*_, _/_, _%_, _^_, _<_, _≤_};
+ghost use Prim.Native.Nat.{_+_, _*_, _/_, _%_, _^_, _≤_};
+ghost use Rattle.codec.specs.Sizes.{AboveInput};
 
 pub fn wide16(x: u16) -> u32
     ensures { λ r. ⌜ r ≡ x ⌝ }
@@ -16,7 +17,7 @@ pub fn wide8(x: u8) -> u32
 
 // x above the n bits of acc
 pub fn put_above(acc: u32, x: u32, n: u32) -> u32
-    requires { ⌜ (n < 16) × (acc < 2 ^ n) × (x < 2 ^ 12) ⌝ }
+    requires { ⌜ AboveInput acc x n ⌝ }
     ensures { λ r. ⌜ r ≡ acc + x * 2 ^ n ⌝ }
 {
     acc + (x << n)

@@ -6,9 +6,10 @@ use crate::bits::wide16;
 use ring::quotient;
 ghost use mathlib.Core.Path.{_≡_};
 ghost use mathlib.Core.List.{map};
-ghost use Prim.Native.Nat.{_+_, _*_, _^_, _<_, _≤_};
+ghost use Prim.Native.Nat.{_^_, _≤_};
 ghost use Rattle.words.specs.Bounded.{Below};
 ghost use Rattle.codec.specs.Compress.{compress, decompress};
+ghost use Rattle.codec.specs.Sizes.{DecompressInput};
 
 // Compress_d, (4.7): (2 a + q) / (2 q) is (a + 1664) / q.
 pub fn compress(x: u16, d: u32) -> u16
@@ -20,7 +21,7 @@ pub fn compress(x: u16, d: u32) -> u16
 
 // Decompress_d, (4.8)
 pub fn decompress(y: u16, d: u32) -> u16
-    requires { ⌜ (d ≤ 11) × (y < 2 ^ d) ⌝ }
+    requires { ⌜ DecompressInput y d ⌝ }
     ensures { λ r. ⌜ r ≡ decompress d y ⌝ }
 {
     high(6658 * wide16(y) + shifted(1, d), d + 1) as u16

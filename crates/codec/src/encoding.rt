@@ -8,19 +8,15 @@ use crate::bits::wide16;
 use ring::reduce;
 ghost use mathlib.Core.Path.{_≡_};
 ghost use mathlib.Core.List.{map};
-ghost use Prim.Native.Nat.{_*_, _%_, _^_, _<_, _≤_};
+ghost use Prim.Native.Nat.{_%_};
 ghost use lib.ListN.{length};
 ghost use Rattle.words.specs.Residue.{q};
-ghost use Rattle.words.specs.Bounded.{Below};
 ghost use Rattle.codec.specs.Bytes.{byteEncode, byteDecode, byteDecode12};
+ghost use Rattle.codec.specs.Sizes.{EncodeInput, DecodeInput};
 
 // Algorithm 5, ByteEncode_d: each turn loads a coefficient or stores a byte.
 pub fn byte_encode(f: &[u16], d: u32, out: &mut [u8])
-    requires { ⌜ (length (now f) ≡ 256)
-        × (length (now out) ≡ 32 * d)
-        × (0 < d)
-        × (d ≤ 12)
-        × Below (2 ^ d) (now f) ⌝ }
+    requires { ⌜ EncodeInput (now f) d (now out) ⌝ }
     ensures { λ _. ⌜ now (out .exit) ≡ byteEncode d (now (f .entry)) ⌝ }
 {
     let mut acc: u32 = 0;
@@ -43,7 +39,7 @@ pub fn byte_encode(f: &[u16], d: u32, out: &mut [u8])
 
 // Algorithm 6, ByteDecode_d, its numbers not yet reduced at d = 12: each turn loads a byte or stores a coefficient.
 pub fn byte_decode(b: &[u8], d: u32, f: &mut [u16])
-    requires { ⌜ (length (now b) ≡ 32 * d) × (length (now f) ≡ 256) × (0 < d) × (d ≤ 12) ⌝ }
+    requires { ⌜ DecodeInput (now b) d (now f) ⌝ }
     ensures { λ _. ⌜ now (f .exit) ≡ byteDecode d (now (b .entry)) ⌝ }
 {
     let mut acc: u32 = 0;

@@ -4,16 +4,18 @@ use crate::bits::low;
 use crate::bits::wide16;
 use crate::encoding::byte_decode;
 use ring::difference;
-ghost use mathlib.Core.Bool.{true, cond};
+ghost use mathlib.Core.Bool.{cond};
 ghost use mathlib.Core.List.{List, _++_, map};
 ghost use mathlib.Core.Path.{_≡_};
-ghost use Prim.Native.Nat.{ℕ, _+_, _*_, _/_, _%_, _^_, _<_, _≤_};
+ghost use Prim.Native.Nat.{ℕ, _+_, _*_, _/_, _%_, _^_, _≤_};
 ghost use lib.ListN.{length};
 ghost use Rattle.words.specs.Bounded.{Below};
-ghost use Rattle.words.specs.Numeral.{digits};
-ghost use Rattle.codec.specs.Sample.{kept, accepted, full, answerOf, sampleNtt, sum, samplePolyCbd};
+ghost use Rattle.codec.specs.Sample.{kept, accepted, full, sampleNtt, samplePolyCbd};
+ghost use Rattle.codec.specs.SampleAnswer.{answerOf};
 ghost use Rattle.codec.specs.SampleLaws.{centred};
 ghost use Rattle.codec.specs.Collect.{Collected};
+ghost use Rattle.codec.specs.Sizes.{CentredInput, CbdInput};
+ghost use Rattle.codec.specs.Results.{KeptCount, BitCount, Sampling};
 
 pub enum Sampled {
     Full,
@@ -36,7 +38,7 @@ fn d2_of(b1: u8, b2: u8) -> u16
 
 // Algorithm 7, lines 8 and 12: 1 where x is kept
 fn accepts(x: u16) -> usize
-    ensures { λ r. ⌜ (r ≡ length (kept x)) × (r ≤ 1) ⌝ }
+    ensures { λ r. ⌜ KeptCount x r ⌝ }
 {
     if x < 3329 { 1 } else { 0 }
 }
@@ -71,8 +73,7 @@ fn keep(f: &mut [u16], k: usize, x: u16) -> usize
 // Algorithm 7, SampleNTT: whether the stream fills f, which then holds what SampleNTT gives.
 pub fn fill_ntt(stream: &[u8], f: &mut [u16]) -> bool
     requires { ⌜ (length (now stream) ≡ 840) × (length (now f) ≡ 256) ⌝ }
-    ensures { λ r. ⌜ r ≡ full (now (stream .entry)) ⌝ }
-    ensures { λ r. ⌜ (r ≡ true → now (f .exit) ≡ sampleNtt (now (stream .entry))) ⌝ }
+    ensures { λ r. ⌜ Sampling (full (now (stream .entry))) (sampleNtt (now (stream .entry))) r (now (f .exit)) ⌝ }
 {
     let mut k = 0;
     for i in 0..280 {
@@ -98,14 +99,14 @@ pub fn sample_ntt(stream: &[u8], f: &mut [u16]) -> Sampled
 
 // how many of the three bits of v are 1
 fn weight(v: u16) -> u16
-    ensures { λ r. ⌜ (r ≡ sum (digits 2 3 v)) × (r ≤ 3) ⌝ }
+    ensures { λ r. ⌜ BitCount v r ⌝ }
 {
     v % 2 + v / 2 % 2 + v / 4 % 2
 }
 
 // Algorithm 8, lines 3 to 5: x - y of the 2 eta bits of v
 fn centred_at(v: u16, eta: u32) -> u16
-    requires { ⌜ (eta ≤ 3) × (v < 2 ^ (2 * eta)) ⌝ }
+    requires { ⌜ CentredInput v eta ⌝ }
     ensures { λ r. ⌜ r ≡ centred eta v ⌝ }
 {
     difference(
@@ -126,7 +127,7 @@ fn centre_all(f: &mut [u16], eta: u32)
 
 // Algorithm 8, SamplePolyCBD_eta
 pub fn sample_poly_cbd(bytes: &[u8], eta: u32, f: &mut [u16])
-    requires { ⌜ (length (now bytes) ≡ 64 * eta) × (length (now f) ≡ 256) × (0 < eta) × (eta ≤ 3) ⌝ }
+    requires { ⌜ CbdInput (now bytes) eta (now f) ⌝ }
     ensures { λ _. ⌜ now (f .exit) ≡ samplePolyCbd eta (now (bytes .entry)) ⌝ }
 {
     byte_decode(bytes, 2 * eta, f);

@@ -1,7 +1,7 @@
 -- The words that stage 8 compares, as the code writes them, and its equal bit.
-use mathlib.Core.Path.{_≡_, refl, sym, ap, _∙_, subst}
-use mathlib.Core.List.{List, [], _∷_, _++_, flatten, append-nil, append-assoc}
-use Prim.Native.Nat.{ℕ, zero, suc, _+_, _-_, _*_, _^_, _<_}
+use mathlib.Core.Path.{_≡_, sym, ap, _∙_, subst}
+use mathlib.Core.List.{List, [], _++_, flatten}
+use Prim.Native.Nat.{ℕ, _+_, _-_, _*_, _^_, _<_}
 use native.Mathlib.Omega.{arith}
 use lib.ListN.{length, getD, take, drop}
 use lib.Seq.{getD-take, getD-drop}
@@ -11,7 +11,8 @@ use Rattle.words.specs.Digit.{digit}
 use Rattle.words.specs.Part.{part-take, part-rest}
 use Rattle.words.specs.Plane.{plane}
 use Rattle.words.specs.PlaneLaws.{plane-cong}
-use Rattle.words.specs.Tab.{tab, length-tab, tab-cong}
+use Rattle.words.specs.Tab.{tab}
+use Rattle.words.specs.TabLaws.{tab-cong}
 use Rattle.codec.specs.Bytes.{byteDecode}
 use Rattle.worksheet.specs.declared.Recorder.{Recorder}
 use Rattle.worksheet.specs.declared.Shares.{Shares}
@@ -20,28 +21,19 @@ use Rattle.worksheet.specs.Ran.{Ran, Makes, Draws, bind}
 use Rattle.worksheet.specs.Gives.{gives-run}
 use Rattle.worksheet.specs.Sharing.{none, joined}
 use Rattle.worksheet.specs.SharingLaws.{Sharing, sharing-joined}
-use Rattle.worksheet.specs.SharedList.{sharedList, sharedAt, zip}
+use Rattle.worksheet.specs.SharedList.{sharedList, sharedAt}
+use Rattle.worksheet.specs.Zip.{zip}
 use Rattle.worksheet.specs.SharedListLaws.{getD-zip}
 use Rattle.masked_comparison.specs.Comparison.{addPublic, allZero}
 use Rattle.masked_comparison.specs.ComparisonReads.{addPublic-cong, allZero-cong}
 use Rattle.masked_comparison.specs.ComparisonLaws.{gives-allZero}
 use Rattle.kpke.specs.Parameters.{Parameters}
-use Rattle.kpke.specs.KPke.{parts, concat}
-use Rattle.kpke.specs.VectorLaws.{part-fits, length-concat}
+use Rattle.kpke.specs.KPke.{parts}
+use Rattle.kpke.specs.VectorLaws.{part-fits}
 use Rattle.kpke.proofs.Concatenated.{two-parts}
-use Rattle.stages.specs.Worksheet.{planeWords, ciphertextWords, wordCount, stage8}
-
--- ---- lists put one behind the other
-
-flatten-snoc : (l : List (List ℕ)) (x : List ℕ) → flatten (l ++ x ∷ []) ≡ flatten l ++ x
-unfolding flatten
-flatten-snoc [] x = append-nil x
-flatten-snoc (y ∷ l) x = ap (λ (z : List ℕ). y ++ z) (flatten-snoc l x) ∙ sym (append-assoc y (flatten l) x)
-
-pub concat-flatten : (k : ℕ) (f : ℕ → List ℕ) → concat k f ≡ flatten (tab k f)
-unfolding concat tab flatten
-concat-flatten zero f = refl
-concat-flatten (suc k) f = ap (λ (z : List ℕ). z ++ f k) (concat-flatten k f) ∙ sym (flatten-snoc (tab k f) (f k))
+use Rattle.stages.specs.Worksheet.{planesOf, ciphertextPlanes, wordCount, stage8}
+use Rattle.meaning.specs.FlattenLaws.{length-flatten}
+use Rattle.meaning.specs.PlanesValue.{length-planesOf}
 
 -- ---- the planes of group g of f, and the ciphertext's words: those of the first k polynomials, then those of the last
 
@@ -54,37 +46,31 @@ group-planes d g f =
     (tab-cong d (λ t h.
     plane-cong 64 t t _ _ (λ i l. ap (digit t) (getD-take 64 (drop (64 * g) f) i 0 l ∙ getD-drop (64 * g) f i 0))))
 
-length-planeWords : (d : ℕ) (f : List ℕ) → length (planeWords d f) ≡ 4 * d
-unfolding planeWords
-length-planeWords d f =
-    sym (ap length (concat-flatten 4 _)) ∙ length-concat {n = d} (record { long = λ g h. length-tab d _ }) ∙ omega arith
-
 module _ (p : Parameters) where
   pub planes-written : (c out : List ℕ) {x y : List ℕ} → length out ≡ 4 * p .du * p .k + 4 * p .dv
       → x ≡ flatten (tab (p .k) (λ i.
-      planeWords (p .du) (byteDecode (p .du) (parts (32 * p .du) (take (32 * p .du * p .k) c) i))))
-      → y ≡ planeWords (p .dv) (byteDecode (p .dv) (take (length c - 32 * p .du * p .k) (drop (32 * p .du * p .k) c)))
+      planesOf (p .du) (byteDecode (p .du) (parts (32 * p .du) (take (32 * p .du * p .k) c) i))))
+      → y ≡ planesOf (p .dv) (byteDecode (p .dv) (take (length c - 32 * p .du * p .k) (drop (32 * p .du * p .k) c)))
       → (let n = 4 * p .du * p .k in let m = take 0 out ++ (x ++ drop (n - 0) (drop 0 out)) in
-      take n m ++ (y ++ drop (length m - n) (drop n m))) ≡ ciphertextWords p c
-  unfolding ciphertextWords
+      take n m ++ (y ++ drop (length m - n) (drop n m))) ≡ ciphertextPlanes p c
+  unfolding ciphertextPlanes
   planes-written c out l e f =
       let n = 32 * p .du * p .k in
-      let polynomial : ℕ → List ℕ = λ i. planeWords (p .du) (byteDecode (p .du) (parts (32 * p .du) (take n c) i)) in
-      let long : length (flatten (tab (p .k) polynomial)) ≡ 4 * p .du * p .k =
-      sym (ap length (concat-flatten (p .k) polynomial))
-      ∙ length-concat {n = 4 * p .du} (record { long = λ i h. length-planeWords (p .du) _ }) in
-      let last = planeWords (p .dv) (byteDecode (p .dv) (drop n c)) in
-      let fits = length-planeWords (p .dv) (byteDecode (p .dv) (drop n c)) in
+      let polynomial : ℕ → List ℕ = λ i. planesOf (p .du) (byteDecode (p .du) (parts (32 * p .du) (take n c) i)) in
+      let long =
+      length-flatten {n = 4 * p .du} {f = polynomial} (record { long = λ i h. length-planesOf (p .du) _ }) in
+      let last = planesOf (p .dv) (byteDecode (p .dv) (drop n c)) in
+      let fits = length-planesOf (p .dv) (byteDecode (p .dv) (drop n c)) in
       two-parts {t₂ = last} out (4 * p .du * p .k) long (omega arith) e
-      (f ∙ ap (λ (l : List ℕ). planeWords (p .dv) (byteDecode (p .dv) l)) (part-rest n c))
+      (f ∙ ap (λ (l : List ℕ). planesOf (p .dv) (byteDecode (p .dv) l)) (part-rest n c))
       ∙ ap (λ (l : List (List ℕ)). flatten l ++ last)
       (tab-cong (p .k) (λ i h.
-      ap (λ (l : List ℕ). planeWords (p .du) (byteDecode (p .du) l))
+      ap (λ (l : List ℕ). planesOf (p .du) (byteDecode (p .du) l))
       (part-take (32 * p .du * i) (32 * p .du) n c (part-fits (32 * p .du) h))))
 
   -- ---- stage 8, by the ciphertext's words l: v is share 0 once l is added
   pub stage8-ran : (c w0 w1 v : List ℕ) (m : ℕ) {l ws : List ℕ} {b : Shares} {r r′ r″ : Recorder} → 0 < wordCount p
-      → l ≡ ciphertextWords p c → length l ≡ wordCount p
+      → l ≡ ciphertextPlanes p c → length l ≡ wordCount p
       → Makes (addPublic (length l) (λ j. getD l j 0) (sharedAt (sharedList w0 w1))) r
       (zip (length l) (sharedList v w1)) r′
       → Draws word m (allZero (wordCount p - 1) (sharedAt (sharedList v w1))) r′ ws b r″

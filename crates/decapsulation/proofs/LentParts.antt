@@ -1,12 +1,13 @@
--- Parts of slices that are lent on: the coins, the last four of stage 3's eight words, and what is left of a strip.
+-- Parts of slices that are lent on: the coins, the last four of stage 3's eight words, and what is left of a slice.
 use mathlib.Core.Path.{_≡_, ap₂, _∙_}
 use mathlib.Core.List.{List}
-use Prim.Native.Nat.{ℕ, _+_, _-_, _≤_}
+use Prim.Native.Nat.{ℕ, _+_, _-_}
 use native.Mathlib.Omega.{arith}
 use lib.ListN.{length, getD, take, drop, length-take, length-drop}
 use lib.Seq.{getD-take, getD-drop}
 use Rattle.words.specs.Part.{length-part}
-use Rattle.words.specs.Tab.{tab, tab-of}
+use Rattle.words.specs.Tab.{tab}
+use Rattle.words.specs.TabLaws.{tab-of}
 use Rattle.worksheet.specs.SharedList.{sharedList, unzip}
 use Rattle.stages.specs.Moves.{coinsOf}
 use Rattle.masked_kpke.specs.Slices.{Long}
@@ -28,9 +29,6 @@ module _ (l m : List ℕ) (g : Long 8 (sharedList l m)) where
         long1 = length-part 4 4 m (omega (arith, g .long1));
       }
 
--- what is left of a strip from a on
-pub rest-long : (a n : ℕ) (l : List ℕ) → a + n ≤ length l → n ≤ length (take (length l - a) (drop a l))
-rest-long a n l h = omega (arith, length-take (length l - a) (drop a l), length-drop a l)
-
+-- what is left from a on
 pub rest-exact : (a n : ℕ) (l : List ℕ) → length l ≡ a + n → length (take (length l - a) (drop a l)) ≡ n
 rest-exact a n l h = omega (arith, length-take (length l - a) (drop a l), length-drop a l)

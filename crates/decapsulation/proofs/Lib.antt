@@ -1,4 +1,3 @@
 pub mod Compared
-pub mod Hashed
 pub mod LentParts
 pub mod Outcome

@@ -19,19 +19,20 @@ use Rattle.refusals.specs.Same.{same}
 use Rattle.refusals.specs.SameLaws.{and-right}
 use Rattle.refusals.specs.RefusalLaws.{refused, passed, no-row, after-refused, sized-exact, sized-more, sized-first}
 use Rattle.tracing.specs.Told.{toldAnswer, toldValue, leftOf}
-use Rattle.tracing.specs.Told as told
+use Rattle.tracing.specs.Trace as trace
 use Rattle.tracing.specs.ToldLaws.{told-none, told-refused, told-over, told-done, ran-value, left-answer, left-value}
 use Rattle.kpke.specs.Parameters.{Parameters, mlKem768}
 use Rattle.kpke.specs.KPke.{concat, matrix, matrixFull}
 use Rattle.kpke.specs.Expanded.{Expanded, expanded-concat}
 use Rattle.mlkem.specs.Reduced.{reduced}
-use Rattle.stages.specs.Counts.{steps}
+use Rattle.stages.specs.EntryCounts.{steps}
 use Rattle.stages.specs.Counts768.{counts768}
 use Rattle.stages.specs.Worksheet.{worksheet}
 use Rattle.masked_kpke.specs.Slices.{Long}
 use Rattle.decapsulation.specs.Calls.{Input, sheet, lengths, rows}
 use Rattle.decapsulation.specs.Calls.{decapsRows, decapsAnswer, decapsShares, Decapsulated}
-use Rattle.decapsulation.specs.Calls.{traceAnswer, traceValue, Traced, Told}
+use Rattle.decapsulation.specs.Calls.{traceAnswer, traceValue, Traced}
+use Rattle.decapsulation.specs.Told.{Told}
 use Rattle.decapsulation.specs.Sized.{Sized}
 use Rattle.decapsulation.specs.AnswerLaws.{sized-lengths, lengths-sized}
 use Rattle.decapsulation.specs.AnswerLaws.{rows-passed, rows-refusing, rows-shares, rows-steps}
@@ -145,7 +146,7 @@ module _ {p : Parameters} {g : Input} {k0 k1 : List ℕ} {v n : ℕ} {k0′ k1�
   told-traced t m {left} s e k o =
       let rs = rows p (lengths p g) g in
       let entries = sheet p g .entries in
-      let a : n ≡ number (told.traceAnswer rs (length entries) t) =
+      let a : n ≡ number (trace.stepAnswer rs (length entries) t) =
       o .answer
       ∙ ap (λ (r : List Row). number (toldAnswer r (length entries) left)) (rows-shares p g k)
       ∙ ap (λ (l : ℕ). number (toldAnswer rs (length entries) l)) e
@@ -157,10 +158,10 @@ module _ {p : Parameters} {g : Input} {k0 k1 : List ℕ} {v n : ℕ} {k0′ k1�
             ∙ ap (λ (l : ℕ). after n (toldValue l entries) v) e
             ∙ ap (λ (x : ℕ). after x (toldValue (leftOf t m) entries) v) a
             ∙ left-value rs (length entries) m t (rows-refusing p g (lengths p g)) (λ d. rows-steps p g d ∙ s) entries v
-            ∙ sym (ap (λ (x : ℕ). after x (told.traceValue entries t) v) a);
+            ∙ sym (ap (λ (x : ℕ). after x (trace.stepValue entries t) v) a);
       }
 
--- ---- rho, as a part of the public part, and the matrix that the code expands from it
+-- ---- rho, as a part of the stored public key, and the matrix that the code expands from it
 
 pub rho-part : (l : List ℕ) → length l ≡ 1216 → take 32 (drop 1152 l) ≡ drop 1152 (take 1184 l)
 rho-part l e =

@@ -14,14 +14,14 @@ use Rattle.refusals.specs.declared.Answer.the-variants.{NoSuchStep}
 use Rattle.refusals.specs.Refusals.{Row, row, answer, Lent, lent, sized}
 use Rattle.refusals.specs.RefusalLaws.{refused, passed, no-row, done-passed}
 use Rattle.refusals.specs.RefusalLaws.{sized-exact, exact-sized, sized-more, sized-first}
-use Rattle.tracing.specs.Told as told
+use Rattle.tracing.specs.Trace as trace
 use Rattle.tracing.specs.ToldLaws.{Refusing, told-refused, told-step, trace-passed}
 use Rattle.kpke.specs.Parameters.{Parameters, ekBytes}
 use Rattle.kpke.specs.KPke.{matrixFull}
 use Rattle.mlkem.specs.Reduced.{reduced}
 use Rattle.mlkem.specs.Calls.{rhoOf}
 use Rattle.mlkem.specs.SplitKey.{ekOf}
-use Rattle.stages.specs.Counts.{steps}
+use Rattle.stages.specs.EntryCounts.{steps}
 use Rattle.stages.specs.WorksheetUses.{uses-worksheet}
 use Rattle.masked_kpke.specs.Slices.{Long}
 use Rattle.decapsulation.specs.Calls.{Input, sheet, lengths, rows, decapsRows, decapsAnswer, traceAnswer}
@@ -105,7 +105,7 @@ module _ (p : Parameters) (g : Input) where
       n = length (sheet p g .entries)
 
       go : (b : Bool) → matrixFull (p .k) (rhoOf p (ekOf p (g .key))) ≡ b
-          → told.traceAnswer rs n t ≡ cond b (cond (ltb t (steps p)) Done NoSuchStep) ShortStream
+          → trace.stepAnswer rs n t ≡ cond b (cond (ltb t (steps p)) Done NoSuchStep) ShortStream
       go true e =
           trace-passed rs n (rows-refusing (lengths p g))
           (rows-passed (lengths p g) (lengths-sized l) m s (passed ShortStream _ e no-row)) t

@@ -2,20 +2,20 @@
 use mathlib.Core.Path.{_≡_}
 use mathlib.Core.Bool.{not, _&&_}
 use mathlib.Core.List.{List, [], _∷_, _++_}
-use Prim.Native.Nat.{ℕ, _+_, _*_, _^_}
+use Prim.Native.Nat.{ℕ, _^_}
 use lib.ListN.{length}
 use Rattle.words.specs.Bounded.{Below}
 use Rattle.worksheet.specs.Run.{Run, run}
-use Rattle.worksheet.specs.SharedList.{SharedList, sharedList}
+use Rattle.worksheet.specs.SharedList.{SharedList}
 use Rattle.refusals.specs.declared.Answer.{Answer}
 use Rattle.refusals.specs.declared.Answer.the-variants.{WrongLength, MaskRange, ShareRange, ShortStream}
 use Rattle.refusals.specs.Refusals.{number, after, Row, row, answer, Lent, lent, sized}
-use Rattle.tracing.specs.Told as told
-use Rattle.kpke.specs.Parameters.{Parameters, ekBytes, ctBytes}
+use Rattle.tracing.specs.Trace as trace
+use Rattle.kpke.specs.Parameters.{Parameters, ctBytes}
 use Rattle.kpke.specs.KPke.{matrixFull}
 use Rattle.mlkem.specs.Reduced.{reduced}
 use Rattle.mlkem.specs.Calls.{rhoOf}
-use Rattle.mlkem.specs.SplitKey.{SplitKey, ekOf, split}
+use Rattle.mlkem.specs.SplitKey.{SplitKey, splitKey, ekOf, keyLengths, split}
 use Rattle.stages.specs.Worksheet.{worksheet}
 use Rattle.stages.specs.Counts.{stripWords, stripCoeffs}
 
@@ -29,12 +29,7 @@ pub record Input : Type 0 where
 -- by the slices that are lent
 abbrev pub input : List ℕ → List ℕ → List ℕ → List ℕ → List ℕ → List ℕ → List ℕ → List ℕ → Input
 input s0 s1 z0 z1 public ct words coeffs =
-    record {
-      key = record { s = sharedList s0 s1; z = sharedList z0 z1; public = public };
-      ct = ct;
-      words = words;
-      coeffs = coeffs;
-    }
+    record { key = splitKey s0 s1 z0 z1 public; ct = ct; words = words; coeffs = coeffs }
 
 -- what the types of the lent buffers say: bytes are below 256, words below 2^64
 pub record Typed (g : Input) : Type 0 where
@@ -52,9 +47,8 @@ module _ (p : Parameters) where
   -- the lengths that the buffers to be read must have
   abbrev pub lengths : Input → List Lent
   lengths g =
-      lent (g .key .s .s0) (256 * p .k) ∷ lent (g .key .s .s1) (256 * p .k)
-      ∷ lent (g .key .z .s0) 4 ∷ lent (g .key .z .s1) 4 ∷ lent (g .key .public) (ekBytes p + 32)
-      ∷ lent (g .ct) (ctBytes p) ∷ lent (g .words) (stripWords p) ∷ lent (g .coeffs) (stripCoeffs p) ∷ []
+      keyLengths p (g .key)
+      ++ lent (g .ct) (ctBytes p) ∷ lent (g .words) (stripWords p) ∷ lent (g .coeffs) (stripCoeffs p) ∷ []
 
   -- rows 1, 5, 6 and 7, where the buffers bs are lent
   abbrev pub rows : List Lent → Input → List Row
@@ -85,23 +79,15 @@ module _ (p : Parameters) where
   -- ---- trace of the step t
 
   unfoldable pub traceAnswer : Input → ℕ → Answer
-  traceAnswer g t = told.traceAnswer (rows (lengths g) g) (length (sheet g .entries)) t
+  traceAnswer g t = trace.stepAnswer (rows (lengths g) g) (length (sheet g .entries)) t
 
   unfoldable pub traceValue : Input → ℕ → ℕ
-  traceValue g t = told.traceValue (sheet g .entries) t
+  traceValue g t = trace.stepValue (sheet g .entries) t
 
   -- it answers the number n, and v becomes v′
   pub record Traced (g : Input) (t v n v′ : ℕ) : Type 0 where
     pub answer : n ≡ number (traceAnswer g t)
     pub value : v′ ≡ after n (traceValue g t) v
-
-  -- ---- the one function behind both, which is told `left`
-
-  pub record Told (left : ℕ) (g : Input) (k0 k1 : List ℕ) (v n : ℕ) (k0′ k1′ : List ℕ) (v′ : ℕ) : Type 0 where
-    pub answer : n ≡ number (told.toldAnswer (decapsRows g k0 k1) (length (sheet g .entries)) left)
-    pub share0 : k0′ ≡ after n (decapsShares g .s0) k0
-    pub share1 : k1′ ≡ after n (decapsShares g .s1) k1
-    pub value : v′ ≡ after n (told.toldValue left (sheet g .entries)) v
 
   -- ---- what import hands over for the key dk and the first shares a and w, with a ciphertext and a strip
   abbrev pub imported : List ℕ → List ℕ → List ℕ → List ℕ → List ℕ → List ℕ → Input

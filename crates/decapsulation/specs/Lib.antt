@@ -1,5 +1,7 @@
 pub mod StageSized
 pub mod Calls
+pub mod Told
 pub mod Sized
 pub mod AnswerLaws
 pub mod Demand2
+pub mod CallToCall

@@ -1,24 +1,17 @@
 -- The lengths of what is lent to a call.
 use mathlib.Core.Path.{_≡_}
 use mathlib.Core.List.{List}
-use Prim.Native.Nat.{ℕ, _+_, _*_}
+use Prim.Native.Nat.{ℕ}
 use lib.ListN.{length, take, drop}
 use Rattle.words.specs.Bounded.{Below}
 use Rattle.words.specs.Residue.{q}
 use Rattle.worksheet.specs.SharedList.{SharedList}
-use Rattle.kpke.specs.Parameters.{Parameters, mlKem768, ekBytes, ctBytes}
+use Rattle.kpke.specs.Parameters.{Parameters, mlKem768, ctBytes}
 use Rattle.kpke.specs.Expanded.{Expanded}
-use Rattle.mlkem.specs.SplitKey.{SplitKey}
+use Rattle.mlkem.specs.Sized.{SplitSized}
 use Rattle.stages.specs.Counts.{stripWords, stripCoeffs}
 use Rattle.masked_kpke.specs.Slices.{Long}
 use Rattle.decapsulation.specs.Calls.{Input}
-
-pub record SplitSized (p : Parameters) (key : SplitKey) : Type 0 where
-  pub s0 : length (key .s .s0) ≡ 256 * p .k
-  pub s1 : length (key .s .s1) ≡ 256 * p .k
-  pub z0 : length (key .z .s0) ≡ 4
-  pub z1 : length (key .z .s1) ≡ 4
-  pub public : length (key .public) ≡ ekBytes p + 32
 
 pub record Sized (p : Parameters) (g : Input) : Type 0 where
   pub key : SplitSized p (g .key)

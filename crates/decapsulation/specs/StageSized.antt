@@ -1,39 +1,51 @@
 -- What is lent to a stage: lengths, and the range of the equal bit's shares.
 use mathlib.Core.Path.{_≡_}
 use mathlib.Core.List.{List}
-use Prim.Native.Nat.{ℕ, _<_, _≤_}
+use Prim.Native.Nat.{ℕ, _+_, _*_, _<_, _≤_}
 use lib.ListN.{length, take, drop}
 use Rattle.worksheet.specs.declared.Shares.{Shares}
 use Rattle.worksheet.specs.SharedList.{SharedList}
+use Rattle.kpke.specs.Parameters.{Parameters, vectorBytes, ekBytes, ctBytes}
 use Rattle.kpke.specs.Expanded.{Expanded}
+use Rattle.stages.specs.Worksheet.{wordCount}
 use Rattle.masked_kpke.specs.Slices.{Long, Masks}
 
--- a hash of four words and a public string of len bytes, to n words
-pub record Hashing (len n : ℕ) (w : SharedList) (string : List ℕ) (o : SharedList) : Type 0 where
-  pub in0 : length (w .s0) ≡ 4
-  pub in1 : length (w .s1) ≡ 4
-  pub public : length string ≡ len
-  pub out0 : length (o .s0) ≡ n
-  pub out1 : length (o .s1) ≡ n
+-- 256 numbers, and where the words of their d planes go
+pub record PlanesInput (d : ℕ) (f w : List ℕ) : Type 0 where
+  pub input : length f ≡ 256
+  pub out : length w ≡ d * 4
+  pub depth : d ≤ 11
 
--- stage 10: the equal bit b, stage 3's and stage 9's words g and r, and where K goes
-pub record Selecting (b : Shares) (g r k : SharedList) : Type 0 where
+-- stage 8: the ciphertext, stage 7's planes z, and n mask words
+pub record EqualInput (p : Parameters) (n : ℕ) (c : List ℕ) (z : SharedList) (ws : List ℕ) : Type 0 where
+  pub ct : length c ≡ ctBytes p
+  pub planes : Long (wordCount p) z
+  pub words : n ≤ length ws
+
+-- stage 10: the equal bit b, stage 3's words g, the rejected words x, four mask words, and where K goes
+pub record SelectInput (b : Shares) (g x : SharedList) (ws : List ℕ) (k : SharedList) : Type 0 where
   pub bit0 : b .s0 < 2
   pub bit1 : b .s1 < 2
   pub key0 : 4 ≤ length (g .s0)
   pub key1 : 4 ≤ length (g .s1)
-  pub rejected0 : length (r .s0) ≡ 4
-  pub rejected1 : length (r .s1) ≡ 4
-  pub out0 : length (k .s0) ≡ 4
-  pub out1 : length (k .s1) ≡ 4
+  pub rejected : Long 4 x
+  pub words : 4 ≤ length ws
+  pub out : Long 4 k
 
--- stages 1 to 8: the secret s, the key's public part and its matrix a, the ciphertext, the strip, and where stage 3's
--- words go
-pub record Comparing (s : SharedList) (key a c ws cs : List ℕ) (g : SharedList) : Type 0 where
-  pub secret : Long 768 s
-  pub public : length key ≡ 1216
-  pub matrix : Expanded 3 (drop 1152 (take 1184 key)) a
-  pub ct : length c ≡ 1088
-  pub words : 6321 ≤ length ws
-  pub coeffs : Masks 7424 cs
+-- stages 1 to 8: the secret s, the public key and h, the matrix a, the ciphertext, a strip of n words and m
+-- coefficients, and where stage 3's words go
+pub record CompareInput (p : Parameters) (n m : ℕ) (s : SharedList) (key a c ws cs : List ℕ) (g : SharedList)
+    : Type 0 where
+  pub secret : Long (256 * p .k) s
+  pub public : length key ≡ ekBytes p + 32
+  pub matrix : Expanded (p .k) (drop (vectorBytes p) (take (ekBytes p) key)) a
+  pub ct : length c ≡ ctBytes p
+  pub words : n ≤ length ws
+  pub coeffs : Masks m cs
   pub out : Long 8 g
+
+-- ---- what is left by a stage that gives a bit b: it ran as R says, and both shares are bits
+pub record GivesBit (R : Type 0) (b : Shares) : Type 0 where
+  pub ran : R
+  pub bit0 : b .s0 < 2
+  pub bit1 : b .s1 < 2

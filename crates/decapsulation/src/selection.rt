@@ -1,11 +1,9 @@
 // Stage 10: K' or the rejected words.
-ghost use Prim.Native.Nat.{_≤_};
-ghost use lib.ListN.{length};
 ghost use Rattle.worksheet.specs.Prog.{word};
 ghost use Rattle.worksheet.specs.Ran.{Draws};
 ghost use Rattle.worksheet.specs.SharedList.{sharedList};
 ghost use Rattle.stages.specs.Worksheet.{stage10 as stage10Of};
-ghost use Rattle.decapsulation.specs.StageSized.{Selecting};
+ghost use Rattle.decapsulation.specs.StageSized.{SelectInput};
 use masked_comparison::selection::select;
 use worksheet::Recorder;
 use worksheet::Shares;
@@ -16,19 +14,19 @@ pub fn stage10(
     b: Shares,
     g0: &[u64],
     g1: &[u64],
-    r0: &[u64],
-    r1: &[u64],
+    rejected0: &[u64],
+    rejected1: &[u64],
     ws: &[u64],
     k0: &mut [u64],
     k1: &mut [u64],
 ) -> Recorder
     requires { ⌜
-        Selecting b (sharedList (now g0) (now g1)) (sharedList (now r0) (now r1)) (sharedList (now k0) (now k1))
-        × (4 ≤ length (now ws)) ⌝ }
+        SelectInput b (sharedList (now g0) (now g1)) (sharedList (now rejected0) (now rejected1)) (now ws)
+        (sharedList (now k0) (now k1)) ⌝ }
     ensures { λ r. ⌜
         Draws word 4
         (stage10Of b (sharedList (now (g0 .entry)) (now (g1 .entry)))
-        (sharedList (now (r0 .entry)) (now (r1 .entry))))
+        (sharedList (now (rejected0 .entry)) (now (rejected1 .entry))))
         rec (now (ws .entry)) (sharedList (now (k0 .exit)) (now (k1 .exit))) r ⌝ }
 {
     let mut rec = rec;
@@ -38,8 +36,8 @@ pub fn stage10(
             s1: g1[j],
         };
         let y = Shares {
-            s0: r0[j],
-            s1: r1[j],
+            s0: rejected0[j],
+            s1: rejected1[j],
         };
         let o = select(rec, b, x, y, ws[j]);
         k0[j] = o.value.s0;

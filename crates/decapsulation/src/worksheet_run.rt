@@ -1,13 +1,13 @@
 // The worksheet: the ten stages in order, each handed the strips from its first mask on.
-ghost use Prim.Native.Nat.{_<_};
 ghost use lib.ListN.{drop};
 ghost use Rattle.worksheet.specs.Ran.{Ran};
 ghost use Rattle.worksheet.specs.SharedList.{SharedList, sharedList};
 ghost use Rattle.kpke.specs.Parameters.{mlKem768};
+ghost use Rattle.mlkem.specs.SplitKey.{splitKey};
 ghost use Rattle.stages.specs.Worksheet.{compared as comparedOf, worksheet as worksheetOf};
 ghost use Rattle.decapsulation.specs.Calls.{input};
 ghost use Rattle.decapsulation.specs.Sized.{Runnable};
-ghost use Rattle.decapsulation.specs.StageSized.{Comparing};
+ghost use Rattle.decapsulation.specs.StageSized.{CompareInput, GivesBit};
 use crate::comparison::stage8;
 use crate::hashing::stage3;
 use crate::hashing::stage9;
@@ -31,22 +31,23 @@ fn compared(
     g1: &mut [u64],
 ) -> EnteredShares
     requires { ⌜
-        Comparing (sharedList (now s0) (now s1)) (now public) (now a) (now c) (now ws) (now cs)
+        CompareInput mlKem768 6321 7424 (sharedList (now s0) (now s1)) (now public) (now a) (now c) (now ws) (now cs)
         (sharedList (now g0) (now g1)) ⌝ }
-    ensures { λ r. ⌜ ((z : SharedList) →
-        Ran
+    ensures { λ r. ⌜
+        GivesBit
+        ((z : SharedList) → Ran
         (comparedOf mlKem768
         (record { s = sharedList (now (s0 .entry)) (now (s1 .entry)); z = z; public = now (public .entry) })
         (now (c .entry)))
         rec (now (ws .entry)) (now (cs .entry))
         (record { equal = r .value; g = sharedList (now (g0 .exit)) (now (g1 .exit)) })
-        (r .rec) (drop 6321 (now (ws .entry))) (drop 7424 (now (cs .entry)))) ⌝ }
-    ensures { λ r. ⌜ (r .value .s0 < 2) × (r .value .s1 < 2) ⌝ }
+        (r .rec) (drop 6321 (now (ws .entry))) (drop 7424 (now (cs .entry))))
+        (r .value) ⌝ }
 {
     let mut m0 = [0u64; 4];
     let mut m1 = [0u64; 4];
-    let mut w0 = [0u64; 136];
-    let mut w1 = [0u64; 136];
+    let mut planes0 = [0u64; 136];
+    let mut planes1 = [0u64; 136];
     let rec = masked_decrypt(rec, s0, s1, c, ws, &mut m0, &mut m1);
     let rec = stage3(rec, &m0, &m1, &public[1184..], &ws[164..], g0, g1);
     let rec = masked_encrypt(
@@ -59,10 +60,10 @@ fn compared(
         &g1[4..8],
         &ws[789..],
         cs,
-        &mut w0,
-        &mut w1,
+        &mut planes0,
+        &mut planes1,
     );
-    stage8(rec, c, &mut w0, &w1, &ws[6180..])
+    stage8(rec, c, &mut planes0, &planes1, &ws[6180..])
 }
 
 // For the matrix a; k0 and k1 take the shares of K.
@@ -86,20 +87,34 @@ pub fn run(
     ensures { λ r. ⌜
         Ran
         (worksheetOf mlKem768
-        (record {
-          s = sharedList (now (s0 .entry)) (now (s1 .entry));
-          z = sharedList (now (z0 .entry)) (now (z1 .entry));
-          public = now (public .entry);
-        })
+        (splitKey (now (s0 .entry)) (now (s1 .entry)) (now (z0 .entry)) (now (z1 .entry)) (now (public .entry)))
         (now (c .entry)))
         rec (now (ws .entry)) (now (cs .entry)) (sharedList (now (k0 .exit)) (now (k1 .exit)))
         r (drop 11750 (now (ws .entry))) (drop 7424 (now (cs .entry))) ⌝ }
 {
     let mut g0 = [0u64; 8];
     let mut g1 = [0u64; 8];
-    let mut r0 = [0u64; 4];
-    let mut r1 = [0u64; 4];
+    let mut rejected0 = [0u64; 4];
+    let mut rejected1 = [0u64; 4];
     let b = compared(rec, a, s0, s1, public, c, ws, cs, &mut g0, &mut g1);
-    let rec = stage9(b.rec, z0, z1, c, &ws[6321..], &mut r0, &mut r1);
-    stage10(rec, b.value, &g0, &g1, &r0, &r1, &ws[11746..], k0, k1)
+    let rec = stage9(
+        b.rec,
+        z0,
+        z1,
+        c,
+        &ws[6321..],
+        &mut rejected0,
+        &mut rejected1,
+    );
+    stage10(
+        rec,
+        b.value,
+        &g0,
+        &g1,
+        &rejected0,
+        &rejected1,
+        &ws[11746..],
+        k0,
+        k1,
+    )
 }

@@ -1,7 +1,7 @@
 -- Document 01, table "Examples": its starred rows in its order, worked out by the definitions that the contracts cite.
 use mathlib.Core.Path.{_≡_, refl}
 use mathlib.Core.List.{List, [], _∷_, map}
-use Prim.Native.Nat.{ℕ, _+_, _*_, _%_, _^_}
+use Prim.Native.Nat.{ℕ, _+_, _%_, _^_}
 use lib.ListN.{getD, replicate}
 use Rattle.words.specs.Word.{xor, and, low}
 use Rattle.words.specs.Digit.{digit}
@@ -71,7 +71,7 @@ table =
     ∷ (map (compress 4) (3224 ∷ 3225 ∷ []) gives 15 ∷ 0 ∷ [])
     ∷ (map (decompress 1) (1 ∷ []) gives 1665 ∷ [])
     ∷ (map (decompress 10) (1 ∷ 1023 ∷ []) gives 3 ∷ 3326 ∷ [])
-    ∷ (power 64 ∷ power 32 ∷ power 64 * power 64 % q ∷ [] gives 1729 ∷ 2580 ∷ 3328 ∷ [])
+    ∷ (power 64 ∷ power 32 ∷ 17 ^ 128 % q ∷ [] gives 1729 ∷ 2580 ∷ 3328 ∷ [])
     ∷ (map sampled samplerBits gives 2 ∷ 3327 ∷ [])
     ∷ (map maskedSampled samplerBits gives 2 ∷ 3327 ∷ [])
     ∷ (run (bitToCoeff 1665 (shares 1 0)) [] (3000 ∷ []) .entries gives 3000 ∷ 1336 ∷ 1336 ∷ 329 ∷ [])

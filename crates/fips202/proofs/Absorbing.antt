@@ -4,7 +4,7 @@ use mathlib.Core.List.{List, _++_}
 use Prim.Native.Nat.{ℕ, _+_, _-_, _*_, _/_, _<_, _≤_}
 use native.Mathlib.Omega.{arith}
 use lib.ListN.{length, take, drop, replicate}
-use Rattle.words.specs.Iterate.{ReachedBy, reached-by-start, reached-by-turn}
+use Rattle.words.specs.IterateLaws.{ReachedBy, reached-by-start, reached-by-turn}
 use Rattle.words.specs.Numeral.{value}
 use Rattle.words.specs.Part.{part-take, part-rest}
 use Rattle.keccak.specs.KeccakP.{keccak-p}

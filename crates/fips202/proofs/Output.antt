@@ -5,7 +5,8 @@ use Prim.Native.Nat.{ℕ, _+_, _-_, _*_, _/_, _%_, _<_, _≤_}
 use native.Mathlib.Omega.{arith}
 use lib.Arith.{digits-div, digits-mod}
 use lib.ListN.{length, take, drop}
-use Rattle.words.specs.Tab.{tab, tab-cong}
+use Rattle.words.specs.Tab.{tab}
+use Rattle.words.specs.TabLaws.{tab-cong}
 use Rattle.words.specs.Part.{length-part}
 use Rattle.words.specs.Fill.{Filled, filled-start, filled-part, filled-end}
 use Rattle.fips202.specs.Sponge.{byteOf}

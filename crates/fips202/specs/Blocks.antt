@@ -10,7 +10,8 @@ use lib.ListN.{length, take, drop, replicate, length-append, length-drop, length
 use lib.Seq.{take-all, drop-append-le}
 use Rattle.words.specs.Bounded.{Below}
 use Rattle.words.specs.BoundedLaws.{below-nil, below-cons, below-append, below-zeros}
-use Rattle.words.specs.Iterate.{iterate, iterate-cong}
+use Rattle.words.specs.Iterate.{iterate}
+use Rattle.words.specs.IterateLaws.{iterate-cong}
 use Rattle.words.specs.Part.{part-append}
 use Rattle.keccak.specs.KeccakP.{keccak-p}
 use Rattle.fips202.specs.Sponge.{padding, padded, mixed, absorbed}

@@ -9,7 +9,7 @@ use Rattle.refusals.specs.Refusals.{number, after, lent}
 use Rattle.refusals.specs.RefusalLaws.{passed, no-row, exact-sized, after-done}
 use Rattle.fips202.specs.Calls.{sizedAnswer, Hashed}
 
-pub sized-done : (n : ℕ) (out : List ℕ) → length out ≡ n → sizedAnswer n out ≡ Done
+sized-done : (n : ℕ) (out : List ℕ) → length out ≡ n → sizedAnswer n out ≡ Done
 unfolding sizedAnswer
 sized-done n out e = passed WrongLength [] (exact-sized (lent out n ∷ []) (e, tt)) no-row
 

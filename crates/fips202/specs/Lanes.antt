@@ -6,10 +6,12 @@ use native.Mathlib.Decide.{decLt}
 use native.Mathlib.Nat.{add-zero, zero-mul, mul-assoc, mod-lt, div-add-mod', div-lt-iff-lt-mul, lt-div-mul-add, suc-mul}
 use native.Mathlib.Omega.{arith}
 use lib.Arith.{digits-div, digits-mod}
-use lib.ListN.{length, getD, take, drop, replicate, length-append, length-take, length-replicate, List·getD-eq-default}
+use lib.ListN.{length, getD, take, drop, replicate, length-append, length-take, length-replicate}
 use lib.ListN.{drop-of-length-le}
 use lib.Seq.{getD-take, getD-drop}
-use Rattle.words.specs.Tab.{tab, tab-cong, tab-of}
+use Rattle.words.specs.Tab.{tab}
+use Rattle.words.specs.TabLaws.{tab-cong, tab-of}
+use Rattle.words.specs.Part.{getD-take-past}
 use Rattle.words.specs.Numeral.{value}
 use Rattle.words.specs.NumeralLaws.{value-append, value-zeros}
 use Rattle.fips202.specs.Sponge.{laneOf}
@@ -19,13 +21,13 @@ getD-zeros zero x = refl
 getD-zeros (suc m) zero = refl
 getD-zeros (suc m) (suc x) = getD-zeros m x
 
-pub getD-append-zeros : (l : List ℕ) (m x : ℕ) → getD (l ++ replicate m 0) x 0 ≡ getD l x 0
+getD-append-zeros : (l : List ℕ) (m x : ℕ) → getD (l ++ replicate m 0) x 0 ≡ getD l x 0
 getD-append-zeros [] m x = getD-zeros m x
 getD-append-zeros (y ∷ l) m zero = refl
 getD-append-zeros (y ∷ l) m (suc x) = getD-append-zeros l m x
 
 -- the first n digits of a numeral
-pub value-take : (b n : ℕ) (l : List ℕ) → value b (take n l) ≡ value b (tab n (λ i. getD l i 0))
+value-take : (b n : ℕ) (l : List ℕ) → value b (take n l) ≡ value b (tab n (λ i. getD l i 0))
 value-take b n l =
     sym (value-append b t z ∙ rw (value-zeros b (n - length t), zero-mul (b ^ length t)) (add-zero (value b t)))
     ∙ ap (value b) (tab-of 0 (t ++ z) n long at)
@@ -52,12 +54,10 @@ laneOf-zeros n l m j =
     ∙ ap (value 256) (tab-cong 8 (λ k h. at (8 * j + k) (decLt (8 * j + k) n)))
     ∙ sym (laneOf-tab (take n l) j)
   where
-    past : (p : List ℕ) (x : ℕ) → n ≤ x → getD (take n p) x 0 ≡ 0
-    past p x h = List·getD-eq-default (take n p) 0 {n = x} (omega (arith, length-take n p))
-
     at : (x : ℕ) → Dec (x < n) → getD (take n (l ++ replicate m 0)) x 0 ≡ getD (take n l) x 0
     at x (yes h) = getD-take n (l ++ replicate m 0) x 0 h ∙ getD-append-zeros l m x ∙ sym (getD-take n l x 0 h)
-    at x (no h) = past (l ++ replicate m 0) x (omega arith) ∙ sym (past l x (omega arith))
+    at x (no h) =
+        getD-take-past n (l ++ replicate m 0) x 0 (omega arith) ∙ sym (getD-take-past n l x 0 (omega arith))
 
 -- past a block's bytes there are none
 pub laneOf-past : (rate : ℕ) (p : List ℕ) (j : ℕ) → rate % 8 ≡ 0 → rate / 8 ≤ j → laneOf (take rate p) j ≡ 0

@@ -6,3 +6,5 @@ pub mod Blocks
 pub mod Lanes
 pub mod Words
 pub mod OutputLaws
+pub mod LongerOutput
+pub mod Sizes

@@ -4,7 +4,8 @@ use mathlib.Core.List.{List}
 use Prim.Native.Nat.{ℕ, _*_, _/_, _%_, _<_}
 use native.Mathlib.Omega.{arith}
 use lib.ListN.{length, getD}
-use Rattle.words.specs.Tab.{tab, length-tab, getD-tab, tab-cong}
+use Rattle.words.specs.Tab.{tab}
+use Rattle.words.specs.TabLaws.{length-tab, getD-tab, tab-cong}
 use Rattle.words.specs.Iterate.{iterate}
 use Rattle.keccak.specs.KeccakP.{keccak-p}
 use Rattle.fips202.specs.Sponge.{padded, absorbed, byteOf, squeezed, sponge, sha3-256, sha3-512, shake256}

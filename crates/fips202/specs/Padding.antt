@@ -122,7 +122,7 @@ module _ (d : List ℕ) (b : Below 2 d) (h : length d ≤ 6) where
       ∙ rw w (append-snoc d 1 _)
 
   -- the suffix byte is d and pad10*1's first bit
-  pub padded-bits : (rate : ℕ) (m : List ℕ) → 0 < rate
+  padded-bits : (rate : ℕ) (m : List ℕ) → 0 < rate
       → bits (padded rate (value 2 start) m) ≡ bits m ++ (d ++ pad10*1 (8 * rate) (8 * length m + length d))
   unfolding padded pad10*1
   padded-bits rate m p =

@@ -3,6 +3,7 @@ ghost use mathlib.Core.List.{_++_};
 ghost use mathlib.Core.Path.{_≡_};
 ghost use Prim.Native.Nat.{_-_, _%_, _<_, _≤_};
 ghost use lib.ListN.{length, take, replicate};
+ghost use Rattle.fips202.specs.Sizes.{SpongeFits};
 ghost use Rattle.fips202.specs.Sponge.{padding, padded, mixed, absorbed};
 use crate::bytes;
 use keccak::state::State;
@@ -50,8 +51,8 @@ pub fn last_block(p: &[u8], rate: usize, suffix: u8) -> [u8; 200]
 }
 
 // Steps 1 to 6, for the padded message.
-pub fn absorb(m: &[u8], rate: usize, suffix: u8) -> State
-    requires { ⌜ (0 < rate) × (rate ≤ 200) × (rate % 8 ≡ 0) × (suffix < 128) ⌝ }
+pub(crate) fn absorb(m: &[u8], rate: usize, suffix: u8) -> State
+    requires { ⌜ SpongeFits rate suffix ⌝ }
     ensures { λ r. ⌜ r .lanes ≡ absorbed rate (padded rate suffix (now (m .entry))) ⌝ }
 {
     let n = m.len();

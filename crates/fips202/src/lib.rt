@@ -1,9 +1,10 @@
 // SHA3-256, SHA3-512, SHAKE128 and SHAKE256 (FIPS 202, sections 4 to 6).
 ghost use mathlib.Core.Path.{_≡_};
-ghost use Prim.Native.Nat.{_-_, _*_, _%_, _<_, _≤_};
+ghost use Prim.Native.Nat.{_-_, _*_, _%_, _<_};
 ghost use lib.ListN.{length};
 ghost use Rattle.refusals.specs.Refusals.{number};
 ghost use Rattle.fips202.specs.Calls.{sizedAnswer, Hashed, sha3-256Call, sha3-512Call};
+ghost use Rattle.fips202.specs.Sizes.{SpongeFits};
 ghost use Rattle.fips202.specs.Sponge.{sponge as spongeOf, shake128 as shake128Of, shake256 as shake256Of};
 use crate::absorb::absorb;
 use crate::squeeze::squeeze;
@@ -15,7 +16,7 @@ pub mod squeeze; // output given out
 
 // Algorithm 8 with pad10*1: out is filled.
 fn sponge(rate: usize, suffix: u8, m: &[u8], out: &mut [u8])
-    requires { ⌜ (0 < rate) × (rate ≤ 200) × (rate % 8 ≡ 0) × (suffix < 128) ⌝ }
+    requires { ⌜ SpongeFits rate suffix ⌝ }
     ensures { λ _. ⌜ now (out .exit) ≡ spongeOf rate suffix (now (m .entry)) (length (now (out .entry))) ⌝ }
 {
     let s = absorb(m, rate, suffix);

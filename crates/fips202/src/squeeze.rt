@@ -28,7 +28,7 @@ pub fn extract(s: State, out: &mut [u8])
 }
 
 // Steps 7 to 10: a block of output, and a permutation while more than a block is wanted.
-pub fn squeeze(s: State, rate: usize, out: &mut [u8])
+pub(crate) fn squeeze(s: State, rate: usize, out: &mut [u8])
     requires { ⌜ (0 < rate) × (rate ≤ 200) ⌝ }
     ensures { λ _. ⌜ now (out .exit) ≡ squeezed rate (s .lanes) (length (now (out .entry))) ⌝ }
 {

@@ -9,8 +9,10 @@ use lib.Dec.{lit<}
 use lib.Bits.{bitXor}
 use lib.Pow.{shl-exact}
 use Rattle.words.specs.Word.{xor}
-use Rattle.words.specs.Iterate.{iterate, Reached, reached-start, reached-turn, reached-end}
+use Rattle.words.specs.Iterate.{iterate}
+use Rattle.words.specs.IterateLaws.{Reached, reached-start, reached-turn, reached-end}
 use Rattle.keccak.specs.KeccakP.{clocked, register, rc, withBit, constant}
+use Rattle.keccak.specs.Rounds.{RoundConstant}
 
 -- before bit j of round i: the word so far, the register, and bit j's place in the word
 pub record Clocking (i j word reg place : ℕ) : Type 0 where
@@ -41,9 +43,9 @@ module _ {i j w r p : ℕ} (c : Clocking i j w r p) where
         place-at = rw (add-one j, pow-suc 2 j) (omega (arith, c .place-at));
       }
 
-  pub clocking-end : 7 ≤ j → (w ≡ constant i) × (r ≡ register (7 * (i + 1)))
+  pub clocking-end : 7 ≤ j → RoundConstant i w r
   unfolding constant
   clocking-end h =
       let e : j ≡ 7 = omega (arith, c .word-at .within) in
       let q : j + 7 * i ≡ 7 * (i + 1) = omega arith in
-      (reached-end (c .word-at) h, rw q at (c .reg-at))
+      record { is = reached-end (c .word-at) h; next = rw q at (c .reg-at) }

@@ -4,7 +4,8 @@ use mathlib.Core.Bool.{Bool, true, false, cond, not, _||_, xor as differs}
 use Prim.Native.Nat.{ℕ, _+_, _-_, _*_, _%_, _<_}
 use native.Mathlib.Omega.{arith}
 use lib.Dec.{T, eqb}
-use Rattle.words.specs.Word.{Bits, xor, rotl}
+use Rattle.words.specs.Word.{xor, rotl}
+use Rattle.words.specs.Bits.{Bits}
 use Rattle.words.specs.WordLaws.{xor-bits, zero-bits, xor-same, xor-zero, zero-xor}
 use Rattle.words.specs.Rotation.{rotl-bits, rotl-rotl, rotl-zero}
 use Rattle.words.specs.Table.{every}

@@ -4,9 +4,9 @@ use native.Mathlib.Nat.{mod-lt}
 use native.Mathlib.Omega.{arith}
 use lib.Dec.{leb, leb→le}
 use lib.Pow.{shl-lt}
-use Rattle.words.specs.Word.{Bits}
+use Rattle.words.specs.Bits.{Bits}
 use Rattle.words.specs.WordLaws.{xor-bits, zero-bits, bits-mono}
-use Rattle.words.specs.Iterate.{iterate-keeps}
+use Rattle.words.specs.IterateLaws.{iterate-keeps}
 use Rattle.words.specs.TableLaws.{every-at}
 use Rattle.keccak.specs.KeccakP.{rc, withBit, constant}
 

@@ -5,10 +5,12 @@ use Prim.Native.Nat.{ℕ, _+_, _*_, _/_, _%_, _<_, _≤_}
 use native.Mathlib.Omega.{arith}
 use lib.Dec.{leb, leb→le}
 use lib.ListN.{getD}
-use Rattle.words.specs.Word.{Bits, xor, rotl}
+use Rattle.words.specs.Word.{xor, rotl}
+use Rattle.words.specs.Bits.{Bits}
 use Rattle.words.specs.WordLaws.{xor-bits, xor-zero, xor-swap}
 use Rattle.words.specs.Rotation.{rotl-bits, rotl-xor, rotl-zero}
-use Rattle.words.specs.Tab.{tab, getD-tab, tab-cong}
+use Rattle.words.specs.Tab.{tab}
+use Rattle.words.specs.TabLaws.{getD-tab, tab-cong}
 use Rattle.words.specs.Iterate.{iterate}
 use Rattle.words.specs.TableLaws.{every-at}
 use Rattle.keccak.specs.KeccakP.{parity, effect, theta, walk, offset, rho, pi}
@@ -84,7 +86,7 @@ pass-cong e i = ap (λ (l : List ℕ). getD (pi (rho (theta l))) i 0) (tab-cong 
 
 -- ---- one lane of it
 
-pub pass-lane : (s : ℕ → ℕ) (i : ℕ) → i < 25
+pass-lane : (s : ℕ → ℕ) (i : ℕ) → i < 25
     → passAt s i ≡ rotl 64 (xor (s (source i)) (effect (tab 25 s) (source i % 5))) (turn i)
 unfolding passAt pi rho theta turn source
 pass-lane s i h =

@@ -5,6 +5,7 @@ use Prim.Native.Nat.{ℕ, _+_, _<_}
 use lib.ListN.{getD}
 use Rattle.words.specs.Word.{xor, and, complement, rotl}
 use Rattle.keccak.specs.declared.row.Row.{Row}
+use Rattle.keccak.specs.declared.state.Rows.{Rows}
 
 -- the five lanes from i on
 abbrev pub rowOf : List ℕ → ℕ → Row
@@ -16,6 +17,9 @@ rowOf l i =
       d = getD l (i + 3) 0;
       e = getD l (i + 4) 0;
     }
+
+abbrev pub rowsOf : List ℕ → Rows
+rowsOf l = record { y0 = rowOf l 0; y1 = rowOf l 5; y2 = rowOf l 10; y3 = rowOf l 15; y4 = rowOf l 20 }
 
 abbrev pub fromRows : Row → Row → Row → Row → Row → List ℕ
 fromRows p q r s t =
@@ -34,6 +38,10 @@ xorRow p q =
       d = xor (p .d) (q .d);
       e = xor (p .e) (q .e);
     }
+
+-- theta's C
+abbrev pub parityRow : Rows → Row
+parityRow p = xorRow (xorRow (xorRow (xorRow (p .y0) (p .y1)) (p .y2)) (p .y3)) (p .y4)
 
 -- theta's D from its C
 abbrev pub effectRow : Row → Row

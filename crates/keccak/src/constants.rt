@@ -1,7 +1,7 @@
 // The round constants (FIPS 202, algorithms 5 and 6), by the shift register.
 ghost use mathlib.Core.Path.{_≡_};
-ghost use Prim.Native.Nat.{_+_, _*_, _<_};
-ghost use Rattle.keccak.specs.KeccakP.{clocked, register, constant as constantOf};
+ghost use Rattle.keccak.specs.KeccakP.{clocked};
+ghost use Rattle.keccak.specs.Rounds.{RoundStart, RoundConstant};
 
 // Algorithm 5, step 3: the register after one more step.
 fn clock(r: u8) -> u8
@@ -18,8 +18,8 @@ pub struct Constant {
 
 // Algorithm 6, steps 2 and 3: the constant of round i, with the register at its first bit.
 pub fn round_constant(i: usize, first: u8) -> Constant
-    requires { ⌜ (i < 24) × (first ≡ register (7 * i)) ⌝ }
-    ensures { λ r. ⌜ (r .word ≡ constantOf i) × (r .next ≡ register (7 * (i + 1))) ⌝ }
+    requires { ⌜ RoundStart i first ⌝ }
+    ensures { λ r. ⌜ RoundConstant i (r .word) (r .next) ⌝ }
 {
     let mut word: u64 = 0;
     let mut reg = first;

@@ -1,7 +1,7 @@
 // The state: lane (x, y) stands at x + 5 y.
 ghost use mathlib.Core.Path.{_≡_};
 ghost use Prim.Native.Nat.{_<_};
-ghost use Rattle.keccak.specs.Rows.{rowOf, fromRows};
+ghost use Rattle.keccak.specs.Rows.{rowOf, rowsOf, fromRows};
 use crate::row::Row;
 
 pub struct State {
@@ -19,6 +19,27 @@ pub fn row_at(s: State, i: usize) -> Row
         c: s.lanes[i + 2],
         d: s.lanes[i + 3],
         e: s.lanes[i + 4],
+    }
+}
+
+// The rows y = 0, 1, 2, 3, 4.
+pub struct Rows {
+    pub y0: Row,
+    pub y1: Row,
+    pub y2: Row,
+    pub y3: Row,
+    pub y4: Row,
+}
+
+pub(crate) fn rows_of(s: State) -> Rows
+    ensures { λ r. ⌜ r ≡ rowsOf (s .lanes) ⌝ }
+{
+    Rows {
+        y0: row_at(s, 0),
+        y1: row_at(s, 5),
+        y2: row_at(s, 10),
+        y3: row_at(s, 15),
+        y4: row_at(s, 20),
     }
 }
 

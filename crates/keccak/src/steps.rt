@@ -1,30 +1,36 @@
 // The step mappings (FIPS 202, section 3.2), row by row.
 ghost use mathlib.Core.Path.{_≡_};
 ghost use Rattle.keccak.specs.KeccakP.{theta as thetaOf, rho as rhoOf, pi as piOf, chi as chiOf, iota as iotaOf};
+ghost use Rattle.keccak.specs.Rows.{parityRow};
+use crate::row::Row;
 use crate::row::chi_row;
 use crate::row::effect_row;
 use crate::row::rotl_row;
 use crate::row::xor_row;
+use crate::state::Rows;
 use crate::state::State;
-use crate::state::row_at;
+use crate::state::rows_of;
 use crate::state::whole;
+
+// Algorithm 1, step 1: C.
+fn parity_row(p: Rows) -> Row
+    ensures { λ r. ⌜ r ≡ parityRow p ⌝ }
+{
+    xor_row(xor_row(xor_row(xor_row(p.y0, p.y1), p.y2), p.y3), p.y4)
+}
 
 // Algorithm 1.
 pub fn theta(s: State) -> State
     ensures { λ r. ⌜ r .lanes ≡ thetaOf (s .lanes) ⌝ }
 {
-    let p0 = row_at(s, 0);
-    let p1 = row_at(s, 5);
-    let p2 = row_at(s, 10);
-    let p3 = row_at(s, 15);
-    let p4 = row_at(s, 20);
-    let d = effect_row(xor_row(xor_row(xor_row(xor_row(p0, p1), p2), p3), p4));
+    let p = rows_of(s);
+    let d = effect_row(parity_row(p));
     whole(
-        xor_row(p0, d),
-        xor_row(p1, d),
-        xor_row(p2, d),
-        xor_row(p3, d),
-        xor_row(p4, d),
+        xor_row(p.y0, d),
+        xor_row(p.y1, d),
+        xor_row(p.y2, d),
+        xor_row(p.y3, d),
+        xor_row(p.y4, d),
     )
 }
 
@@ -32,12 +38,13 @@ pub fn theta(s: State) -> State
 pub fn rho(s: State) -> State
     ensures { λ r. ⌜ r .lanes ≡ rhoOf (s .lanes) ⌝ }
 {
+    let p = rows_of(s);
     whole(
-        rotl_row(row_at(s, 0), 0, 1, 62, 28, 27),
-        rotl_row(row_at(s, 5), 36, 44, 6, 55, 20),
-        rotl_row(row_at(s, 10), 3, 10, 43, 25, 39),
-        rotl_row(row_at(s, 15), 41, 45, 15, 21, 8),
-        rotl_row(row_at(s, 20), 18, 2, 61, 56, 14),
+        rotl_row(p.y0, 0, 1, 62, 28, 27),
+        rotl_row(p.y1, 36, 44, 6, 55, 20),
+        rotl_row(p.y2, 3, 10, 43, 25, 39),
+        rotl_row(p.y3, 41, 45, 15, 21, 8),
+        rotl_row(p.y4, 18, 2, 61, 56, 14),
     )
 }
 
@@ -45,38 +52,34 @@ pub fn rho(s: State) -> State
 pub fn pi(s: State) -> State
     ensures { λ r. ⌜ r .lanes ≡ piOf (s .lanes) ⌝ }
 {
-    let p0 = row_at(s, 0);
-    let p1 = row_at(s, 5);
-    let p2 = row_at(s, 10);
-    let p3 = row_at(s, 15);
-    let p4 = row_at(s, 20);
+    let p = rows_of(s);
     State {
         lanes: [
-            p0.a,
-            p1.b,
-            p2.c,
-            p3.d,
-            p4.e,
-            p0.d,
-            p1.e,
-            p2.a,
-            p3.b,
-            p4.c,
-            p0.b,
-            p1.c,
-            p2.d,
-            p3.e,
-            p4.a,
-            p0.e,
-            p1.a,
-            p2.b,
-            p3.c,
-            p4.d,
-            p0.c,
-            p1.d,
-            p2.e,
-            p3.a,
-            p4.b,
+            p.y0.a,
+            p.y1.b,
+            p.y2.c,
+            p.y3.d,
+            p.y4.e,
+            p.y0.d,
+            p.y1.e,
+            p.y2.a,
+            p.y3.b,
+            p.y4.c,
+            p.y0.b,
+            p.y1.c,
+            p.y2.d,
+            p.y3.e,
+            p.y4.a,
+            p.y0.e,
+            p.y1.a,
+            p.y2.b,
+            p.y3.c,
+            p.y4.d,
+            p.y0.c,
+            p.y1.d,
+            p.y2.e,
+            p.y3.a,
+            p.y4.b,
         ],
     }
 }
@@ -85,12 +88,13 @@ pub fn pi(s: State) -> State
 pub(crate) fn chi(s: State) -> State
     ensures { λ r. ⌜ r .lanes ≡ chiOf (s .lanes) ⌝ }
 {
+    let p = rows_of(s);
     whole(
-        chi_row(row_at(s, 0)),
-        chi_row(row_at(s, 5)),
-        chi_row(row_at(s, 10)),
-        chi_row(row_at(s, 15)),
-        chi_row(row_at(s, 20)),
+        chi_row(p.y0),
+        chi_row(p.y1),
+        chi_row(p.y2),
+        chi_row(p.y3),
+        chi_row(p.y4),
     )
 }
 

@@ -44,7 +44,7 @@ module _ {n k : ℕ} {f : ℕ → List ℕ} {l₀ : List ℕ} {i : ℕ} {l : Lis
   concatenated-fits h = omega (arith, part-fits n h, j .whole)
 
   -- part i is still l₀'s
-  pub concatenated-part : i < k → take (n * i + n - n * i) (drop (n * i) l) ≡ parts n l₀ i
+  concatenated-part : i < k → take (n * i + n - n * i) (drop (n * i) l) ≡ parts n l₀ i
   concatenated-part h = part-span (n * i) n l ∙ ap (take n) (overwritten-rest (j .over) (n * i) (j .front))
 
   pub concatenated-turn : {r : List ℕ} → i < k → length r ≡ length (take (n * i + n - n * i) (drop (n * i) l)) → r ≡ f i

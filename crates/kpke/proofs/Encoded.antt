@@ -5,22 +5,14 @@ use Prim.Native.Nat.{ℕ, zero, suc, _+_, _*_, _^_, _<_, _≤_}
 use native.Mathlib.Nat.{mul-assoc}
 use native.Mathlib.Omega.{arith}
 use lib.ListN.{length, take, drop}
-use lib.Pow.{pow-pos}
 use Rattle.words.specs.Bounded.{Below}
-use Rattle.words.specs.BoundedLaws.{below-nil, below-cons}
 use Rattle.words.specs.Residue.{q}
-use Rattle.fips202.specs.Sponge.{sha3-256}
-use Rattle.fips202.specs.OutputLaws as output
 use Rattle.codec.specs.Bytes.{byteEncode}
 use Rattle.codec.specs.BytesLaws.{length-byteEncode}
 use Rattle.codec.specs.Compress.{compress}
-use Rattle.codec.specs.CompressLaws.{compress-lt}
+use Rattle.codec.specs.CompressLaws.{below-compress}
 use Rattle.kpke.specs.KPke.{parts, concat}
 use Rattle.kpke.specs.VectorLaws.{part-fits, length-concat, concat-cong}
-
-below-compress : (d : ℕ) (l : List ℕ) → Below (2 ^ d) (map (compress d) l)
-below-compress d [] = below-nil (pow-pos d)
-below-compress d (x ∷ l) = below-cons (compress-lt d x) (below-compress d l)
 
 -- what compress_all leaves
 pub below-compressed : (d : ℕ) (l : List ℕ) {w : List ℕ} → w ≡ map (compress d) l → Below (2 ^ d) w
@@ -53,9 +45,6 @@ encoded-compressed d k u e g =
 
 pub length-encoded : (d k : ℕ) (f : ℕ → List ℕ) → length (concat k (λ i. byteEncode d (f i))) ≡ 32 * d * k
 length-encoded d k f = length-concat (record { long = λ i h. length-byteEncode d (f i) })
-
-pub length-sha3-256 : (m : List ℕ) → length (sha3-256 m) ≡ 32
-length-sha3-256 m = output.length-sha3-256 m
 
 -- place (i, j) of k rows of k polynomials
 pub place-fits : (k i j : ℕ) → i < k → j < k → 256 * (k * i + j) + 256 ≤ 256 * k * k

@@ -5,18 +5,17 @@ use mathlib.Core.List.{List}
 use Prim.Native.Nat.{ℕ, zero, suc, _+_, _*_, _<_}
 use native.Mathlib.Nat.{zero-add}
 use native.Mathlib.Omega.{arith}
-use lib.ListN.{length, take, length-map}
+use lib.ListN.{length, take}
 use Rattle.words.specs.Bounded.{Below}
 use Rattle.words.specs.BoundedLaws.{below-nil, below-append}
 use Rattle.words.specs.Residue.{q}
 use Rattle.words.specs.Part.{part-take}
-use Rattle.words.specs.Tab.{length-tab}
-use Rattle.codec.specs.Bytes.{byteDecode, byteDecode12}
-use Rattle.codec.specs.BytesLaws.{length-byteDecode}
+use Rattle.codec.specs.Bytes.{byteDecode12}
+use Rattle.codec.specs.BytesLaws.{length-byteDecode12}
 use Rattle.ring.specs.Sum.{length-add, below-add}
-use Rattle.ring.specs.Linear.{ntt-linear}
+use Rattle.ring.specs.Linear.{ntt-linear, length-inverseNtt}
 use Rattle.codec.specs.SampleLaws.{length-samplePolyCbd, below-samplePolyCbd}
-use Rattle.ring.specs.Transform.{ntt, inverseNtt}
+use Rattle.ring.specs.Transform.{ntt}
 use Rattle.kpke.specs.Functions.{PRF}
 use Rattle.kpke.specs.KPke.{parts, concat, noise, firstPart, publicPolynomial}
 use Rattle.kpke.specs.VectorLaws.{part-fits, Each, parts-concat, concat-cong}
@@ -56,20 +55,12 @@ below-transformed eta seed i =
     ntt-linear {n = 256} .below (noise eta seed i) (length-samplePolyCbd eta (PRF eta seed i))
     (below-samplePolyCbd eta (PRF eta seed i))
 
-length-byteDecode12 : (b : List ℕ) → length (byteDecode12 b) ≡ 256
-unfolding byteDecode12
-length-byteDecode12 b = length-map (byteDecode 12 b) _ ∙ length-byteDecode 12 b
-
 pub decoded-at : (k : ℕ) (b : List ℕ) {v : List ℕ} → v ≡ concat k (λ i. byteDecode12 (parts 384 (take (384 * k) b) i))
     → (i : ℕ) → i < k → parts 256 v i ≡ byteDecode12 (parts 384 b i)
 decoded-at k b e i h =
     ap (λ (l : List ℕ). parts 256 l i) e
     ∙ parts-concat (record { long = λ j g. length-byteDecode12 (parts 384 (take (384 * k) b) j) }) i h
     ∙ ap byteDecode12 (part-take (384 * i) 384 (384 * k) b (part-fits 384 h))
-
-length-inverseNtt : (f : List ℕ) → length (inverseNtt f) ≡ 256
-unfolding inverseNtt
-length-inverseNtt f = length-tab 256 _
 
 module _ (k eta : ℕ) (a : ℕ → ℕ → List ℕ) (y : ℕ → List ℕ) (r : List ℕ) where
   length-firstPart : (i : ℕ) → length (firstPart k eta a y r i) ≡ 256

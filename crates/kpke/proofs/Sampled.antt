@@ -7,6 +7,7 @@ use Prim.Native.Nat.{ℕ, _+_, _-_, _*_, _<_, _≤_}
 use borrow.Author.Tests.{not-true, not-false}
 use lib.ListN.{length, take, drop}
 use Rattle.words.specs.Table.{every}
+use Rattle.codec.specs.Results.{Sampling}
 use Rattle.words.specs.Walk.{Walked, walked-start, walked-turn, walked-every, every-false}
 use Rattle.kpke.specs.KPke.{concat}
 use Rattle.kpke.proofs.Concatenated.{Concatenated, concatenated-start, concatenated-turn, concatenated-end}
@@ -23,19 +24,21 @@ module _ {n k : ℕ} {p : ℕ → Bool} {f : ℕ → List ℕ} where
   module _ {l₀ : List ℕ} {i : ℕ} {l : List ℕ} (s : Sampled n k p f l₀ i l) where
     -- the test b of place i is passed, and r is its part
     pub sampled-turn : {b : Bool} {r : List ℕ} → i < k → length r ≡ length (take (n * i + n - n * i) (drop (n * i) l))
-        → b ≡ p i → (b ≡ true → r ≡ f i) → not b ≡ false
+        → Sampling (p i) (f i) b r → not b ≡ false
         → Sampled n k p f l₀ (i + 1) (take (n * i) l ++ (r ++ drop (n * i + n - n * i) (drop (n * i) l)))
-    sampled-turn {b} h w e g t =
+    sampled-turn {b} h w e t =
         let o = not-false b t in
         record {
-          passed = walked-turn (s .passed) h (sym e ∙ o);
-          written = concatenated-turn (s .written) h w (g o);
+          passed = walked-turn (s .passed) h (sym (e .answer) ∙ o);
+          written = concatenated-turn (s .written) h w (e .holds o);
         }
 
-    pub sampled-end : k ≤ i → (true ≡ every k p) × (true ≡ true → l ≡ concat k f)
-    sampled-end h = (sym (walked-every (s .passed) h), λ e. concatenated-end (s .written) h)
+    pub sampled-end : k ≤ i → Sampling (every k p) (concat k f) true l
+    sampled-end h =
+        record { answer = sym (walked-every (s .passed) h); holds = λ e. concatenated-end (s .written) h }
 
 -- the test b of place i is not passed
 pub sampled-stop : (k : ℕ) (p : ℕ → Bool) (f : ℕ → List ℕ) (i : ℕ) {b : Bool} {l : List ℕ} → i < k → b ≡ p i
-    → not b ≡ true → (false ≡ every k p) × (false ≡ true → l ≡ concat k f)
-sampled-stop k p f i {b} h e t = (sym (every-false k p i h (sym e ∙ not-true b t)), λ w. cc)
+    → not b ≡ true → Sampling (every k p) (concat k f) false l
+sampled-stop k p f i {b} h e t =
+    record { answer = sym (every-false k p i h (sym e ∙ not-true b t)); holds = λ w. cc }

@@ -1,11 +1,12 @@
 -- The matrix A-hat (FIPS 203, algorithm 13, lines 3 to 7) in one list, its rows one after the other.
-use mathlib.Core.Path.{_≡_, sym, ap, _∙_}
+use mathlib.Core.Path.{_≡_, refl, sym, ap, _∙_}
 use mathlib.Core.Bool.{Bool, true, false}
 use mathlib.Core.List.{List}
 use Prim.Native.Nat.{ℕ, _+_, _*_, _<_}
 use native.Mathlib.Nat.{mul-assoc}
 use native.Mathlib.Omega.{arith}
-use lib.Dec.{T, leb→le}
+use borrow.Author.Tests.{leb-true}
+use lib.Dec.{T}
 use lib.ListN.{length, take, drop}
 use lib.Seq.{drop-drop}
 use Rattle.words.specs.Part.{part-take}
@@ -30,16 +31,24 @@ of-true : (b : Bool) → b ≡ true → T b
 of-true true e = tt
 of-true false e = let z : _≡_ {A = ℕ} 0 1 = cc in absurd (omega arith)
 
+to-true : (b : Bool) → T b → b ≡ true
+to-true true t = refl
+to-true false t = absurd t
+
 module _ (k : ℕ) (rho : List ℕ) (h : matrixFull k rho ≡ true) where
-  row : (i : ℕ) → i < k → Each 256 k (matrix rho i)
+  -- the stream of place (i, j) yields 256 coefficients
+  pub place-full : (i j : ℕ) → i < k → j < k → full (XOF rho i j) ≡ true
   unfolding matrixFull
-  row i g =
+  place-full i j g f =
       let rowFull : ℕ → Bool = λ i. every k (λ j. full (XOF rho i j)) in
       let t = every-at k rowFull (of-true (every k rowFull) h) i g in
+      to-true (full (XOF rho i j)) (every-at k (λ j. full (XOF rho i j)) t j f)
+
+  row : (i : ℕ) → i < k → Each 256 k (matrix rho i)
+  row i g =
       record {
         long = λ j f.
-            length-sampleNtt (XOF rho i j)
-            (leb→le 256 (length (accepted 280 (XOF rho i j))) (every-at k (λ j. full (XOF rho i j)) t j f));
+            length-sampleNtt (XOF rho i j) (leb-true 256 (length (accepted 280 (XOF rho i j))) (place-full i j g f));
       }
 
   rows : Each (256 * k) k (λ i. concat k (matrix rho i))

@@ -64,24 +64,30 @@ secondPart k eta t y m r =
 module _ (p : Parameters) where
   -- ---- Algorithm 13, K-PKE.KeyGen(d)
 
-  -- lines 1, 8 to 11 and 16: s-hat
+  -- lines 8 to 11 and 16, from line 1's sigma: s-hat
   unfoldable pub secretVector : List ℕ → ℕ → List ℕ
-  secretVector d i = ntt (noise (p .eta1) (G₂ (d ++ p .k ∷ [])) i)
+  secretVector sigma i = ntt (noise (p .eta1) sigma i)
 
   -- lines 12 to 15 and 17: e-hat
   unfoldable pub errorVector : List ℕ → ℕ → List ℕ
-  errorVector d i = ntt (noise (p .eta1) (G₂ (d ++ p .k ∷ [])) (p .k + i))
+  errorVector sigma i = ntt (noise (p .eta1) sigma (p .k + i))
 
-  -- lines 18 and 19: ek, which is t-hat encoded and rho
-  unfoldable pub ekPke : List ℕ → List ℕ
-  ekPke d =
-      let rho = G₁ (d ++ p .k ∷ []) in
-      let t = publicPolynomial (p .k) (matrix rho) (secretVector d) (errorVector d) in
+  -- lines 3 to 19, from line 1's rho and sigma: ek, which is t-hat encoded and rho
+  unfoldable pub ekFrom : List ℕ → List ℕ → List ℕ
+  ekFrom rho sigma =
+      let t = publicPolynomial (p .k) (matrix rho) (secretVector sigma) (errorVector sigma) in
       concat (p .k) (λ i. byteEncode 12 (t i)) ++ rho
 
   -- line 20: dk
+  unfoldable pub dkFrom : List ℕ → List ℕ
+  dkFrom sigma = concat (p .k) (λ i. byteEncode 12 (secretVector sigma i))
+
+  -- line 1: rho and sigma are the halves of G(d || k)
+  unfoldable pub ekPke : List ℕ → List ℕ
+  ekPke d = ekFrom (G₁ (d ++ p .k ∷ [])) (G₂ (d ++ p .k ∷ []))
+
   unfoldable pub dkPke : List ℕ → List ℕ
-  dkPke d = concat (p .k) (λ i. byteEncode 12 (secretVector d i))
+  dkPke d = dkFrom (G₂ (d ++ p .k ∷ []))
 
   -- ---- Algorithm 14, K-PKE.Encrypt(ek, m, r)
 

@@ -1,9 +1,11 @@
 -- What K-PKE's functions ask of their slices and numbers: a vector is k parts of 256 coefficients, a seed 32 bytes.
 use mathlib.Core.Path.{_≡_}
 use mathlib.Core.List.{List}
-use Prim.Native.Nat.{ℕ, _*_, _^_, _<_, _≤_}
-use lib.ListN.{length}
+use Prim.Native.Nat.{ℕ, _+_, _*_, _^_, _<_, _≤_}
+use lib.ListN.{length, drop}
+use Rattle.words.specs.Residue.{q}
 use Rattle.words.specs.Bounded.{Below}
+use Rattle.kpke.specs.Expanded.{Expanded}
 
 -- PRF_eta's seed and SamplePolyCBD_eta's width (FIPS 203, algorithm 8)
 pub record NoiseSeed (seed : List ℕ) (eta : ℕ) : Type 0 where
@@ -11,14 +13,33 @@ pub record NoiseSeed (seed : List ℕ) (eta : ℕ) : Type 0 where
   pub some : 0 < eta
   pub most : eta ≤ 3
 
--- ByteEncode_d of each polynomial of v (algorithm 5)
-pub record Encodable (v : List ℕ) (d k : ℕ) : Type 0 where
+-- noise n, to f
+pub record NoiseInput (seed : List ℕ) (eta n : ℕ) (f : List ℕ) : Type 0 where
+  pub from : NoiseSeed seed eta
+  pub nonce : n < 256
+  pub polynomial : length f ≡ 256
+
+-- SampleNTT (algorithm 7) of matrix places, k to a row, to n coefficients of a
+pub record ExpandInput (rho : List ℕ) (k n : ℕ) (a : List ℕ) : Type 0 where
+  pub seed : length rho ≡ 32
+  pub rank : k ≤ 256
+  pub room : length a ≡ n
+
+-- ByteEncode_d (algorithm 5) of each polynomial of v, to out
+pub record EncodeAllInput (v : List ℕ) (d k : ℕ) (out : List ℕ) : Type 0 where
   pub vector : length v ≡ 256 * k
   pub some : 0 < d
   pub most : d ≤ 12
   pub below : Below (2 ^ d) v
+  pub bytes : length out ≡ 32 * d * k
 
--- a row of the matrix a times the vector v, and noise: algorithm 13, line 18, and algorithm 14, line 19
+-- the products (2.4.7) of a's parts start, start + step, .. with the k parts of b, added up in out
+pub record DotInput (a : List ℕ) (start step : ℕ) (b : List ℕ) (k : ℕ) (out : List ℕ) : Type 0 where
+  pub left : (j : ℕ) → j < k → 256 * (start + step * j) + 256 ≤ length a
+  pub right : length b ≡ 256 * k
+  pub polynomial : length out ≡ 256
+
+-- a row (algorithm 13, line 18) or a column (algorithm 14, line 19) of the matrix a times the vector v, and noise
 pub record RowInput (a v seed : List ℕ) (eta k : ℕ) : Type 0 where
   pub matrix : length a ≡ 256 * k * k
   pub vector : length v ≡ 256 * k
@@ -41,3 +62,20 @@ pub record CiphertextInput (u v : List ℕ) (du dv k : ℕ) : Type 0 where
   pub du-most : du ≤ 11
   pub dv-some : 0 < dv
   pub dv-most : dv ≤ 11
+
+-- algorithm 13, line 19: t-hat and rho, to ek
+pub record EkInput (t rho : List ℕ) (k : ℕ) (ek : List ℕ) : Type 0 where
+  pub vector : length t ≡ 256 * k
+  pub below : Below q t
+  pub seed : length rho ≡ 32
+  pub bytes : length ek ≡ 384 * k + 32
+
+-- ---- at ML-KEM-768
+
+-- algorithm 14: the matrix, the public key, the message, the coins and the ciphertext
+pub record EncryptInput (a ek m r ct : List ℕ) : Type 0 where
+  pub matrix : Expanded 3 (drop 1152 ek) a
+  pub public : length ek ≡ 1184
+  pub message : length m ≡ 32
+  pub coins : length r ≡ 32
+  pub bytes : length ct ≡ 1088

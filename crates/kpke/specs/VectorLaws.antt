@@ -7,7 +7,7 @@ use native.Mathlib.Decide.{decLt}
 use native.Mathlib.Omega.{arith}
 use lib.ListN.{length, take, drop, replicate, length-append}
 use lib.Seq.{take-length, take-add, drop-at}
-use Rattle.words.specs.Iterate.{iterate-cong}
+use Rattle.words.specs.IterateLaws.{iterate-cong}
 use Rattle.words.specs.Part.{part-append}
 use Rattle.ring.specs.Polynomial.{add}
 use Rattle.ring.specs.Transform.{multiplyNtts}

@@ -2,13 +2,13 @@
 ghost use mathlib.Core.List.{_++_, map};
 ghost use mathlib.Core.Path.{_≡_};
 ghost use Prim.Native.Nat.{_+_, _*_, _<_};
-ghost use lib.ListN.{length, drop};
+ghost use lib.ListN.{length};
 ghost use Rattle.codec.specs.Bytes.{byteEncode, byteDecode};
 ghost use Rattle.codec.specs.Compress.{compress, decompress};
 ghost use Rattle.kpke.specs.Parameters.{mlKem768};
 ghost use Rattle.kpke.specs.KPke.{parts, concat, firstPart, secondPart, encrypt as encryptOf};
-ghost use Rattle.kpke.specs.Expanded.{placesOf, Expanded};
-ghost use Rattle.kpke.specs.Sizes.{RowInput, SecondInput, CiphertextInput};
+ghost use Rattle.kpke.specs.Expanded.{placesOf};
+ghost use Rattle.kpke.specs.Sizes.{RowInput, SecondInput, CiphertextInput, EncryptInput};
 use crate::noise::noise;
 use crate::noise::transformed_noise;
 use crate::vector::decode12_all;
@@ -102,13 +102,7 @@ fn encode_parts(u: &mut [u16], v: &mut [u16], du: u32, dv: u32, k: usize, ct: &m
 
 // Algorithm 14 at ML-KEM-768, for the matrix A-hat in a; t is t-hat, y is y-hat.
 pub fn encrypt(a: &[u16], ek: &[u8], m: &[u8], r: &[u8], ct: &mut [u8])
-    requires { ⌜
-        Expanded 3 (drop 1152 (now ek)) (now a)
-        × (length (now ek) ≡ 1184)
-        × (length (now m) ≡ 32)
-        × (length (now r) ≡ 32)
-        × (length (now ct) ≡ 1088)
-        ⌝ }
+    requires { ⌜ EncryptInput (now a) (now ek) (now m) (now r) (now ct) ⌝ }
     ensures { λ _. ⌜ now (ct .exit) ≡ encryptOf mlKem768 (now (ek .entry)) (now (m .entry)) (now (r .entry)) ⌝ }
 {
     let mut t = [0u16; 768];

@@ -1,17 +1,15 @@
 // K-PKE.KeyGen (FIPS 203, algorithm 13).
-ghost use mathlib.Core.List.{List, [], _∷_, _++_};
+ghost use mathlib.Core.List.{_++_};
 ghost use mathlib.Core.Path.{_≡_};
-ghost use Prim.Native.Nat.{ℕ, _+_, _*_, _<_};
-ghost use lib.ListN.{length, take};
-ghost use Rattle.words.specs.Bounded.{Below};
-ghost use Rattle.words.specs.Residue.{q};
-ghost use Rattle.fips202.specs.Sponge.{sha3-512};
+ghost use Prim.Native.Nat.{_+_, _*_, _<_};
+ghost use lib.ListN.{length};
 ghost use Rattle.codec.specs.Bytes.{byteEncode};
 ghost use Rattle.ring.specs.Transform.{ntt as nttOf};
 ghost use Rattle.kpke.specs.Parameters.{mlKem768};
-ghost use Rattle.kpke.specs.KPke.{parts, concat, noise as noiseOf, publicPolynomial, ekPke, dkPke};
-ghost use Rattle.kpke.specs.Expanded.{placesOf, Expanded};
-ghost use Rattle.kpke.specs.Sizes.{RowInput};
+ghost use Rattle.kpke.specs.KPke.{parts, concat, noise as noiseOf, publicPolynomial};
+ghost use Rattle.kpke.specs.KeyMaking.{PkeKeysInput, PkeKeysWritten};
+ghost use Rattle.kpke.specs.Expanded.{placesOf};
+ghost use Rattle.kpke.specs.Sizes.{RowInput, EkInput};
 use crate::copy::copy_bytes;
 use crate::noise::noise;
 use crate::noise::transformed_noise;
@@ -71,12 +69,7 @@ fn public_vector(a: &[u16], s: &[u16], sigma: &[u8], eta: u32, k: usize, t: &mut
 
 // Line 19, ek: t-hat encoded, then rho.
 fn write_ek(t: &[u16], rho: &[u8], k: usize, ek: &mut [u8])
-    requires { ⌜
-        (length (now t) ≡ 256 * k)
-        × Below q (now t)
-        × (length (now rho) ≡ 32)
-        × (length (now ek) ≡ 384 * k + 32)
-        ⌝ }
+    requires { ⌜ EkInput (now t) (now rho) k (now ek) ⌝ }
     ensures { λ _. ⌜
         now (ek .exit) ≡ concat k (λ i. byteEncode 12 (parts 256 (now (t .entry)) i)) ++ now (rho .entry)
         ⌝ }
@@ -86,25 +79,17 @@ fn write_ek(t: &[u16], rho: &[u8], k: usize, ek: &mut [u8])
     copy_bytes(rho, &mut ek[n..]);
 }
 
-// Lines 8 to 20 at ML-KEM-768, for the matrix A-hat in a and line 1's rho || sigma in g; s is s-hat, t is t-hat.
-pub fn write_keys(a: &[u16], g: &[u8], ek: &mut [u8], dk: &mut [u8])
-    requires { ⌜
-        Expanded 3 (take 32 (now g)) (now a)
-        × (length (now g) ≡ 64)
-        × (length (now ek) ≡ 1184)
-        × (length (now dk) ≡ 1152)
-        ⌝ }
+// Lines 8 to 20 at ML-KEM-768, for the matrix A-hat in a and line 1's rho and sigma; s is s-hat, t is t-hat.
+pub fn write_keys(a: &[u16], rho: &[u8], sigma: &[u8], ek: &mut [u8], dk: &mut [u8])
+    requires { ⌜ PkeKeysInput mlKem768 (now a) (now rho) (now sigma) (now ek) (now dk) ⌝ }
     ensures { λ _. ⌜
-        ((d : List ℕ) → now (g .entry) ≡ sha3-512 (d ++ 3 ∷ []) → now (ek .exit) ≡ ekPke mlKem768 d)
-        ⌝ }
-    ensures { λ _. ⌜
-        ((d : List ℕ) → now (g .entry) ≡ sha3-512 (d ++ 3 ∷ []) → now (dk .exit) ≡ dkPke mlKem768 d)
+        PkeKeysWritten mlKem768 (now (rho .entry)) (now (sigma .entry)) (now (ek .exit)) (now (dk .exit))
         ⌝ }
 {
     let mut s = [0u16; 768];
     let mut t = [0u16; 768];
-    transformed_noise(&g[32..], 2, 3, &mut s);
-    public_vector(a, &s, &g[32..], 2, 3, &mut t);
-    write_ek(&t, &g[0..32], 3, ek);
+    transformed_noise(sigma, 2, 3, &mut s);
+    public_vector(a, &s, sigma, 2, 3, &mut t);
+    write_ek(&t, rho, 3, ek);
     encode_all(&s, 12, 3, dk);
 }

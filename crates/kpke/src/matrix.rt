@@ -1,21 +1,23 @@
 // The matrix A-hat (FIPS 203, algorithm 13, lines 3 to 7, and algorithm 14, lines 4 to 8), its rows one after the other
 // in one slice.
-ghost use mathlib.Core.Bool.{true};
 ghost use mathlib.Core.Path.{_≡_};
-ghost use Prim.Native.Nat.{_*_, _<_, _≤_};
+ghost use Prim.Native.Nat.{_*_, _<_};
 ghost use lib.ListN.{length};
 ghost use Rattle.words.specs.Table.{every};
 ghost use Rattle.codec.specs.Sample.{full};
+ghost use Rattle.codec.specs.Results.{Sampling};
 ghost use Rattle.kpke.specs.Functions.{XOF};
 ghost use Rattle.kpke.specs.KPke.{concat, matrix, matrixFull};
+ghost use Rattle.kpke.specs.Sizes.{ExpandInput};
 use crate::hashes::xof;
 use codec::fill_ntt;
 
 // SampleNTT (algorithm 7) at place (i, j): whether its stream yields 256 coefficients, which f then holds.
 fn sample_place(rho: &[u8], i: u8, j: u8, f: &mut [u16]) -> bool
     requires { ⌜ (length (now rho) ≡ 32) × (length (now f) ≡ 256) ⌝ }
-    ensures { λ r. ⌜ r ≡ full (XOF (now (rho .entry)) i j) ⌝ }
-    ensures { λ r. ⌜ (r ≡ true → now (f .exit) ≡ matrix (now (rho .entry)) i j) ⌝ }
+    ensures { λ r. ⌜
+        Sampling (full (XOF (now (rho .entry)) i j)) (matrix (now (rho .entry)) i j) r (now (f .exit))
+        ⌝ }
 {
     let mut s = [0u8; 840];
     xof(rho, i, j, &mut s);
@@ -24,9 +26,14 @@ fn sample_place(rho: &[u8], i: u8, j: u8, f: &mut [u16]) -> bool
 
 // Row i of A-hat.
 fn expand_row(rho: &[u8], k: usize, i: usize, a: &mut [u16]) -> bool
-    requires { ⌜ (length (now rho) ≡ 32) × (k ≤ 256) × (i < 256) × (length (now a) ≡ 256 * k) ⌝ }
-    ensures { λ r. ⌜ r ≡ every k (λ j. full (XOF (now (rho .entry)) i j)) ⌝ }
-    ensures { λ r. ⌜ (r ≡ true → now (a .exit) ≡ concat k (matrix (now (rho .entry)) i)) ⌝ }
+    requires { ⌜ ExpandInput (now rho) k (256 * k) (now a) × (i < 256) ⌝ }
+    ensures { λ r. ⌜
+        Sampling
+        (every k (λ j. full (XOF (now (rho .entry)) i j)))
+        (concat k (matrix (now (rho .entry)) i))
+        r
+        (now (a .exit))
+        ⌝ }
 {
     for j in 0..k {
         let s = 256 * j;
@@ -40,10 +47,13 @@ fn expand_row(rho: &[u8], k: usize, i: usize, a: &mut [u16]) -> bool
 
 // A-hat: whether each stream yields 256 coefficients; a then holds the matrix.
 pub fn expand(rho: &[u8], k: usize, a: &mut [u16]) -> bool
-    requires { ⌜ (length (now rho) ≡ 32) × (k ≤ 256) × (length (now a) ≡ 256 * k * k) ⌝ }
-    ensures { λ r. ⌜ r ≡ matrixFull k (now (rho .entry)) ⌝ }
+    requires { ⌜ ExpandInput (now rho) k (256 * k * k) (now a) ⌝ }
     ensures { λ r. ⌜
-        (r ≡ true → now (a .exit) ≡ concat k (λ i. concat k (matrix (now (rho .entry)) i)))
+        Sampling
+        (matrixFull k (now (rho .entry)))
+        (concat k (λ i. concat k (matrix (now (rho .entry)) i)))
+        r
+        (now (a .exit))
         ⌝ }
 {
     let n = 256 * k;

@@ -1,17 +1,17 @@
 // Noise: PRF and SamplePolyCBD (FIPS 203, algorithm 13, lines 8 to 15, and algorithm 14, lines 9 to 17).
 ghost use mathlib.Core.Path.{_≡_};
-ghost use Prim.Native.Nat.{_+_, _*_, _<_, _≤_};
+ghost use Prim.Native.Nat.{_+_, _*_, _≤_};
 ghost use lib.ListN.{length};
 ghost use Rattle.ring.specs.Transform.{ntt};
 ghost use Rattle.kpke.specs.KPke.{concat, noise as noiseOf};
-ghost use Rattle.kpke.specs.Sizes.{NoiseSeed};
+ghost use Rattle.kpke.specs.Sizes.{NoiseSeed, NoiseInput};
 use crate::hashes::prf;
 use crate::vector::ntt_all;
 use codec::sample_poly_cbd;
 
 // SamplePolyCBD_eta of PRF_eta(seed, n); b is where the bytes go.
 fn noise_by(seed: &[u8], eta: u32, n: usize, b: &mut [u8], f: &mut [u16])
-    requires { ⌜ NoiseSeed (now seed) eta × (n < 256) × (length (now b) ≡ 64 * eta) × (length (now f) ≡ 256) ⌝ }
+    requires { ⌜ NoiseInput (now seed) eta n (now f) × (length (now b) ≡ 64 * eta) ⌝ }
     ensures { λ _. ⌜ now (f .exit) ≡ noiseOf eta (now (seed .entry)) n ⌝ }
 {
     prf(seed, n as u8, b);
@@ -20,7 +20,7 @@ fn noise_by(seed: &[u8], eta: u32, n: usize, b: &mut [u8], f: &mut [u16])
 
 // SamplePolyCBD_eta of PRF_eta(seed, n).
 pub fn noise(seed: &[u8], eta: u32, n: usize, f: &mut [u16])
-    requires { ⌜ NoiseSeed (now seed) eta × (n < 256) × (length (now f) ≡ 256) ⌝ }
+    requires { ⌜ NoiseInput (now seed) eta n (now f) ⌝ }
     ensures { λ _. ⌜ now (f .exit) ≡ noiseOf eta (now (seed .entry)) n ⌝ }
 {
     let mut b = [0u8; 192];

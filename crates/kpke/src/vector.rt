@@ -1,11 +1,11 @@
 // Vectors of k polynomials (FIPS 203, section 2.4.6): the k parts of 256 coefficients of one slice.
 ghost use mathlib.Core.Path.{_≡_};
-ghost use Prim.Native.Nat.{ℕ, _+_, _*_, _<_, _≤_};
+ghost use Prim.Native.Nat.{_+_, _*_};
 ghost use lib.ListN.{length, replicate};
 ghost use Rattle.codec.specs.Bytes.{byteEncode, byteDecode12};
 ghost use Rattle.ring.specs.Transform.{ntt as nttOf};
 ghost use Rattle.kpke.specs.KPke.{parts, concat, dot as dotOf, coefficients};
-ghost use Rattle.kpke.specs.Sizes.{Encodable};
+ghost use Rattle.kpke.specs.Sizes.{DotInput, EncodeAllInput};
 use crate::copy::copy_coefficients;
 use codec::byte_decode;
 use codec::byte_decode12;
@@ -37,11 +37,7 @@ pub fn clear(f: &mut [u16])
 
 // The sum of MultiplyNTTs (algorithm 11) of a's parts start, start + step, .. with b's parts (2.4.7).
 pub fn dot(a: &[u16], start: usize, step: usize, b: &[u16], k: usize, out: &mut [u16])
-    requires { ⌜
-        ((j : ℕ) → j < k → 256 * (start + step * j) + 256 ≤ length (now a))
-        × (length (now b) ≡ 256 * k)
-        × (length (now out) ≡ 256)
-        ⌝ }
+    requires { ⌜ DotInput (now a) start step (now b) k (now out) ⌝ }
     ensures { λ _. ⌜
         now (out .exit) ≡ dotOf k (λ j. parts 256 (now (a .entry)) (start + step * j)) (parts 256 (now (b .entry)))
         ⌝ }
@@ -58,7 +54,7 @@ pub fn dot(a: &[u16], start: usize, step: usize, b: &[u16], k: usize, out: &mut 
 
 // ByteEncode_d (algorithm 5) of each polynomial, one after the other.
 pub fn encode_all(v: &[u16], d: u32, k: usize, out: &mut [u8])
-    requires { ⌜ Encodable (now v) d k × (length (now out) ≡ 32 * d * k) ⌝ }
+    requires { ⌜ EncodeAllInput (now v) d k (now out) ⌝ }
     ensures { λ _. ⌜ now (out .exit) ≡ concat k (λ i. byteEncode d (parts 256 (now (v .entry)) i)) ⌝ }
 {
     let n = 32 * (d as usize);

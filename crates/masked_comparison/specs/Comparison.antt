@@ -31,11 +31,8 @@ allZero n w = do
   b ← halves 6 f
   maskedNot 1 b
 
--- its entries and mask words: eleven and one for each of n + 6 Ors, and the complement
-unfoldable pub allZeroEntries : ℕ → ℕ
-allZeroEntries n = n * 11 + (6 * 11 + 1)
-
-unfoldable pub allZeroWords : ℕ → ℕ
+-- its mask words: one for each of n + 6 Ors
+abbrev pub allZeroWords : ℕ → ℕ
 allZeroWords n = n + 6
 
 -- 64 copies of a bit
@@ -48,3 +45,7 @@ select b x y = do
   d ← maskedXor x y
   z ← maskedAnd 64 (copies b) d
   maskedXor y z
+
+-- its mask words
+abbrev pub selectWords : ℕ
+selectWords = 1

@@ -1,4 +1,4 @@
--- Comparison and selection: how much they do, and what they join to.
+-- How much comparison and selection do, and what comparison joins to.
 use Prim.Native.Nat.{ℕ, zero, suc, _+_, _-_, _*_, _/_, _^_, _<_}
 use mathlib.Core.Path.{_≡_, refl, sym, ap, ap₂, _∙_, subst}
 use mathlib.Core.Bool.{Bool, true, false, cond, _&&_}
@@ -7,7 +7,8 @@ use native.Mathlib.Nat.{sub-self, sub-zero, two-pow-succ, zero-mod, zero-div}
 use native.Mathlib.Numerals.{add-one}
 use native.Mathlib.Omega.{arith}
 use lib.Pow.{split}
-use Rattle.words.specs.Word.{Bits, xor, and, or, ones, complement, low}
+use Rattle.words.specs.Word.{xor, and, ones, complement, low}
+use Rattle.words.specs.Bits.{Bits, or}
 use Rattle.words.specs.WordLaws.{xor-same, and-comm, and-ones, low-bits, high-bits, low-xor, xor-shift}
 use Rattle.words.specs.Formula.{boole, at, _⊕_, _⊗_}
 use Rattle.words.specs.Table.{every}
@@ -20,10 +21,12 @@ use Rattle.worksheet.specs.Sharing.{shares}
 use Rattle.worksheet.specs.SharingLaws.{Sharing, sharing-bits, sharing-xorPublic}
 use Rattle.worksheet.specs.MaskedAndLaws.{uses-maskedAnd}
 use Rattle.worksheet.specs.Gates.{maskedOr}
+use Rattle.worksheet.specs.EntryCounts.{orEntries}
 use Rattle.worksheet.specs.GatesLaws.{uses-maskedNot, uses-maskedXor, uses-maskedOr}
 use Rattle.worksheet.specs.GatesSharing.{sharing-maskedNot, sharing-maskedOr}
-use Rattle.masked_comparison.specs.Comparison.{addPublic, foldOr, halve, halves, allZero, allZeroEntries}
-use Rattle.masked_comparison.specs.Comparison.{allZeroWords, copies, select}
+use Rattle.masked_comparison.specs.Comparison.{addPublic, foldOr, halve, halves, allZero}
+use Rattle.masked_comparison.specs.EntryCounts.{allZeroEntries, selectEntries}
+use Rattle.masked_comparison.specs.Comparison.{allZeroWords, copies, select, selectWords}
 
 -- ---- how much they do
 
@@ -31,21 +34,21 @@ pub uses-addPublic : (n : ℕ) (c : ℕ → ℕ) (w : ℕ → Shares) → Uses n
 unfolding addPublic entry _>>=_
 uses-addPublic n c w = uses-recount (omega arith) (omega arith) (omega arith) (uses-times n (λ j. enter-u ret-u))
 
-uses-foldOr : (n : ℕ) (w : ℕ → Shares) → Uses (n * 11) (n * 1) (n * 0) (foldOr n w)
+uses-foldOr : (n : ℕ) (w : ℕ → Shares) → Uses (n * orEntries) (n * 1) (n * 0) (foldOr n w)
 unfolding foldOr
 uses-foldOr n w = uses-loop n (w 0) (λ j a. uses-maskedOr 64 a (w (j + 1)))
 
-uses-halves : (n : ℕ) (w : Shares) → Uses (n * 11) (n * 1) (n * 0) (halves n w)
+uses-halves : (n : ℕ) (w : Shares) → Uses (n * orEntries) (n * 1) (n * 0) (halves n w)
 unfolding halves halve
 uses-halves n w = uses-loop n w (λ j a. uses-maskedOr (2 ^ (n - 1 - j)) _ _)
 
 pub uses-allZero : (n : ℕ) (w : ℕ → Shares) → Uses (allZeroEntries n) (allZeroWords n) 0 (allZero n w)
-unfolding allZero allZeroEntries allZeroWords
+unfolding allZero allZeroEntries
 uses-allZero n w =
     uses-recount (omega arith) (omega arith) (omega arith)
     (uses-bind (uses-foldOr n w) (λ f. uses-bind (uses-halves 6 f) (λ b. uses-maskedNot 1 b)))
 
-pub uses-select : (b x y : Shares) → Uses 12 1 0 (select b x y)
+pub uses-select : (b x y : Shares) → Uses selectEntries selectWords 0 (select b x y)
 unfolding select
 uses-select b x y =
     uses-bind (uses-maskedXor x y) (λ d. uses-bind (uses-maskedAnd 64 (copies b) d) (λ z. uses-maskedXor y z))

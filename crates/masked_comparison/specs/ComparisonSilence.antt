@@ -4,7 +4,8 @@ use mathlib.Core.Path.{_≡_, ap}
 use mathlib.Core.Bool.{Bool, true, false}
 use native.Mathlib.Omega.{arith}
 use lib.ListN.{getD}
-use Rattle.words.specs.Word.{Bits, xor}
+use Rattle.words.specs.Word.{xor}
+use Rattle.words.specs.Bits.{Bits}
 use Rattle.words.specs.WordLaws.{xor-bits, complement-bits}
 use Rattle.worksheet.specs.declared.Shares.{Shares}
 use Rattle.worksheet.specs.Prog.{Prog, ret, _>>=_, entry}
@@ -16,7 +17,8 @@ use Rattle.worksheet.specs.SharingLaws.{share, notShares, share-notShares}
 use Rattle.worksheet.specs.Choice.{both-bits, Kept, KeptWords, KeptList}
 use Rattle.worksheet.specs.Gates.{maskedNot}
 use Rattle.worksheet.specs.GatesSilence.{like-maskedNot, sameAt-maskedNot}
-use Rattle.masked_comparison.specs.Comparison.{addPublic, allZero, allZeroEntries}
+use Rattle.masked_comparison.specs.Comparison.{addPublic, allZero}
+use Rattle.masked_comparison.specs.EntryCounts.{allZeroEntries}
 use Rattle.masked_comparison.specs.FoldSilence.{foldOr-stage}
 use Rattle.masked_comparison.specs.HalvesSilence.{KeptHalves, keepingHalves, halves-stage}
 
@@ -47,7 +49,7 @@ module _ (n : ℕ) (c : ℕ → ℕ) (bits : (j : ℕ) → Bits 64 (c j)) where
   silent-turn r j h zero g = here (ap (λ (t : ℕ). xor t (c j)) (r .at j h .same)) (ret-c tt)
   silent-turn r j h (suc i) g = absurd (omega arith)
 
-  pub addPublic-stage : Stage (KeptWords n) (KeptList n) (n * 1) (addPublic n c) (addPublic n c)
+  addPublic-stage : Stage (KeptWords n) (KeptList n) (n * 1) (addPublic n c) (addPublic n c)
   unfolding addPublic entry _>>=_
   addPublic-stage =
       record {
@@ -79,7 +81,7 @@ maskedNot-stage n =
 
 -- ---- the equal bit
 
-pub allZero-stage : (n : ℕ) → 0 < n → Stage (KeptWords (n + 1)) (Kept 1) (allZeroEntries n) (allZero n) (allZero n)
+allZero-stage : (n : ℕ) → 0 < n → Stage (KeptWords (n + 1)) (Kept 1) (allZeroEntries n) (allZero n) (allZero n)
 unfolding allZero allZeroEntries
 allZero-stage n pos =
     andThen (foldOr-stage n pos (keepingHalves 6))

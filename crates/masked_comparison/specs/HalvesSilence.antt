@@ -7,12 +7,14 @@ use native.Mathlib.Omega.{arith}
 use native.Mathlib.Nat.{sub-self, sub-zero, two-pow-succ}
 use lib.Arith.{digits-lt, digits-div, digits-mod}
 use lib.Pow.{pow-add, pow-mono}
-use Rattle.words.specs.Word.{Bits, low}
+use Rattle.words.specs.Word.{low}
+use Rattle.words.specs.Bits.{Bits}
 use Rattle.words.specs.WordLaws.{low-bits, high-bits, low-xor, xor-shift}
 use Rattle.worksheet.specs.declared.Shares.{Shares}
 use Rattle.worksheet.specs.Stage.{Stage, loop-stage}
 use Rattle.worksheet.specs.SharingLaws.{Apart, apart-cong, keep, keep-bits}
 use Rattle.worksheet.specs.Choice.{Kept, chosen, Way, keeping}
+use Rattle.worksheet.specs.EntryCounts.{orEntries}
 use Rattle.worksheet.specs.GatesSilence.{orReadsLeft, orReadsRight, like-maskedOr}
 use Rattle.masked_comparison.specs.Comparison.{halve, halves}
 use Rattle.masked_comparison.specs.ComparisonLaws.{lowHalf, highHalf, sharing-lowHalf, sharing-highHalf}
@@ -80,7 +82,7 @@ keepingHalves (suc k) c =
     let e : 2 ^ k + 2 ^ k ≡ 2 ^ suc k = omega (arith, two-pow-succ k) in
     rw e at (mixing (2 ^ k) (c .0) (c .1))
 
-halve-stage : (k : ℕ) → k ≤ 6 → Stage (KeptHalves (suc k)) (KeptHalves k) 11 (halve (2 ^ k)) (halve (2 ^ k))
+halve-stage : (k : ℕ) → k ≤ 6 → Stage (KeptHalves (suc k)) (KeptHalves k) orEntries (halve (2 ^ k)) (halve (2 ^ k))
 unfolding halve
 halve-stage k le =
     let h : 2 ^ k ≤ 64 = pow-mono le in
@@ -90,12 +92,13 @@ halve-stage k le =
       fresh = λ d. ((true, true), λ z z′ m. coupled-maskedOr-way h (m .lo .both) (m .hi .both) (keepingHalves k d));
     }
 
-pub halves-stage : (n : ℕ) → n ≤ 6 → Stage (KeptHalves n) (KeptHalves 0) (n * 11) (halves n) (halves n)
+pub halves-stage : (n : ℕ) → n ≤ 6 → Stage (KeptHalves n) (KeptHalves 0) (n * orEntries) (halves n) (halves n)
 unfolding halves
 halves-stage n le = rw (sub-self n, sub-zero n) at (loop-stage {R = λ j. KeptHalves (n - j)} n turn)
   where
     turn : (j : ℕ) → j < n
-        → Stage (KeptHalves (n - j)) (KeptHalves (n - suc j)) 11 (halve (2 ^ (n - 1 - j))) (halve (2 ^ (n - 1 - j)))
+        → Stage (KeptHalves (n - j)) (KeptHalves (n - suc j)) orEntries (halve (2 ^ (n - 1 - j)))
+        (halve (2 ^ (n - 1 - j)))
     turn j h =
         let a : n - j ≡ suc (n - 1 - j) = omega arith in
         let b : n - suc j ≡ n - 1 - j = omega arith in

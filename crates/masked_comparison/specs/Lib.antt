@@ -1,4 +1,6 @@
 pub mod Comparison
+pub mod EntryCounts
+pub mod Lent
 pub mod ComparisonReads
 pub mod ComparisonLaws
 pub mod SelectionLaws

@@ -15,10 +15,11 @@ use Rattle.worksheet.specs.Places.{turns}
 use Rattle.worksheet.specs.Stage.{Stage}
 use Rattle.worksheet.specs.SharingLaws.{share, sharing-bits, apart-xor, sharing-xorShares, share-xorShares}
 use Rattle.worksheet.specs.Choice.{Both, both-bits, Kept, KeptWords, KeptList, Way, keeping, coupled-way}
-use Rattle.worksheet.specs.MaskedAndSilence.{readsLeft, readsRight}
+use Rattle.worksheet.specs.MaskedAndSilence.{readsLeft, readsRight, behind}
 use Rattle.worksheet.specs.Gates.{maskedXor}
 use Rattle.worksheet.specs.GatesSilence.{like-maskedXor, coupled-maskedXor, like-xorAnd, coupled-xorAnd, sameAt-xorAnd}
 use Rattle.masked_comparison.specs.Comparison.{copies, select}
+use Rattle.masked_comparison.specs.EntryCounts.{selectEntries}
 use Rattle.masked_comparison.specs.SelectionLaws.{copies-bits}
 
 -- ---- 64 copies of a bit
@@ -36,25 +37,22 @@ share-copies true b b′ e = ap (λ (t : ℕ). t * (2 ^ 64 - 1)) e
 
 -- ---- one word
 
-like-select : (b x y b′ x′ y′ : Shares) → Like 12 (select b x y) (select b′ x′ y′)
+like-select : (b x y b′ x′ y′ : Shares) → Like selectEntries (select b x y) (select b′ x′ y′)
 unfolding select
 like-select b x y b′ x′ y′ =
     coupled-bind (like-maskedXor x y x′ y′) (λ d d′ r. like-xorAnd 64 y (copies b) d y′ (copies b′) d′)
 
 -- the share of the bit that entry i reads, or share 0 where it reads none, and the share of the words
-abbrev pub bitRead : ℕ → Bool
-bitRead zero = false
-bitRead (suc zero) = false
-bitRead (suc (suc i)) = readsLeft i
+abbrev bitRead : ℕ → Bool
+bitRead = behind false (behind false readsLeft)
 
-abbrev pub wordRead : ℕ → Bool
-wordRead zero = false
-wordRead (suc zero) = true
-wordRead (suc (suc i)) = readsRight i
+abbrev wordRead : ℕ → Bool
+wordRead = behind false (behind true readsRight)
 
 module _ {b x y b′ x′ y′ : Shares} (rb : Both 1 b b′) (rx : Both 64 x x′) (ry : Both 64 y y′) where
   -- the result is fresh
-  pub coupled-select : {S : Shares → Shares → Type 0} → Way 64 S → Coupled S 12 (select b x y) (select b′ x′ y′)
+  coupled-select : {S : Shares → Shares → Type 0} → Way 64 S
+      → Coupled S selectEntries (select b x y) (select b′ x′ y′)
   unfolding select
   coupled-select s =
       let k = both-copies rb in
@@ -64,7 +62,7 @@ module _ {b x y b′ x′ y′ : Shares} (rb : Both 1 b b′) (rx : Both 64 x x�
       (xor-bits (sharing-bits (ry .right)) (and-bits (sharing-bits (k .right)) (sharing-bits (r .right))))
       (λ e w. coupled-xorAnd (omega arith) (ry .left) (k .left) (r .left) (ry .right) (k .right) (r .right) w))
 
-  pub sameAt-select : (i : ℕ) → i < 12 → share (bitRead i) b ≡ share (bitRead i) b′
+  sameAt-select : (i : ℕ) → i < selectEntries → share (bitRead i) b ≡ share (bitRead i) b′
       → share (wordRead i) x ≡ share (wordRead i) x′
       → share (wordRead i) y ≡ share (wordRead i) y′ → SameAt i (select b x y) (select b′ x′ y′)
   unfolding select maskedXor entry _>>=_
@@ -97,12 +95,12 @@ module _ (n : ℕ) where
   abbrev Entry : ℕ → Type 0
   Entry k = (c : Bool × Bool) × ((a a′ : Operands) → KeptOperands n c a a′ → SameAt k (selects a) (selects a′))
 
-  pub selects-stage : Stage (KeptOperands n) (KeptList n) (n * 12) selects selects
+  pub selects-stage : Stage (KeptOperands n) (KeptList n) (n * selectEntries) selects selects
   selects-stage =
       record {
         like = λ a a′. like-times n (λ j h. like-select _ _ _ _ _ _);
         entry =
-            turns Entry n 12 (λ j i h g. (
+            turns Entry n selectEntries (λ j i h g. (
               (bitRead i, wordRead i),
               λ a a′ r.
                   let x = r .left .at j h in

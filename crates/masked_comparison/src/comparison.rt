@@ -4,8 +4,10 @@ ghost use mathlib.Core.Path.{_≡_};
 ghost use Prim.Native.Nat.{ℕ, _+_, _-_, _^_, _<_, _≤_};
 ghost use lib.ListN.{getD, length};
 ghost use Rattle.masked_comparison.specs.Comparison;
-ghost use Rattle.masked_comparison.specs.Comparison.{addPublic, foldOr, allZero};
-ghost use Rattle.worksheet.specs.SharedList.{sharedList, sharedAt, zip};
+ghost use Rattle.masked_comparison.specs.Comparison.{addPublic, foldOr, allZero, allZeroWords};
+ghost use Rattle.masked_comparison.specs.Lent.{FoldLent};
+ghost use Rattle.worksheet.specs.SharedList.{sharedList, sharedAt};
+ghost use Rattle.worksheet.specs.Zip.{zip};
 ghost use Rattle.words.specs.Word;
 ghost use Rattle.words.specs.Word.{low};
 ghost use Rattle.worksheet.specs.Prog.{word};
@@ -36,7 +38,7 @@ pub fn add_public(rec: Recorder, c: &[u64], w0: &mut [u64]) -> Recorder
 
 // All words are folded into the first by Or.
 fn fold_or(rec: Recorder, n: usize, w0: &[u64], w1: &[u64], ws: &[u64]) -> EnteredShares
-    requires { ⌜ (n < length (now w0)) × (n < length (now w1)) × (n ≤ length (now ws)) ⌝ }
+    requires { ⌜ FoldLent n n (now w0) (now w1) (now ws) ⌝ }
     ensures { λ r. ⌜
         Draws word n (foldOr n (sharedAt (sharedList (now (w0 .entry)) (now (w1 .entry))))) rec (now (ws .entry))
         (r .value) (r .rec)
@@ -114,10 +116,10 @@ fn halves(rec: Recorder, w: Shares, ws: &[u64]) -> EnteredShares
 
 // Of n + 1 words.
 pub fn all_zero(rec: Recorder, n: usize, w0: &[u64], w1: &[u64], ws: &[u64]) -> EnteredShares
-    requires { ⌜ (n < length (now w0)) × (n < length (now w1)) × (n + 6 ≤ length (now ws)) ⌝ }
+    requires { ⌜ FoldLent n (allZeroWords n) (now w0) (now w1) (now ws) ⌝ }
     ensures { λ r. ⌜
-        Draws word (n + 6) (allZero n (sharedAt (sharedList (now (w0 .entry)) (now (w1 .entry))))) rec (now (ws .entry))
-        (r .value) (r .rec)
+        Draws word (allZeroWords n) (allZero n (sharedAt (sharedList (now (w0 .entry)) (now (w1 .entry)))))
+        rec (now (ws .entry)) (r .value) (r .rec)
         ⌝ }
 {
     let f = fold_or(rec, n, w0, w1, ws);

@@ -1,15 +1,15 @@
 // One of two words in two shares, chosen by a bit in two shares.
 ghost use mathlib.Core.Path.{_≡_};
-ghost use Prim.Native.Nat.{_<_};
 ghost use Rattle.masked_comparison.specs.Comparison;
 ghost use Rattle.worksheet.specs.Ran.{MakesWithLow};
+ghost use Rattle.worksheet.specs.BitShares.{BitShares};
 use worksheet::EnteredShares;
 use worksheet::Recorder;
 use worksheet::Shares;
 
 // 64 copies of each share of a bit.
 fn copies(b: Shares) -> Shares
-    requires { ⌜ (b .s0 < 2) × (b .s1 < 2) ⌝ }
+    requires { ⌜ BitShares b ⌝ }
     ensures { λ r. ⌜ r ≡ Comparison.copies b ⌝ }
 {
     Shares {
@@ -20,7 +20,7 @@ fn copies(b: Shares) -> Shares
 
 // x where the bit is 1, else y.
 pub fn select(rec: Recorder, b: Shares, x: Shares, y: Shares, r: u64) -> EnteredShares
-    requires { ⌜ (b .s0 < 2) × (b .s1 < 2) ⌝ }
+    requires { ⌜ BitShares b ⌝ }
     ensures { λ o. ⌜ MakesWithLow 64 (Comparison.select b x y) r rec (o .value) (o .rec) ⌝ }
 {
     let d = worksheet::masked_xor(rec, x, y);

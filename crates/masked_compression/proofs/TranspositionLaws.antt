@@ -11,13 +11,15 @@ use lib.Bits.{differ, shifted-even}
 use lib.Dec.{T, eqb, eqb→eq, ltb, ltb→lt}
 use lib.ListN.{getD}
 use lib.Pow.{pow-add, pow-pos, shl-shr, shr-le}
-use Rattle.words.specs.Word.{Bits, xor, and, low}
+use Rattle.words.specs.Word.{xor, low}
+use Rattle.words.specs.Bits.{Bits}
 use Rattle.words.specs.WordLaws.{xor-bits, and-bits, bits-mono, low-bits}
 use Rattle.words.specs.Digit.{digit}
 use Rattle.words.specs.DigitLaws.{digit-lt, digit-div, digit-mod, digit-high, digit-xor, digit-and, ext-bits}
 use Rattle.words.specs.Plane.{plane}
 use Rattle.words.specs.PlaneLaws.{plane-bits, digit-plane}
-use Rattle.words.specs.Tab.{tab, tab-cong, getD-tab}
+use Rattle.words.specs.Tab.{tab}
+use Rattle.words.specs.TabLaws.{tab-cong, getD-tab}
 use Rattle.words.specs.Table.{every}
 use Rattle.words.specs.TableLaws.{every-at}
 use Rattle.masked_compression.specs.Transposition.{pick, packed, differences, lower, upper, stepped, transposed}
@@ -207,25 +209,23 @@ module _ {s m : ℕ} (c : Mask s m) (w : ℕ → ℕ) where
 
 -- ---- five steps
 
-mask16 : Mask 16 281470681808895
-unfolding digit
-mask16 = mask 16 281470681808895 (omega arith) tt tt tt tt
+record Masks : Type 0 where
+  pub by16 : Mask 16 281470681808895
+  pub by8 : Mask 8 71777214294589695
+  pub by4 : Mask 4 1085102592571150095
+  pub by2 : Mask 2 3689348814741910323
+  pub by1 : Mask 1 6148914691236517205
 
-mask8 : Mask 8 71777214294589695
+masks : Masks
 unfolding digit
-mask8 = mask 8 71777214294589695 (omega arith) tt tt tt tt
-
-mask4 : Mask 4 1085102592571150095
-unfolding digit
-mask4 = mask 4 1085102592571150095 (omega arith) tt tt tt tt
-
-mask2 : Mask 2 3689348814741910323
-unfolding digit
-mask2 = mask 2 3689348814741910323 (omega arith) tt tt tt tt
-
-mask1 : Mask 1 6148914691236517205
-unfolding digit
-mask1 = mask 1 6148914691236517205 (omega arith) tt tt tt tt
+masks =
+    record {
+      by16 = mask _ _ (omega arith) tt tt tt tt;
+      by8 = mask _ _ (omega arith) tt tt tt tt;
+      by4 = mask _ _ (omega arith) tt tt tt tt;
+      by2 = mask _ _ (omega arith) tt tt tt tt;
+      by1 = mask _ _ (omega arith) tt tt tt tt;
+    }
 
 -- where bit k of row r was before step s
 abbrev rowBefore : ℕ → ℕ → ℕ → ℕ
@@ -269,16 +269,16 @@ digit-transposed v r k g h =
     let k2 = bitBefore 2 r1 k1 in
     let r3 = rowBefore 4 r2 k2 in
     let k3 = bitBefore 4 r2 k2 in
-    let h1 = mask1 .inside r k h in
-    let h2 = mask2 .inside r1 k1 h1 in
-    let h3 = mask4 .inside r2 k2 h2 in
-    let h4 = mask8 .inside r3 k3 h3 in
-    let h5 = mask16 .inside (rowBefore 8 r3 k3) (bitBefore 8 r3 k3) h4 in
-    digit-stepped mask1 _ r k h
-    ∙ digit-stepped mask2 _ _ _ h1
-    ∙ digit-stepped mask4 _ _ _ h2
-    ∙ digit-stepped mask8 _ _ _ h3
-    ∙ digit-stepped mask16 _ _ _ h4
+    let h1 = masks .by1 .inside r k h in
+    let h2 = masks .by2 .inside r1 k1 h1 in
+    let h3 = masks .by4 .inside r2 k2 h2 in
+    let h4 = masks .by8 .inside r3 k3 h3 in
+    let h5 = masks .by16 .inside (rowBefore 8 r3 k3) (bitBefore 8 r3 k3) h4 in
+    digit-stepped (masks .by1) _ r k h
+    ∙ digit-stepped (masks .by2) _ _ _ h1
+    ∙ digit-stepped (masks .by4) _ _ _ h2
+    ∙ digit-stepped (masks .by8) _ _ _ h3
+    ∙ digit-stepped (masks .by16) _ _ _ h4
     ∙ digit-packed v _ _ h5
     ∙ ap₂ (λ (i j : ℕ). digit (j % 32) (v (i + 32 * (j / 32)))) (back-row r k g h) (back-bit r k g h)
     ∙ ap₂ (λ (i j : ℕ). digit i (v j)) (split-bit r k g) (split-number r k g)
@@ -286,8 +286,9 @@ digit-transposed v r k g h =
 transposed-bits : (v : ℕ → ℕ) (r : ℕ) → Bits 64 (transposed v r)
 unfolding transposed
 transposed-bits v =
-    stepped-bits mask1 _
-    (stepped-bits mask2 _ (stepped-bits mask4 _ (stepped-bits mask8 _ (stepped-bits mask16 _ (packed-bits v)))))
+    stepped-bits (masks .by1) _
+    (stepped-bits (masks .by2) _
+    (stepped-bits (masks .by4) _ (stepped-bits (masks .by8) _ (stepped-bits (masks .by16) _ (packed-bits v)))))
 
 pub transposed-plane : (v : ℕ → ℕ) (r : ℕ) → r < 32 → transposed v r ≡ plane 64 v r
 transposed-plane v r g =

@@ -1,6 +1,6 @@
 -- The adder on bit planes (document 01, The gadgets: Adder). A number is given by its planes, the lowest first.
 use mathlib.Core.List.{List}
-use Prim.Native.Nat.{ℕ, _+_, _-_, _*_}
+use Prim.Native.Nat.{ℕ, _-_, _*_}
 use lib.ListN.{getD}
 use Rattle.words.specs.Word.{xor}
 use Rattle.worksheet.specs.declared.Shares.{Shares}
@@ -52,9 +52,6 @@ adder n x y = do
   c ← carries n a b
   sumPlanes n a b c
 
--- its entries and mask words: one of each for a plane of a or b, 14 and one for a carry, two entries for a sum plane
-unfoldable pub adderEntries : ℕ → ℕ
-adderEntries n = n * 1 + (n * 1 + ((n - 1) * 14 + n * 2))
-
-unfoldable pub adderWords : ℕ → ℕ
-adderWords n = n * 1 + (n * 1 + (n - 1) * 1)
+-- its mask words: one for a plane of a or b, one for a carry
+abbrev pub adderWords : ℕ → ℕ
+adderWords n = 3 * n - 1

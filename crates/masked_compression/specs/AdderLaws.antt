@@ -1,8 +1,9 @@
 -- How much the adder does, and that it adds.
-use Prim.Native.Nat.{ℕ, _+_, _*_, _-_, _<_}
+use Prim.Native.Nat.{ℕ, _+_, _-_, _<_}
 use mathlib.Core.Path.{_≡_, refl, ap}
 use native.Mathlib.Omega.{arith}
-use Rattle.words.specs.Word.{Bits, xor, and}
+use Rattle.words.specs.Word.{xor, and}
+use Rattle.words.specs.Bits.{Bits}
 use Rattle.words.specs.WordLaws.{xor-bits, xor-xor-cancel}
 use Rattle.words.specs.Plane.{plane}
 use Rattle.words.specs.PlaneLaws.{plane-bits}
@@ -17,7 +18,8 @@ use Rattle.worksheet.specs.SharingLaws.{Sharing, sharing-none, sharing-xorShare
 use Rattle.worksheet.specs.MaskedAndLaws.{uses-maskedAnd}
 use Rattle.worksheet.specs.GatesLaws.{uses-maskedXor}
 use Rattle.worksheet.specs.GatesSharing.{sharing-maskedXor, sharing-maskedAnd}
-use Rattle.masked_compression.specs.Adder.{maskPlane, carryStep, sumPlane, at, adder, adderEntries, adderWords}
+use Rattle.masked_compression.specs.Adder.{maskPlane, carryStep, sumPlane, at, adder, adderWords}
+use Rattle.masked_compression.specs.EntryCounts.{adderEntries, carryEntries}
 use Rattle.masked_compression.specs.PlaneSum.{plainCarry, plainSum, plane-add}
 
 -- it reads the n lowest planes only
@@ -32,7 +34,7 @@ uses-maskPlane : (x : ℕ) → Uses 1 1 0 (maskPlane x)
 unfolding maskPlane mask entry _>>=_
 uses-maskPlane x = word-u (λ r. enter-u ret-u)
 
-uses-carryStep : (a b c : Shares) → Uses 14 1 0 (carryStep a b c)
+uses-carryStep : (a b c : Shares) → Uses carryEntries 1 0 (carryStep a b c)
 unfolding carryStep
 uses-carryStep a b c =
     uses-bind (uses-maskedXor a b)
@@ -43,7 +45,7 @@ unfolding sumPlane entry _>>=_
 uses-sumPlane a b c = enter-u (enter-u ret-u)
 
 pub uses-adder : (n : ℕ) (x y : ℕ → ℕ) → Uses (adderEntries n) (adderWords n) 0 (adder n x y)
-unfolding adder adderEntries adderWords
+unfolding adder adderEntries
 uses-adder n x y =
     uses-recount refl (omega arith) (omega arith)
     (uses-bind (uses-times n (λ j. uses-maskPlane (x j))) (λ a.

@@ -6,7 +6,8 @@ use mathlib.Core.Bool.{Bool, false}
 use mathlib.Core.List.{List}
 use native.Mathlib.Omega.{arith}
 use lib.Dec.{ltb}
-use Rattle.words.specs.Word.{Bits, xor}
+use Rattle.words.specs.Word.{xor}
+use Rattle.words.specs.Bits.{Bits}
 use Rattle.words.specs.WordLaws.{xor-bits, zero-bits, xor-zero, zero-xor, xor-cancel}
 use Rattle.worksheet.specs.declared.Shares.{Shares}
 use Rattle.worksheet.specs.Prog.{_>>=_}
@@ -18,7 +19,8 @@ use Rattle.worksheet.specs.Turns.{Turns}
 use Rattle.worksheet.specs.Sharing.{none}
 use Rattle.worksheet.specs.SharingLaws.{Apart, apart-cong, apart-xorShares, sharing-bits, sharing-none}
 use Rattle.worksheet.specs.SharingLaws.{keep, share-keep, keep-bits, keep-xor, keep-same}
-use Rattle.masked_compression.specs.Adder.{carryStep, at, maskPlanes, carries, sumPlanes, adder, adderEntries}
+use Rattle.masked_compression.specs.Adder.{carryStep, at, maskPlanes, carries, sumPlanes, adder}
+use Rattle.masked_compression.specs.EntryCounts.{adderEntries, carryEntries}
 use Rattle.masked_compression.specs.PlaneSum.{plainCarry, plainSum}
 use Rattle.masked_compression.specs.AdderStepsSilence.{like-maskPlane, coupled-maskPlane, silent-maskPlane}
 use Rattle.masked_compression.specs.AdderStepsSilence.{sumRead, carryRead, bits-carry, sumShares}
@@ -29,14 +31,15 @@ module _ (n : ℕ) where
   like-maskPlanes : (x x′ : ℕ → ℕ) → Like (n * 1) (maskPlanes n x) (maskPlanes n x′)
   like-maskPlanes x x′ = like-times n (λ j h. like-maskPlane (x j) (x′ j))
 
-  like-carries : (a b a′ b′ : List Shares) → Like ((n - 1) * 14) (carries n a b) (carries n a′ b′)
+  like-carries : (a b a′ b′ : List Shares) → Like ((n - 1) * carryEntries) (carries n a b) (carries n a′ b′)
   like-carries a b a′ b′ = like-chain (n - 1) none none (λ j h c c′. like-carryStep _ _ c _ _ c′)
 
   like-sumPlanes : (a b c a′ b′ c′ : List Shares) → Like (n * 2) (sumPlanes n a b c) (sumPlanes n a′ b′ c′)
   like-sumPlanes a b c a′ b′ c′ = like-times n (λ j h. like-sumPlane _ _ _ _ _ _)
 
   like-rest : (a b a′ b′ : List Shares)
-      → Like ((n - 1) * 14 + n * 2) (carries n a b >>= sumPlanes n a b) (carries n a′ b′ >>= sumPlanes n a′ b′)
+      → Like ((n - 1) * carryEntries + n * 2) (carries n a b >>= sumPlanes n a b)
+      (carries n a′ b′ >>= sumPlanes n a′ b′)
   like-rest a b a′ b′ = coupled-bind (like-carries a b a′ b′) (λ c c′ t. like-sumPlanes a b c a′ b′ c′)
 
   pub like-adder : (x y x′ y′ : ℕ → ℕ) → Like (adderEntries n) (adder n x y) (adder n x′ y′)
@@ -86,7 +89,7 @@ module _ (n : ℕ) {x y x′ y′ : ℕ → ℕ} (wx : (j : ℕ) → Bits 64 (x 
 
   module _ {d e : ℕ → ℕ} {a b a′ b′ : List Shares} (ra : Masked d x x′ a a′) (rb : Masked e y y′ b b′) where
     keptCarry-step : (q : Bool) (j : ℕ) → j < n - 1 → (c c′ : Shares) → KeptCarry q j c c′
-        → Coupled (KeptCarry q (suc j)) 14 (carryStep (at a j) (at b j) c) (carryStep (at a′ j) (at b′ j) c′)
+        → Coupled (KeptCarry q (suc j)) carryEntries (carryStep (at a j) (at b j) c) (carryStep (at a′ j) (at b′ j) c′)
     unfolding plainCarry
     keptCarry-step q j h c c′ rc =
         let s = ra .at none none j (omega arith) in
@@ -96,7 +99,7 @@ module _ (n : ℕ) {x y x′ y′ : ℕ → ℕ} (wx : (j : ℕ) → Bits 64 (x 
         (bits-carry (wx′ j) (wy′ j) (sharing-bits (rc .right))))
 
     coupled-carries : (q : Bool)
-        → Coupled (Turns (KeptCarry q) (suc (n - 1))) ((n - 1) * 14) (carries n a b) (carries n a′ b′)
+        → Coupled (Turns (KeptCarry q) (suc (n - 1))) ((n - 1) * carryEntries) (carries n a b) (carries n a′ b′)
     coupled-carries q = coupled-chain (n - 1) none none (keptCarry-step q) (keptCarry-none q)
 
     -- the three terms of a sum plane are set apart by the sum of their differences
@@ -138,7 +141,7 @@ module _ (n : ℕ) {x y x′ y′ : ℕ → ℕ} (wx : (j : ℕ) → Bits 64 (x 
       (λ b b′. like-rest n a b a′ b′))
 
   -- entry i of carry step j: share p of a xor b is equal, and share q of a, of the carry and so of their sum
-  sameAt-carry : (j i : ℕ) → j < n - 1 → i < 14 → At (n * 1 + (n * 1 + (j * 14 + i)))
+  sameAt-carry : (j i : ℕ) → j < n - 1 → i < carryEntries → At (n * 1 + (n * 1 + (j * carryEntries + i)))
   unfolding adder
   sameAt-carry j i h g =
       let p = sumRead i in
@@ -158,7 +161,7 @@ module _ (n : ℕ) {x y x′ y′ : ℕ → ℕ} (wx : (j : ℕ) → Bits 64 (x 
       (share-keep q (apart-cong (keep-xor q _ _ _ _) (apart-xorShares s rc)))))
       (λ c c′. like-sumPlanes n a b c a′ b′ c′)))
 
-  sameAt-sum : (j i : ℕ) → j < n → i < 2 → At (n * 1 + (n * 1 + ((n - 1) * 14 + (j * 2 + i))))
+  sameAt-sum : (j i : ℕ) → j < n → i < 2 → At (n * 1 + (n * 1 + ((n - 1) * carryEntries + (j * 2 + i))))
   unfolding adder
   sameAt-sum j i h g =
       let q = ltb 0 i in
@@ -177,6 +180,6 @@ module _ (n : ℕ) {x y x′ y′ : ℕ → ℕ} (wx : (j : ℕ) → Bits 64 (x 
   silent-adder =
       cut At (n * 1) _ sameAt-x
       (cut (λ i. At (n * 1 + i)) (n * 1) _ sameAt-y
-      (cut (λ i. At (n * 1 + (n * 1 + i))) ((n - 1) * 14) (n * 2)
-      (turns (λ i. At (n * 1 + (n * 1 + i))) (n - 1) 14 sameAt-carry)
-      (turns (λ i. At (n * 1 + (n * 1 + ((n - 1) * 14 + i)))) n 2 sameAt-sum)))
+      (cut (λ i. At (n * 1 + (n * 1 + i))) ((n - 1) * carryEntries) (n * 2)
+      (turns (λ i. At (n * 1 + (n * 1 + i))) (n - 1) carryEntries sameAt-carry)
+      (turns (λ i. At (n * 1 + (n * 1 + ((n - 1) * carryEntries + i)))) n 2 sameAt-sum)))

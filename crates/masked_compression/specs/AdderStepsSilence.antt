@@ -5,7 +5,8 @@ use mathlib.Core.Bool.{Bool, true, false}
 use mathlib.Core.List.{[], _∷_}
 use native.Mathlib.Omega.{arith}
 use lib.Dec.{ltb}
-use Rattle.words.specs.Word.{Bits, xor, and}
+use Rattle.words.specs.Word.{xor, and}
+use Rattle.words.specs.Bits.{Bits}
 use Rattle.words.specs.WordLaws.{xor-bits, and-bits, zero-bits, xor-zero, xor-xor-cancel}
 use Rattle.words.specs.Formula.{boole, at, _⊕_}
 use Rattle.worksheet.specs.declared.Shares.{Shares}
@@ -15,10 +16,11 @@ use Rattle.worksheet.specs.Couple.{Like, Silent, SameAt, here, there, under}
 use Rattle.worksheet.specs.Matching.{identity, byXor}
 use Rattle.worksheet.specs.Sharing.{shares}
 use Rattle.worksheet.specs.SharingLaws.{share, Sharing, Apart, apart-xor, xorShares, sharing-xorShares}
-use Rattle.worksheet.specs.MaskedAndSilence.{readsLeft, readsRight}
+use Rattle.worksheet.specs.MaskedAndSilence.{readsLeft, readsRight, behind}
 use Rattle.worksheet.specs.Gates.{maskedXor}
 use Rattle.worksheet.specs.GatesSilence.{like-maskedXor, coupled-maskedXor, like-xorAnd, coupled-xorAnd, sameAt-xorAnd}
 use Rattle.masked_compression.specs.Adder.{maskPlane, carryStep, sumPlane}
+use Rattle.masked_compression.specs.EntryCounts.{carryEntries}
 
 -- ---- a plane takes shares
 
@@ -56,7 +58,7 @@ module _ {x x′ : ℕ} (w : Bits 64 x) (w′ : Bits 64 x′) where
 
 -- ---- the next carry
 
-pub like-carryStep : (a b c a′ b′ c′ : Shares) → Like 14 (carryStep a b c) (carryStep a′ b′ c′)
+pub like-carryStep : (a b c a′ b′ c′ : Shares) → Like carryEntries (carryStep a b c) (carryStep a′ b′ c′)
 unfolding carryStep
 like-carryStep a b c a′ b′ c′ =
     coupled-bind (like-maskedXor a b a′ b′) (λ x x′ r.
@@ -64,24 +66,16 @@ like-carryStep a b c a′ b′ c′ =
 
 -- the share of a xor b that entry i reads, and the share of a xor carry; share 0 where it reads none
 abbrev pub sumRead : ℕ → Bool
-sumRead zero = false
-sumRead (suc zero) = true
-sumRead (suc (suc zero)) = false
-sumRead (suc (suc (suc zero))) = false
-sumRead (suc (suc (suc (suc i)))) = readsLeft i
+sumRead = behind false (behind true (behind false (behind false readsLeft)))
 
 abbrev pub carryRead : ℕ → Bool
-carryRead zero = false
-carryRead (suc zero) = false
-carryRead (suc (suc zero)) = false
-carryRead (suc (suc (suc zero))) = true
-carryRead (suc (suc (suc (suc i)))) = readsRight i
+carryRead = behind false (behind false (behind false (behind true readsRight)))
 
 module _ {A B C A′ B′ C′ : ℕ} {a b c a′ b′ c′ : Shares} (sa : Sharing 64 A a) (sb : Sharing 64 B b)
     (sc : Sharing 64 C c)
     (sa′ : Sharing 64 A′ a′) (sb′ : Sharing 64 B′ b′) (sc′ : Sharing 64 C′ c′) where
   pub coupled-carryStep : {d : ℕ} → Bits 64 d
-      → Coupled (Apart 64 d (xor A (and (xor A B) (xor A C))) (xor A′ (and (xor A′ B′) (xor A′ C′)))) 14
+      → Coupled (Apart 64 d (xor A (and (xor A B) (xor A C))) (xor A′ (and (xor A′ B′) (xor A′ C′)))) carryEntries
       (carryStep a b c)
       (carryStep a′ b′ c′)
   unfolding carryStep
@@ -90,7 +84,8 @@ module _ {A B C A′ B′ C′ : ℕ} {a b c a′ b′ c′ : Shares} (sa : Shar
       coupled-bind (coupled-maskedXor (apart-xor sa sa′) (apart-xor sc sc′)) (λ y y′ s.
       coupled-xorAnd (omega arith) sa (r .left) (s .left) sa′ (r .right) (s .right) w))
 
-  pub sameAt-carryStep : (i : ℕ) → i < 14 → share (sumRead i) (xorShares a b) ≡ share (sumRead i) (xorShares a′ b′)
+  pub sameAt-carryStep : (i : ℕ) → i < carryEntries
+      → share (sumRead i) (xorShares a b) ≡ share (sumRead i) (xorShares a′ b′)
       → share (carryRead i) (xorShares a c) ≡ share (carryRead i) (xorShares a′ c′)
       → SameAt i (carryStep a b c) (carryStep a′ b′ c′)
   unfolding carryStep maskedXor entry _>>=_

@@ -6,7 +6,7 @@ use Rattle.words.specs.Plane.{plane}
 use Rattle.words.specs.Residue.{q}
 use Rattle.worksheet.specs.declared.Shares.{Shares}
 use Rattle.worksheet.specs.Prog.{Prog, ret, _>>=_, entry, times}
-use Rattle.masked_compression.specs.Adder.{adder, adderEntries, adderWords}
+use Rattle.masked_compression.specs.Adder.{adder, adderWords}
 
 -- floor(2^(d+13) x / q) plus h, modulo 2^(d+13): fixed point with 13 fraction bits
 unfoldable pub fixedPoint : ℕ → ℕ → ℕ → ℕ
@@ -25,9 +25,6 @@ maskedCompress d x = do
   s ← adder (d + 13) (plane 64 (λ i. getD a i 0)) (plane 64 (λ i. getD b i 0))
   ret (drop 13 s)
 
--- its entries and mask words
-unfoldable pub compressEntries : ℕ → ℕ
-compressEntries d = 64 * 1 + (64 * 1 + adderEntries (d + 13))
-
-unfoldable pub compressWords : ℕ → ℕ
+-- its mask words
+abbrev pub compressWords : ℕ → ℕ
 compressWords d = adderWords (d + 13)

@@ -18,7 +18,8 @@ use Rattle.worksheet.specs.Turns.{Each, each-drop}
 use Rattle.worksheet.specs.Gives.{Gives, ret-g, enter-g, gives-bind, gives-times}
 use Rattle.worksheet.specs.SharingLaws.{Sharing}
 use Rattle.masked_compression.specs.Compression.{fixedPoint, fixedPoints, maskedCompress}
-use Rattle.masked_compression.specs.Compression.{compressEntries, compressWords}
+use Rattle.masked_compression.specs.Compression.{compressWords}
+use Rattle.masked_compression.specs.EntryCounts.{compressEntries}
 use Rattle.masked_compression.specs.AdderLaws.{uses-adder, gives-adder}
 
 uses-fixedPoints : (d h : ℕ) (x : ℕ → ℕ) → Uses 64 0 0 (fixedPoints d h x)
@@ -26,7 +27,7 @@ unfolding entry
 uses-fixedPoints d h x = uses-times 64 (λ i. enter-u ret-u)
 
 pub uses-maskedCompress : (d : ℕ) (x : ℕ → Shares) → Uses (compressEntries d) (compressWords d) 0 (maskedCompress d x)
-unfolding maskedCompress compressEntries compressWords
+unfolding maskedCompress compressEntries
 uses-maskedCompress d x =
     uses-recount refl (omega arith) refl
     (uses-bind (uses-fixedPoints d 0 (λ i. x i .s0)) (λ a.

@@ -6,7 +6,7 @@ use mathlib.Core.Bool.{Bool, true, false}
 use mathlib.Core.List.{List}
 use native.Mathlib.Omega.{arith}
 use lib.ListN.{drop}
-use Rattle.words.specs.Word.{Bits}
+use Rattle.words.specs.Bits.{Bits}
 use Rattle.words.specs.Plane.{plane}
 use Rattle.words.specs.PlaneLaws.{plane-bits}
 use Rattle.worksheet.specs.declared.Shares.{Shares}
@@ -22,8 +22,9 @@ use Rattle.worksheet.specs.Choice.{Kept, KeptList, chosen, SameShares, SameShar
 use Rattle.worksheet.specs.PassLaws.{like-entries, silent-entries}
 use Rattle.masked_compression.specs.PlaneSum.{plainSum, plane-add}
 use Rattle.masked_compression.specs.AdderSilence.{like-adder, coupled-adder, silent-adder}
-use Rattle.masked_compression.specs.Adder.{adder, adderEntries}
-use Rattle.masked_compression.specs.Compression.{fixedPoint, maskedCompress, compressEntries}
+use Rattle.masked_compression.specs.Adder.{adder}
+use Rattle.masked_compression.specs.EntryCounts.{adderEntries, compressEntries}
+use Rattle.masked_compression.specs.Compression.{fixedPoint, maskedCompress}
 
 plainSum-bits : (v w : ℕ → ℕ) (j : ℕ) → Bits 64 (plainSum (plane 64 v) (plane 64 w) j)
 plainSum-bits v w j = rw (plane-add 64 v w j) (plane-bits 64 (λ i. v i + w i) j)
@@ -63,7 +64,7 @@ module _ (d : ℕ) where
   coupled-sums x x′ s =
       coupled-bind (like-entries 64 _ _) (λ a a′ t. coupled-bind (like-entries 64 _ _) (λ b b′ u. s _ _ _ _))
 
-  pub like-maskedCompress : (x x′ : ℕ → Shares) → Like (compressEntries d) (maskedCompress d x) (maskedCompress d x′)
+  like-maskedCompress : (x x′ : ℕ → Shares) → Like (compressEntries d) (maskedCompress d x) (maskedCompress d x′)
   like-maskedCompress x x′ = coupled-sums x x′ (like-topPlanes d)
 
   pub coupled-maskedCompress : (c : ℕ → Bool) (x x′ : ℕ → Shares)
@@ -74,7 +75,7 @@ module _ (d : ℕ) where
   Entry i =
       (q : Bool) × ((x x′ : ℕ → Shares) → SameShares 64 q x x′ → SameAt i (maskedCompress d x) (maskedCompress d x′))
 
-  pub maskedCompress-stage : Stage (SameShares 64) (KeptList d) (compressEntries d)
+  maskedCompress-stage : Stage (SameShares 64) (KeptList d) (compressEntries d)
       (maskedCompress d) (maskedCompress d)
   unfolding maskedCompress compressEntries
   maskedCompress-stage =

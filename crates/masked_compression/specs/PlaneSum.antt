@@ -6,7 +6,8 @@ use native.Mathlib.Omega.{arith}
 use lib.Bits.{differ}
 use lib.Dec.{eqb, eqb→eq}
 use lib.Pow.{shr-shr}
-use Rattle.words.specs.Word.{Bits, xor, and}
+use Rattle.words.specs.Word.{xor, and}
+use Rattle.words.specs.Bits.{Bits}
 use Rattle.words.specs.WordLaws.{xor-bits, and-bits, zero-bits}
 use Rattle.words.specs.Digit.{digit}
 use Rattle.words.specs.DigitLaws.{digit-lt, digit-zero, digit-xor, digit-and, ext-bits}

@@ -1,9 +1,11 @@
 // The adder on the bit planes of 64 numbers at once, the lowest plane first.
-ghost use Prim.Native.Nat.{_+_, _*_, _-_, _<_, _≤_};
+ghost use Prim.Native.Nat.{_+_, _-_, _≤_};
 ghost use lib.ListN.{getD, length};
 ghost use Rattle.masked_compression.specs.Adder;
-ghost use Rattle.masked_compression.specs.Adder.{maskPlanes, carryStep, carries, sumPlanes};
-ghost use Rattle.worksheet.specs.SharedList.{sharedList, zip};
+ghost use Rattle.masked_compression.specs.Adder.{maskPlanes, carryStep, carries, sumPlanes, adderWords};
+ghost use Rattle.masked_compression.specs.Lent.{AdderLent, CarriesLent};
+ghost use Rattle.worksheet.specs.SharedList.{sharedList};
+ghost use Rattle.worksheet.specs.Zip.{zip};
 ghost use Rattle.words.specs.Word.{xor};
 ghost use Rattle.worksheet.specs.Prog.{word, entry};
 ghost use Rattle.worksheet.specs.Ran.{Makes, MakesWithLow, Draws};
@@ -67,7 +69,7 @@ fn carry_step(rec: Recorder, a: Shares, b: Shares, c: Shares, r: u64) -> Entered
 
 // The carries into the n planes.
 fn carry_planes(rec: Recorder, n: usize, a: Planes, b: Planes, ws: &[u64]) -> EnteredPlanes
-    requires { ⌜ (0 < n) × (n ≤ 24) × (n ≤ length (now ws) + 1) ⌝ }
+    requires { ⌜ CarriesLent n (now ws) ⌝ }
     ensures { λ r. ⌜
         Draws word (n - 1)
         (carries n (zip n (sharedList (a .s0) (a .s1))) (zip n (sharedList (b .s0) (b .s1)))) rec (now (ws .entry))
@@ -129,9 +131,9 @@ fn sum_planes(rec: Recorder, n: usize, a: Planes, b: Planes, c: Planes) -> Enter
 
 // The sum of the numbers whose n planes x and y hold.
 pub fn adder(rec: Recorder, n: usize, x: [u64; 24], y: [u64; 24], ws: &[u64]) -> EnteredPlanes
-    requires { ⌜ (0 < n) × (n ≤ 24) × (3 * n ≤ length (now ws) + 1) ⌝ }
+    requires { ⌜ AdderLent n (now ws) ⌝ }
     ensures { λ r. ⌜
-        Draws word (3 * n - 1) (Adder.adder n (λ j. getD x j 0) (λ j. getD y j 0)) rec (now (ws .entry))
+        Draws word (adderWords n) (Adder.adder n (λ j. getD x j 0) (λ j. getD y j 0)) rec (now (ws .entry))
         (zip n (sharedList (r .value .s0) (r .value .s1))) (r .rec)
         ⌝ }
 {

@@ -1,10 +1,11 @@
 // Masked compression of 64 coefficients.
 ghost use mathlib.Core.Path.{_≡_};
 ghost use Prim.Native.Nat.{_+_, _*_, _-_, _/_, _^_, _<_, _≤_};
-ghost use lib.ListN.{drop, getD, length};
-ghost use Rattle.masked_compression.specs.Compression.{fixedPoint, fixedPoints, maskedCompress};
-ghost use Rattle.worksheet.specs.SharedList.{sharedList, sharedAt, zip};
-ghost use Rattle.words.specs.Bounded.{Below};
+ghost use lib.ListN.{drop, getD};
+ghost use Rattle.masked_compression.specs.Compression.{fixedPoint, fixedPoints, maskedCompress, compressWords};
+ghost use Rattle.masked_compression.specs.Lent.{PointFits, PointsLent, CompressLent};
+ghost use Rattle.worksheet.specs.SharedList.{sharedList, sharedAt};
+ghost use Rattle.worksheet.specs.Zip.{zip};
 ghost use Rattle.words.specs.Residue.{q};
 ghost use Rattle.worksheet.specs.Prog.{word, entry};
 ghost use Rattle.worksheet.specs.Ran.{Makes, Draws};
@@ -36,7 +37,7 @@ fn scale(d: usize) -> u64
 }
 
 fn enter_fixed_point(rec: Recorder, d: usize, h: u64, x: u16) -> Entered
-    requires { ⌜ (d ≤ 11) × (h ≤ 4096) × (x < q) ⌝ }
+    requires { ⌜ PointFits d h × (x < q) ⌝ }
     ensures { λ r. ⌜ Makes (entry (fixedPoint d h x)) rec (r .value) (r .rec) ⌝ }
 {
     let v = (fixed_point(d, x) + h) & (scale(d) - 1);
@@ -48,7 +49,7 @@ fn enter_fixed_point(rec: Recorder, d: usize, h: u64, x: u16) -> Entered
 
 // The fixed point of one share of 64 coefficients.
 fn fixed_points(rec: Recorder, d: usize, h: u64, x: &[u16]) -> EnteredNumbers
-    requires { ⌜ (d ≤ 11) × (h ≤ 4096) × (length (now x) ≡ 64) × Below q (now x) ⌝ }
+    requires { ⌜ PointsLent d h (now x) ⌝ }
     ensures { λ r. ⌜ Makes (fixedPoints d h (λ i. getD (now (x .entry)) i 0)) rec (r .value) (r .rec) ⌝ }
 {
     let mut rec = rec;
@@ -63,10 +64,9 @@ fn fixed_points(rec: Recorder, d: usize, h: u64, x: &[u16]) -> EnteredNumbers
 
 // The result's d planes stand from place 13 on.
 pub fn masked_compress(rec: Recorder, d: usize, x0: &[u16], x1: &[u16], ws: &[u64]) -> EnteredPlanes
-    requires { ⌜ (d ≤ 11) × (3 * (d + 13) ≤ length (now ws) + 1) ⌝ }
-    requires { ⌜ (length (now x0) ≡ 64) × (length (now x1) ≡ 64) × Below q (now x0) × Below q (now x1) ⌝ }
+    requires { ⌜ CompressLent d (now x0) (now x1) (now ws) ⌝ }
     ensures { λ r. ⌜
-        Draws word (3 * (d + 13) - 1)
+        Draws word (compressWords d)
         (maskedCompress d (sharedAt (sharedList (now (x0 .entry)) (now (x1 .entry))))) rec (now (ws .entry))
         (drop 13 (zip (d + 13) (sharedList (r .value .s0) (r .value .s1)))) (r .rec)
         ⌝ }

@@ -7,6 +7,7 @@ ghost use Rattle.words.specs.Fill.{Filled};
 ghost use Rattle.words.specs.Plane.{plane};
 ghost use Rattle.words.specs.Tab.{tab};
 ghost use Rattle.masked_compression.specs.Transposition.{packed, lower, upper, stepped};
+ghost use Rattle.masked_compression.specs.Lent.{StepLent, PlanesLent};
 
 struct Rows {
     low: u64,
@@ -36,7 +37,7 @@ fn exchange(x: u64, y: u64, s: usize, m: u64) -> Rows
 
 // Rows i and i + 16 become rows 2 i and 2 i + 1.
 fn step(w: &[u64], s: usize, m: u64, o: &mut [u64])
-    requires { ⌜ (s < 64) × (length (now w) ≡ 32) × (length (now o) ≡ 32) ⌝ }
+    requires { ⌜ StepLent s (now w) (now o) ⌝ }
     ensures { λ _. ⌜ now (o .exit) ≡ tab 32 (stepped s m (λ i. getD (now (w .entry)) i 0)) ⌝ }
 {
     for i in 0..16 {
@@ -94,7 +95,7 @@ fn widened(f: &[u16]) -> [u64; 64]
 
 // The d lowest planes of 64 coefficients.
 pub fn coefficient_planes(f: &[u16], d: usize, out: &mut [u64])
-    requires { ⌜ (length (now f) ≡ 64) × (length (now out) ≡ d) × (d ≤ 24) ⌝ }
+    requires { ⌜ PlanesLent (now f) d (now out) ⌝ }
     ensures { λ _. ⌜ now (out .exit) ≡ tab d (plane 64 (λ i. getD (now (f .entry)) i 0)) ⌝ }
 {
     let v = widened(f);

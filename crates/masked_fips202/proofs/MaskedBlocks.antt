@@ -1,13 +1,14 @@
 -- The blocks of a message in two shares: those that it fills, and its rest, padded in share 0, zero-filled in share 1.
-use mathlib.Core.Path.{_≡_, refl, sym, ap, ap₂, subst, fun-ext}
+use mathlib.Core.Path.{_≡_, sym, ap, subst, fun-ext}
 use mathlib.Core.List.{List, _++_}
-use Prim.Native.Nat.{ℕ, zero, suc, _+_, _-_, _*_, _/_, _<_, _≤_}
+use Prim.Native.Nat.{ℕ, suc, _+_, _-_, _*_, _/_, _<_, _≤_}
 use native.Mathlib.Nat.{suc-mul, mul-le-mul-right, div-mul-le-self, lt-div-mul-add}
 use native.Mathlib.Omega.{arith}
 use lib.ListN.{length, take, drop, replicate}
 use Rattle.worksheet.specs.declared.Recorder.{Recorder}
 use Rattle.worksheet.specs.declared.Shares.{Shares}
-use Rattle.worksheet.specs.Prog.{Prog, _>>=_, loop}
+use Rattle.worksheet.specs.Prog.{Prog, loop}
+use Rattle.worksheet.specs.ProgLaws.{loop-cong}
 use Rattle.worksheet.specs.Ran.{Ran, bind}
 use Rattle.worksheet.specs.RanLoops.{loop-turn}
 use Rattle.worksheet.specs.Sharing.{shares}
@@ -15,7 +16,7 @@ use Rattle.worksheet.specs.SharedList.{SharedList}
 use Rattle.fips202.specs.Sponge.{padding, padded, laneOf}
 use Rattle.fips202.specs.Lanes.{laneOf-zeros}
 use Rattle.masked_fips202.specs.MaskedSponge.{start, sharedBlock, maskedBlocks, maskedAbsorb}
-use Rattle.masked_fips202.specs.MaskedBytes.{sharedLane, takeIn}
+use Rattle.masked_fips202.specs.MaskedSteps.{sharedLane, takeIn}
 use Rattle.fips202.specs.Blocks.{block-padded, last-padded}
 
 -- a whole block lies within n bytes
@@ -27,14 +28,6 @@ block-within rate n i h =
 pub rest-within : (rate n m : ℕ) → 0 < rate → m ≡ (n - 1) / rate → (m * rate ≤ n) × (n ≤ m * rate + rate)
 rest-within rate n m h e =
     rw e (omega (arith, div-mul-le-self (n - 1) rate), omega (arith, lt-div-mul-add {a = n - 1} {b = rate} h))
-
-loop-cong : {S : Type 0} (n : ℕ) {f g : ℕ → S → Prog S} (s : S) → ((j : ℕ) → j < n → (t : S) → f j t ≡ g j t)
-    → loop n f s ≡ loop n g s
-unfolding loop
-loop-cong zero s e = refl
-loop-cong {S} (suc n) s e =
-    ap₂ (λ (p : Prog S) (k : S → Prog S). p >>= k) (loop-cong n s (λ j h. e j (omega arith)))
-    (fun-ext (e n (omega arith)))
 
 -- a message in two shares, the blocks of its first share padded
 module _ (rate suffix : ℕ) (in0 in1 : List ℕ) (h : 0 < rate) where

@@ -8,17 +8,20 @@ use native.Mathlib.Numerals.{add-one}
 use native.Mathlib.Omega.{arith}
 use borrow.Author.Tests.{lt-ltb, le-ltb}
 use lib.Dec.{ltb}
-use lib.ListN.{length, getD, set, drop, length-set}
+use lib.ListN.{length, getD, set, drop}
 use lib.Seq.{getD-set-other}
-use Rattle.words.specs.Tab.{tab, tab-of}
+use Rattle.words.specs.Tab.{tab}
+use Rattle.words.specs.TabLaws.{tab-of}
 use Rattle.worksheet.specs.declared.Recorder.{Recorder}
 use Rattle.worksheet.specs.declared.Shares.{Shares}
 use Rattle.worksheet.specs.Prog.{word, mask, times}
 use Rattle.worksheet.specs.Ran.{Ran, Makes, Draws, bind, over, draws-word, next-word}
 use Rattle.worksheet.specs.RanLoops.{times-start, times-turn}
 use Rattle.worksheet.specs.Sharing.{none}
-use Rattle.worksheet.specs.SharedList.{SharedList, sharedList, sharedAt, unzip, zip}
-use Rattle.worksheet.specs.SharedListLaws.{getD-zip, zip-set}
+use Rattle.worksheet.specs.SharedList.{SharedList, sharedList, sharedAt, unzip}
+use Rattle.worksheet.specs.Zip.{zip}
+use Rattle.worksheet.specs.SharedListLaws.{getD-zip}
+use Rattle.worksheet.specs.StoredSharings.{StoredSharings, sharings-start, sharings-turn, sharings-end}
 use Rattle.worksheet.specs.Gates.{maskedXor}
 use Rattle.masked_fips202.specs.MaskedSponge.{start, mixLanes}
 
@@ -44,24 +47,16 @@ start-draws e r cs = rw e (bind _ (masks-ran 25) over)
 
 -- the first j of n lanes b are mixed into the state s, whose shares are now l0 and l1
 pub record Mixing (n : ℕ) (b : ℕ → Shares) (s : SharedList) (j : ℕ) (r r′ : Recorder) (l0 l1 : List ℕ) : Type 0 where
-  pub within : j ≤ n
-  pub fits : n ≤ 25
-  pub long0 : length l0 ≡ 25
-  pub long1 : length l1 ≡ 25
-  pub mixed : Makes (times j (λ k. maskedXor (sharedAt s k) (b k))) r (zip j (sharedList l0 l1)) r′
+  pub mixed :
+      StoredSharings (λ m ys t. Makes (times m (λ k. maskedXor (sharedAt s k) (b k))) r ys t) n 25 l0 l1 r′ j
   pub rest0 : (k : ℕ) → j ≤ k → getD l0 k 0 ≡ getD (s .s0) k 0
   pub rest1 : (k : ℕ) → j ≤ k → getD l1 k 0 ≡ getD (s .s1) k 0
 
 pub mixing-start : {n : ℕ} {b : ℕ → Shares} {r : Recorder} {l0 l1 : List ℕ} → n ≤ 25 → length l0 ≡ 25 → length l1 ≡ 25
     → Mixing n b (sharedList l0 l1) 0 r r l0 l1
-unfolding zip tab
 mixing-start h e0 e1 =
     record {
-      within = omega arith;
-      fits = h;
-      long0 = e0;
-      long1 = e1;
-      mixed = λ ws cs. times-start _;
+      mixed = sharings-start h e0 e1 (λ ws cs. times-start _);
       rest0 = λ k g. refl;
       rest1 = λ k g. refl;
     }
@@ -70,15 +65,11 @@ pub mixing-turn : {n : ℕ} {b : ℕ → Shares} {s : SharedList} {j : ℕ} {r r
     → Mixing n b s j r r′ l0 l1 → j < n → w ≡ b j → Makes (maskedXor (sharedAt (sharedList l0 l1) j) w) r′ v r″
     → Mixing n b s (j + 1) r r″ (set l0 j (v .s0)) (set l1 j (v .s1))
 mixing-turn {j = j} {l0 = l0} {l1 = l1} {v = v} a h e m =
-    let f = a .fits in
     record {
-      within = omega arith;
-      fits = f;
-      long0 = length-set l0 j (v .s0) ∙ a .long0;
-      long1 = length-set l1 j (v .s1) ∙ a .long1;
-      mixed = λ ws cs.
-          rw (zip-set l0 l1 j (v .s0) (v .s1) (omega (arith, a .long0)) (omega (arith, a .long1)))
-          (times-turn _ j (a .mixed ws cs) (rw (a .rest0 j (omega arith), a .rest1 j (omega arith), e) at (m ws cs)));
+      mixed =
+          sharings-turn (a .mixed) (v .s0) (v .s1) h (λ ws cs.
+          times-turn _ j (a .mixed .ran ws cs)
+          (rw (a .rest0 j (omega arith), a .rest1 j (omega arith), e) at (m ws cs)));
       rest0 = λ k g. getD-set-other l0 j k (v .s0) 0 (λ e. omega arith) ∙ a .rest0 k (omega arith);
       rest1 = λ k g. getD-set-other l1 j k (v .s1) 0 (λ e. omega arith) ∙ a .rest1 k (omega arith);
     }
@@ -87,21 +78,19 @@ pub mixing-end : {n : ℕ} {b : ℕ → Shares} {s : SharedList} {j : ℕ} {r r�
     → Mixing n b s j r r′ l0 l1 → n ≤ j → Makes (mixLanes n b s) r (sharedList l0 l1) r′
 unfolding mixLanes unzip
 mixing-end {n} {b} {s} {j} {r} {r′} {l0} {l1} a h ws cs =
-    let w = a .within in
-    let e : j ≡ n = omega arith in
     let is : sharedList l0 l1 ≡ unzip 25 now =
-    ap₂ sharedList (tab-of 0 l0 25 (a .long0) (λ k g. lane0 k (decLt k n)))
-    (tab-of 0 l1 25 (a .long1) (λ k g. lane1 k (decLt k n))) in
+    ap₂ sharedList (tab-of 0 l0 25 (a .mixed .long0) (λ k g. lane0 k (decLt k n)))
+    (tab-of 0 l1 25 (a .mixed .long1) (λ k g. lane1 k (decLt k n))) in
     subst (λ (z : SharedList). Ran (mixLanes n b s) r ws cs z r′ ws cs) (sym is)
-    (bind _ (rw e at (a .mixed ws cs)) over)
+    (bind _ (sharings-end (a .mixed) h ws cs) over)
   where
     now : ℕ → Shares
     now k = cond (ltb k n) (getD (zip n (sharedList l0 l1)) k none) (sharedAt s k)
 
     lane0 : (k : ℕ) → Dec (k < n) → getD l0 k 0 ≡ now k .s0
     lane0 k (yes g) = rw (lt-ltb k n g, getD-zip n (sharedList l0 l1) k none g)
-    lane0 k (no g) = rw (le-ltb k n (omega arith)) (a .rest0 k (omega (arith, a .within)))
+    lane0 k (no g) = rw (le-ltb k n (omega arith)) (a .rest0 k (omega (arith, a .mixed .within)))
 
     lane1 : (k : ℕ) → Dec (k < n) → getD l1 k 0 ≡ now k .s1
     lane1 k (yes g) = rw (lt-ltb k n g, getD-zip n (sharedList l0 l1) k none g)
-    lane1 k (no g) = rw (le-ltb k n (omega arith)) (a .rest1 k (omega (arith, a .within)))
+    lane1 k (no g) = rw (le-ltb k n (omega arith)) (a .rest1 k (omega (arith, a .mixed .within)))

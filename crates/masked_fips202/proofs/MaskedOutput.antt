@@ -6,18 +6,19 @@ use native.Mathlib.Nat.{zero-mul, suc-mul, lt-div-mul-add, div-div-eq-div-mul}
 use native.Mathlib.Numerals.{add-one}
 use native.Mathlib.Omega.{arith}
 use lib.ListN.{length, getD, take, drop}
-use Rattle.words.specs.Tab.{tab, getD-tab, tab-cong}
+use Rattle.words.specs.Tab.{tab}
+use Rattle.words.specs.TabLaws.{getD-tab, tab-cong}
 use Rattle.worksheet.specs.declared.Recorder.{Recorder}
 use Rattle.worksheet.specs.Prog.{Prog, loop}
 use Rattle.worksheet.specs.Run.{run}
 use Rattle.worksheet.specs.Ran.{Ran, bind, over}
 use Rattle.worksheet.specs.RanLoops.{loop-start, loop-turn}
 use Rattle.worksheet.specs.SharedList.{SharedList, sharedList, unzip}
-use Rattle.masked_keccak.specs.MaskedKeccak.{maskedKeccakP}
+use Rattle.masked_keccak.specs.MaskedKeccak.{maskedKeccakP, keccakPWords}
 use Rattle.fips202.specs.Sponge.{byteOf}
 use Rattle.fips202.specs.Lanes.{byte-place, block-lt}
-use Rattle.masked_fips202.specs.MaskedSponge.{maskedSqueeze}
-use Rattle.masked_fips202.specs.MaskedBytes.{squeezeBytes}
+use Rattle.masked_fips202.specs.MaskedSponge.{furtherBlocks, maskedSqueeze}
+use Rattle.masked_fips202.specs.MaskedSteps.{squeezeBytes}
 use Rattle.worksheet.specs.RanChain.{stateAfter, chain-ran}
 use Rattle.masked_fips202.proofs.MaskedBlocks.{block-within}
 use Rattle.fips202.proofs.Output.{outputOf, Output, output-start, output-part, output-end}
@@ -35,7 +36,7 @@ output-words rate n s h d =
     let word : ℕ → ℕ = λ i. getD (s (i / (rate / 8))) (i % (rate / 8)) 0 in
     rw (getD-tab ((n + 7) / 8) word (x / 8) 0 (omega arith), p .0, p .1, p .2))
 
-further-words : (rate n : ℕ) → rate % 8 ≡ 0 → ((n + 7) / 8 - 1) / (rate / 8) ≡ (n - 1) / rate
+further-words : (rate n : ℕ) → rate % 8 ≡ 0 → furtherBlocks (rate / 8) ((n + 7) / 8) ≡ furtherBlocks rate n
 further-words rate n d =
     let w : 8 * (rate / 8) ≡ rate = omega arith in
     let v : (n + 7) / 8 - 1 ≡ (n - 1) / 8 = omega arith in
@@ -43,7 +44,7 @@ further-words rate n d =
 
 squeeze-ran : (rate n : ℕ) (s₀ : SharedList) {s : SharedList} {r r′ : Recorder} {ws cs ws′ : List ℕ} → 0 < rate
     → rate % 8 ≡ 0
-    → Ran (loop ((n - 1) / rate) (λ _. maskedKeccakP) s₀) r ws cs s r′ ws′ cs
+    → Ran (loop (furtherBlocks rate n) (λ _. maskedKeccakP) s₀) r ws cs s r′ ws′ cs
     → Ran (squeezeBytes (rate / 8) n s₀) r ws cs
     (sharedList (tab n (outputOf rate (λ q. statesOf s₀ ws cs q .s0)))
     (tab n (outputOf rate (λ q. statesOf s₀ ws cs q .s1)))) r′ ws′ cs
@@ -51,7 +52,7 @@ unfolding squeezeBytes maskedSqueeze unzip
 squeeze-ran rate n s₀ {s} {r} {r′} {ws} {cs} {ws′} h d a =
     let lanes = rate / 8 in
     let m = (n + 7) / 8 in
-    let k = (m - 1) / lanes in
+    let k = furtherBlocks lanes m in
     let f : ℕ → SharedList → Prog SharedList = λ _. maskedKeccakP in
     let st = stateAfter f s₀ r ws cs in
     let b : Ran (loop k f s₀) r ws cs s r′ ws′ cs = rw (further-words rate n d) a in
@@ -81,7 +82,7 @@ Extracted a e out l p = p ≡ tab (length (take (e - a) (drop a out))) (byteOf l
 -- i blocks are given out, and the state is at s
 pub record Blocks (rate n : ℕ) (s₀ : SharedList) (r₀ : Recorder) (ws cs : List ℕ) (i : ℕ) (s : SharedList)
     (r : Recorder) (out0 out1 : List ℕ) : Type 0 where
-  pub ran : Ran (loop i (λ _. maskedKeccakP) s₀) r₀ ws cs s r (drop (600 * i) ws) cs
+  pub ran : Ran (loop i (λ _. maskedKeccakP) s₀) r₀ ws cs s r (drop (keccakPWords * i) ws) cs
   pub given0 : Output rate n (λ q. statesOf s₀ ws cs q .s0) (i * rate) out0
   pub given1 : Output rate n (λ q. statesOf s₀ ws cs q .s1) (i * rate) out1
 
@@ -99,7 +100,7 @@ module _ {rate n : ℕ} {s₀ : SharedList} {r₀ : Recorder} {ws cs : List ℕ}
 -- the same for any strip of coefficients, which is not drawn from
 pub record Squeezing (rate n : ℕ) (s₀ : SharedList) (r₀ : Recorder) (ws : List ℕ) (i : ℕ) (s : SharedList)
     (r : Recorder) (out0 out1 : List ℕ) : Type 0 where
-  pub within : i ≤ (n - 1) / rate
+  pub within : i ≤ furtherBlocks rate n
   pub inside : i * rate ≤ n
   pub long0 : length out0 ≡ n
   pub long1 : length out1 ≡ n
@@ -125,9 +126,10 @@ squeezing-start {rate} e0 e1 =
 module _ {rate n : ℕ} {s₀ : SharedList} {r₀ : Recorder} {ws : List ℕ} {i : ℕ} {s : SharedList} {r : Recorder}
     {out0 out1 : List ℕ}
     (a : Squeezing rate n s₀ r₀ ws i s r out0 out1) where
-  pub squeezing-turn : {t : SharedList} {r′ : Recorder} {p0 p1 : List ℕ} → i < (n - 1) / rate
+  pub squeezing-turn : {t : SharedList} {r′ : Recorder} {p0 p1 : List ℕ} → i < furtherBlocks rate n
       → Extracted (i * rate) (i * rate + rate) out0 (s .s0) p0 → Extracted (i * rate) (i * rate + rate) out1 (s .s1) p1
-      → ((cs : List ℕ) → Ran (maskedKeccakP s) r (drop (600 * i) ws) cs t r′ (drop (600 * i + 600) ws) cs)
+      → ((cs : List ℕ)
+      → Ran (maskedKeccakP s) r (drop (keccakPWords * i) ws) cs t r′ (drop (keccakPWords * i + keccakPWords) ws) cs)
       → Squeezing rate n s₀ r₀ ws (i + 1) t r′ (replaced (i * rate) (i * rate + rate) out0 p0)
       (replaced (i * rate) (i * rate + rate) out1 p1)
   squeezing-turn {t} {r′} {p0} {p1} h e0 e1 p =
@@ -149,7 +151,7 @@ module _ {rate n : ℕ} {s₀ : SharedList} {r₀ : Recorder} {ws : List ℕ} {i
           → Blocks rate n s₀ r₀ ws cs (i + 1) t r′ (replaced (i * rate) (i * rate + rate) out0 p0)
           (replaced (i * rate) (i * rate + rate) out1 p1)
       more cs =
-          let w : 600 * i + 600 ≡ 600 * (i + 1) = omega arith in
+          let w : keccakPWords * i + keccakPWords ≡ keccakPWords * (i + 1) = omega arith in
           let b = a .blocks cs in
           record {
             ran = loop-turn _ _ i (b .ran) (rw w at (p cs));
@@ -157,17 +159,17 @@ module _ {rate n : ℕ} {s₀ : SharedList} {r₀ : Recorder} {ws : List ℕ} {i
             given1 = rw next (part1 b (omega arith) g (omega arith) e1);
           }
 
-  pub squeezing-end : {p0 p1 : List ℕ} → 0 < rate → rate % 8 ≡ 0 → i ≡ (n - 1) / rate
+  pub squeezing-end : {p0 p1 : List ℕ} → 0 < rate → rate % 8 ≡ 0 → i ≡ furtherBlocks rate n
       → Extracted (i * rate) n out0 (s .s0) p0 → Extracted (i * rate) n out1 (s .s1) p1
       → (cs : List ℕ)
       → Ran (squeezeBytes (rate / 8) n s₀) r₀ ws cs
-      (sharedList (replaced (i * rate) n out0 p0) (replaced (i * rate) n out1 p1)) r (drop (600 * i) ws) cs
+      (sharedList (replaced (i * rate) n out0 p0) (replaced (i * rate) n out1 p1)) r (drop (keccakPWords * i) ws) cs
   squeezing-end {p0} {p1} h d e e0 e1 cs =
       let b = a .blocks cs in
       let w = a .inside in
       let v : n - i * rate ≤ rate = rw e (omega (arith, lt-div-mul-add {a = n - 1} {b = rate} h)) in
-      subst (λ (z : SharedList). Ran (squeezeBytes (rate / 8) n s₀) r₀ ws cs z r (drop (600 * i) ws) cs)
+      subst (λ (z : SharedList). Ran (squeezeBytes (rate / 8) n s₀) r₀ ws cs z r (drop (keccakPWords * i) ws) cs)
       (ap₂ sharedList (sym (output-end (part0 b w (omega arith) v e0) (omega arith)))
       (sym (output-end (part1 b w (omega arith) v e1) (omega arith))))
       (squeeze-ran rate n s₀ h d
-      (subst (λ (k : ℕ). Ran (loop k (λ _. maskedKeccakP) s₀) r₀ ws cs s r (drop (600 * i) ws) cs) e (b .ran)))
+      (subst (λ (k : ℕ). Ran (loop k (λ _. maskedKeccakP) s₀) r₀ ws cs s r (drop (keccakPWords * i) ws) cs) e (b .ran)))

@@ -1,17 +1,20 @@
--- What the functions on shares ask of the buffers lent to them, at a rate of whole lanes.
+-- What the functions on shares ask of a rate, a suffix and the buffers lent to them.
 use mathlib.Core.Path.{_≡_}
 use mathlib.Core.List.{List}
-use Prim.Native.Nat.{ℕ, _+_, _-_, _*_, _/_, _%_, _<_, _≤_}
+use Prim.Native.Nat.{ℕ, _*_, _/_, _%_, _<_, _≤_}
 use lib.ListN.{length}
-use Rattle.masked_fips202.specs.MaskedSponge.{permutations}
+use Rattle.fips202.specs.Sizes.{SpongeFits}
+use Rattle.masked_keccak.specs.MaskedKeccak.{keccakPWords}
+use Rattle.masked_fips202.specs.MaskedSponge.{inputBlocks, furtherBlocks, permutations, hashMaskWords}
+use Rattle.masked_fips202.specs.MaskedSponge.{spongeMaskWords}
+use Rattle.masked_fips202.specs.MaskedWords.{sha3-512MaskWords, shake256MaskWords}
 
--- a block in two shares, p and q, and the masks of a permutation
-pub record BlockLent (rate : ℕ) (p q ws : List ℕ) : Type 0 where
+-- a block in two shares, p and q
+pub record BlockLent (rate : ℕ) (p q : List ℕ) : Type 0 where
   pub fits : rate ≤ 200
   pub whole : rate % 8 ≡ 0
   pub block0 : rate ≤ length p
   pub block1 : rate ≤ length q
-  pub masks : 600 ≤ length ws
 
 -- an input in two shares, and the masks for the blocks that it fills
 pub record InputLent (rate : ℕ) (in0 in1 ws : List ℕ) : Type 0 where
@@ -19,7 +22,13 @@ pub record InputLent (rate : ℕ) (in0 in1 ws : List ℕ) : Type 0 where
   pub positive : 0 < rate
   pub fits : rate ≤ 200
   pub whole : rate % 8 ≡ 0
-  pub masks : 600 * (length in0 / rate) ≤ length ws
+  pub masks : keccakPWords * (length in0 / rate) ≤ length ws
+
+-- an input in two shares, and the masks for taking it in
+pub record AbsorbLent (rate suffix : ℕ) (in0 in1 ws : List ℕ) : Type 0 where
+  pub sponge : SpongeFits rate suffix
+  pub inputs : length in0 ≡ length in1
+  pub masks : hashMaskWords (inputBlocks rate (length in0)) ≤ length ws
 
 -- an output in two shares, and the masks for its further blocks
 pub record OutputLent (rate : ℕ) (ws out0 out1 : List ℕ) : Type 0 where
@@ -27,14 +36,32 @@ pub record OutputLent (rate : ℕ) (ws out0 out1 : List ℕ) : Type 0 where
   pub positive : 0 < rate
   pub fits : rate ≤ 200
   pub whole : rate % 8 ≡ 0
-  pub masks : 600 * ((length out0 - 1) / rate) ≤ length ws
+  pub masks : keccakPWords * furtherBlocks rate (length out0) ≤ length ws
 
 -- input, output and exactly the masks of a hash
 pub record HashLent (rate suffix : ℕ) (in0 in1 masks out0 out1 : List ℕ) : Type 0 where
-  pub positive : 0 < rate
-  pub fits : rate ≤ 200
-  pub whole : rate % 8 ≡ 0
-  pub short : suffix < 128
+  pub sponge : SpongeFits rate suffix
   pub inputs : length in0 ≡ length in1
   pub outputs : length out0 ≡ length out1
-  pub drawn : length masks ≡ 25 + 600 * permutations rate (length in0) (length out0)
+  pub drawn : length masks ≡ hashMaskWords (permutations rate (length in0) (length out0))
+
+-- ---- output in words, of one block at most
+
+pub record WordsLent (rate suffix : ℕ) (in0 in1 ws o0 o1 : List ℕ) : Type 0 where
+  pub sponge : SpongeFits rate suffix
+  pub inputs : length in0 ≡ length in1
+  pub outputs : length o0 ≡ length o1
+  pub block : length o0 ≤ rate / 8
+  pub masks : spongeMaskWords rate (length in0) (length o0) ≤ length ws
+
+pub record Sha3-512Lent (in0 in1 ws o0 o1 : List ℕ) : Type 0 where
+  pub inputs : length in0 ≡ length in1
+  pub masks : sha3-512MaskWords (length in0) ≤ length ws
+  pub long0 : length o0 ≡ 8
+  pub long1 : length o1 ≡ 8
+
+pub record Shake256Lent (in0 in1 ws o0 o1 : List ℕ) : Type 0 where
+  pub inputs : length in0 ≡ length in1
+  pub outputs : length o0 ≡ length o1
+  pub block : length o0 ≤ 17
+  pub masks : shake256MaskWords (length in0) (length o0) ≤ length ws

@@ -8,7 +8,8 @@ use native.Mathlib.Omega.{arith}
 use borrow.Author.Tests.{ltb-true, ltb-false}
 use lib.Dec.{ltb}
 use lib.ListN.{getD}
-use Rattle.words.specs.Word.{Bits, xor}
+use Rattle.words.specs.Word.{xor}
+use Rattle.words.specs.Bits.{Bits}
 use Rattle.words.specs.WordLaws.{xor-bits, zero-bits, xor-same, xor-zero, xor-xor-cancel}
 use Rattle.keccak.specs.LinearPass.{LaneBits}
 use Rattle.worksheet.specs.declared.Shares.{Shares}
@@ -26,11 +27,13 @@ use Rattle.worksheet.specs.SharedList.{SharedList, sharedAt, unzip}
 use Rattle.worksheet.specs.SharedListLaws.{sharedAt-unzip}
 use Rattle.worksheet.specs.Choice.{Both, both-bits}
 use Rattle.worksheet.specs.Gates.{maskedXor}
+use Rattle.worksheet.specs.EntryCounts.{xorEntries}
 use Rattle.worksheet.specs.GatesSilence.{like-maskedXor, sameAt-maskedXor}
 use Rattle.masked_keccak.specs.MaskedKeccak.{maskedKeccakP}
 use Rattle.masked_keccak.specs.SharedLanes.{Differences, LanesApart, keepLanes}
 use Rattle.masked_keccak.specs.Silence.{maskedKeccakP-stage}
 use Rattle.masked_fips202.specs.MaskedSponge.{start, mixLanes, maskedBlocks}
+use Rattle.masked_fips202.specs.EntryCounts.{blocksEntries}
 
 -- ---- the start: two states of zeros, set apart by any differences
 
@@ -86,12 +89,13 @@ mixed-lane n b s z e j h = sharedAt-unzip 25 _ j h ∙ go (ltb j n) refl
     go true q = e j (ltb-true j n q)
     go false q = sym (ap₂ shares (xor-zero _) (xor-zero _))
 
-like-mixLanes : (n : ℕ) (b b′ : ℕ → Shares) (s s′ : SharedList) → Like (n * 2) (mixLanes n b s) (mixLanes n b′ s′)
+like-mixLanes : (n : ℕ) (b b′ : ℕ → Shares) (s s′ : SharedList)
+    → Like (n * xorEntries) (mixLanes n b s) (mixLanes n b′ s′)
 unfolding mixLanes
 like-mixLanes n b b′ s s′ = coupled-map _ _ (λ z z′ u. u) (like-times n (λ j h. like-maskedXor _ _ _ _))
 
 coupled-mixLanes : (n : ℕ) (b b′ : ℕ → Shares) (s s′ : SharedList)
-    → Coupled (Mixed n b b′ s s′) (n * 2) (mixLanes n b s) (mixLanes n b′ s′)
+    → Coupled (Mixed n b b′ s s′) (n * xorEntries) (mixLanes n b s) (mixLanes n b′ s′)
 unfolding mixLanes maskedXor entry _>>=_
 coupled-mixLanes n b b′ s s′ =
     coupled-map _ _ (λ z z′ t.
@@ -143,9 +147,9 @@ module _ {n : ℕ} {b b′ : ℕ → Shares} (k : BlockBoth n b b′) where
       (apart-xorShares (r .at j h) (apart-xor (both-lane k j .left) (both-lane k j .right)))
 
   -- entry i of lane j, by the share that it is
-  sameAt-mixLanes : n ≤ 25 → (j i : ℕ) → j < n → i < 2 → {s s′ : SharedList}
+  sameAt-mixLanes : n ≤ 25 → (j i : ℕ) → j < n → i < xorEntries → {s s′ : SharedList}
       → LanesApart (beforeBlock (keepLanes (λ l. ltb 0 i))) s s′
-      → SameAt (j * 2 + i) (mixLanes n b s) (mixLanes n b′ s′)
+      → SameAt (j * xorEntries + i) (mixLanes n b s) (mixLanes n b′ s′)
   unfolding mixLanes keepLanes
   sameAt-mixLanes u j i h g {s} {s′} r =
       sameAt-map _ _ (sameAt-times n j (λ l q. like-maskedXor _ _ _ _) h
@@ -153,12 +157,12 @@ module _ {n : ℕ} {b b′ : ℕ → Shares} (k : BlockBoth n b b′) where
       (rw (← blockLane-of n b j h, ← blockLane-of n b′ j h)
       (share-keep (ltb 0 i) (apart-mixed (keepLanes (λ l. ltb 0 i)) r j (omega arith))))))
 
-  mixLanes-stage : n ≤ 25 → Stage LanesApart LanesApart (n * 2) (mixLanes n b) (mixLanes n b′)
+  mixLanes-stage : n ≤ 25 → Stage LanesApart LanesApart (n * xorEntries) (mixLanes n b) (mixLanes n b′)
   mixLanes-stage u =
       record {
         like = like-mixLanes n b b′;
         entry =
-            turns (EqualAt LanesApart (mixLanes n b) (mixLanes n b′)) n 2 (λ j i h g.
+            turns (EqualAt LanesApart (mixLanes n b) (mixLanes n b′)) n xorEntries (λ j i h g.
             (beforeBlock (keepLanes (λ l. ltb 0 i)), λ s s′ r. sameAt-mixLanes u j i h g r));
         fresh = λ d. (
           beforeBlock d,
@@ -180,14 +184,14 @@ pub record BlocksBoth (lanes n : ℕ) (e : Unit {0}) (b b′ : ℕ → ℕ → S
   pub at : (i : ℕ) → i < n → (j : ℕ) → j < lanes → Both 64 (b i j) (b′ i j)
 
 blocks-stage : {lanes n : ℕ} {e : Unit {0}} {b b′ : ℕ → ℕ → Shares} → lanes ≤ 25 → BlocksBoth lanes n e b b′
-    → Stage LanesApart LanesApart (n * (lanes * 2 + 7824)) (loop n (λ i s. mixLanes lanes (b i) s >>= maskedKeccakP))
+    → Stage LanesApart LanesApart (blocksEntries lanes n) (loop n (λ i s. mixLanes lanes (b i) s >>= maskedKeccakP))
     (loop n (λ i s. mixLanes lanes (b′ i) s >>= maskedKeccakP))
 blocks-stage {n = n} u k =
     loop-stage {R = λ j. LanesApart} n
     (λ i h. andThen (mixLanes-stage (record { at = k .at i h }) u) maskedKeccakP-stage)
 
 pub maskedBlocks-stage : (lanes n : ℕ) → lanes ≤ 25
-    → Stage (BlocksBoth lanes n) LanesApart (n * (lanes * 2 + 7824)) (maskedBlocks lanes n) (maskedBlocks lanes n)
+    → Stage (BlocksBoth lanes n) LanesApart (blocksEntries lanes n) (maskedBlocks lanes n) (maskedBlocks lanes n)
 unfolding maskedBlocks
 maskedBlocks-stage lanes n u =
     record {

@@ -2,7 +2,7 @@
 use mathlib.Core.Path.{_≡_}
 use mathlib.Core.Bool.{not}
 use mathlib.Core.List.{List, [], _∷_}
-use Prim.Native.Nat.{ℕ, _+_, _*_}
+use Prim.Native.Nat.{ℕ}
 use lib.ListN.{length}
 use Rattle.worksheet.specs.Prog.{Prog}
 use Rattle.worksheet.specs.Run.{run}
@@ -10,7 +10,7 @@ use Rattle.worksheet.specs.SharedList.{SharedList}
 use Rattle.refusals.specs.declared.Answer.{Answer}
 use Rattle.refusals.specs.declared.Answer.the-variants.{WrongLength}
 use Rattle.refusals.specs.Refusals.{number, row, answer, after, Lent, lent, sized}
-use Rattle.masked_fips202.specs.MaskedSponge.{permutations}
+use Rattle.masked_fips202.specs.MaskedSponge.{permutations, hashMaskWords}
 use Rattle.masked_fips202.specs.MaskedBytes.{maskedHash}
 
 -- SHA3-512 and SHAKE256 of a message in two shares, the output of d bytes in two shares too
@@ -27,7 +27,7 @@ abbrev pub lengths : ℕ → List ℕ → List ℕ → List ℕ → List ℕ →
 lengths rate in0 in1 masks out0 out1 =
     lent in0 (length in1)
     ∷ lent out0 (length out1)
-    ∷ lent masks (25 + 600 * permutations rate (length in0) (length out0))
+    ∷ lent masks (hashMaskWords (permutations rate (length in0) (length out0)))
     ∷ []
 
 unfoldable pub hashAnswer : ℕ → List ℕ → List ℕ → List ℕ → List ℕ → List ℕ → Answer

@@ -9,7 +9,7 @@ use Rattle.worksheet.specs.Prog.{Prog, word, ret, _>>=_, mask, loop, times, cha
 use Rattle.worksheet.specs.Sharing.{shares, none}
 use Rattle.worksheet.specs.SharedList.{SharedList, sharedList, sharedAt, unzip}
 use Rattle.worksheet.specs.Gates.{maskedXor}
-use Rattle.masked_keccak.specs.MaskedKeccak.{maskedKeccakP}
+use Rattle.masked_keccak.specs.MaskedKeccak.{maskedKeccakP, keccakPWords}
 use Rattle.fips202.specs.Sponge.{padded, laneOf}
 
 -- all 25 lanes of both shares of the zero state take one mask each, the same in both; nothing is entered
@@ -33,27 +33,38 @@ abbrev pub sharedBlock : ℕ → List ℕ → List ℕ → ℕ → ℕ → Share
 sharedBlock rate p0 p1 i j =
     shares (laneOf (take rate (drop (i * rate) p0)) j) (laneOf (take rate (drop (i * rate) p1)) j)
 
+-- the blocks of an input of len bytes with its padding
+abbrev pub inputBlocks : ℕ → ℕ → ℕ
+inputBlocks rate len = len / rate + 1
+
 -- in0 and in1 are the input's two shares, of one length; the padding goes into share 0
 unfoldable pub maskedAbsorb : ℕ → ℕ → List ℕ → List ℕ → Prog SharedList
 maskedAbsorb rate suffix in0 in1 =
-    maskedBlocks (rate / 8) (length in0 / rate + 1) (sharedBlock rate (padded rate suffix in0) in1)
+    maskedBlocks (rate / 8) (inputBlocks rate (length in0)) (sharedBlock rate (padded rate suffix in0) in1)
+
+-- the blocks behind the first of an output of n, words or bytes, of which each block has so many
+abbrev pub furtherBlocks : ℕ → ℕ → ℕ
+furtherBlocks per n = (n - 1) / per
 
 -- n words of output, of which each state gives the first lanes; further states by further permutations
 unfoldable pub maskedSqueeze : ℕ → ℕ → SharedList → Prog SharedList
 maskedSqueeze lanes n s = do
-  t ← chain ((n - 1) / lanes) (λ _. maskedKeccakP) s
+  t ← chain (furtherBlocks lanes n) (λ _. maskedKeccakP) s
   ret (unzip n (λ i. sharedAt (getD t (i / lanes) s) (i % lanes)))
 
 unfoldable pub maskedSponge : ℕ → ℕ → List ℕ → List ℕ → ℕ → Prog SharedList
 maskedSponge rate suffix in0 in1 n = maskedAbsorb rate suffix in0 in1 >>= maskedSqueeze (rate / 8) n
 
--- the entries that it makes and the words that it draws for an input of len bytes and n words of output
-abbrev pub spongeEntries : ℕ → ℕ → ℕ → ℕ
-spongeEntries rate len n = (len / rate + 1) * (rate / 8 * 2 + 7824) + (n - 1) / (rate / 8) * 7824
+-- ---- counts
 
-abbrev pub spongeMasks : ℕ → ℕ → ℕ → ℕ
-spongeMasks rate len n = 25 + (len / rate + 1 + (n - 1) / (rate / 8)) * 600
-
--- the permutations that FIPS 202 runs for an input of n bytes and an output of d
+-- the permutations that FIPS 202 runs for an input of len bytes and an output of d
 abbrev pub permutations : ℕ → ℕ → ℕ → ℕ
-permutations rate n d = n / rate + 1 + (d - 1) / rate
+permutations rate len d = inputBlocks rate len + furtherBlocks rate d
+
+-- the mask words of a hash with n permutations: the start's and theirs
+abbrev pub hashMaskWords : ℕ → ℕ
+hashMaskWords n = 25 + keccakPWords * n
+
+-- the mask words of the sponge for an input of len bytes and n words of output
+abbrev pub spongeMaskWords : ℕ → ℕ → ℕ → ℕ
+spongeMaskWords rate len n = hashMaskWords (inputBlocks rate len + furtherBlocks (rate / 8) n)

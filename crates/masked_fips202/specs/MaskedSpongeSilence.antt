@@ -1,5 +1,5 @@
 -- The sponge on two shares as a stage: for any two inputs, and any choice of the equal share in each word of output.
-use Prim.Native.Nat.{ℕ, zero, suc, _+_, _-_, _*_, _/_, _%_, _<_, _≤_}
+use Prim.Native.Nat.{ℕ, suc, _+_, _-_, _*_, _/_, _%_, _<_, _≤_}
 use mathlib.Core.Path.{_≡_, ap}
 use mathlib.Core.Bool.{Bool}
 use mathlib.Core.List.{List}
@@ -8,7 +8,7 @@ use native.Mathlib.Omega.{arith}
 use lib.ListN.{length, getD, take, drop}
 use Rattle.words.specs.Bounded.{Below}
 use Rattle.words.specs.BoundedLaws.{below-drop, below-take}
-use Rattle.words.specs.Word.{Bits}
+use Rattle.words.specs.Bits.{Bits}
 use Rattle.worksheet.specs.declared.Shares.{Shares}
 use Rattle.worksheet.specs.Prog.{Prog}
 use Rattle.worksheet.specs.Couple.{Any, coupled-map, sameAt-map}
@@ -20,15 +20,16 @@ use Rattle.worksheet.specs.SharedList.{SharedList, sharedAt}
 use Rattle.worksheet.specs.SharedListLaws.{sharedAt-unzip}
 use Rattle.worksheet.specs.Choice.{Kept, KeptShared, both-bits}
 use Rattle.masked_keccak.specs.MaskedKeccak.{maskedKeccakP}
+use Rattle.masked_keccak.specs.EntryCounts.{keccakPEntries}
 use Rattle.masked_keccak.specs.SharedLanes.{Differences, LanesApart, keepLanes, kept-lane, lanes-both}
 use Rattle.masked_keccak.specs.Silence.{maskedKeccakP-stage, coupled-maskedKeccakP}
 use Rattle.fips202.specs.Sponge.{padded, laneOf}
 use Rattle.fips202.specs.Blocks.{below-padded}
 use Rattle.masked_fips202.specs.XorBytes.{laneOf-bits}
 use Rattle.masked_fips202.specs.MaskedSponge.{sharedBlock, maskedAbsorb, maskedSqueeze, maskedSponge}
-use Rattle.masked_fips202.specs.MaskedSponge.{spongeEntries}
-use Rattle.masked_fips202.specs.MaskedWords.{maskedSha3-512Words, sha3-512Entries, maskedShake256Words}
-use Rattle.masked_fips202.specs.MaskedWords.{shake256Entries}
+use Rattle.masked_fips202.specs.MaskedSponge.{inputBlocks, furtherBlocks}
+use Rattle.masked_fips202.specs.EntryCounts.{blocksEntries, spongeEntries, sha3-512Entries, shake256Entries}
+use Rattle.masked_fips202.specs.MaskedWords.{maskedSha3-512Words, maskedShake256Words}
 use Rattle.masked_fips202.specs.MaskedBlocksSilence.{BlocksBoth, maskedBlocks-stage}
 
 -- ---- n words of output
@@ -36,7 +37,7 @@ use Rattle.masked_fips202.specs.MaskedBlocksSilence.{BlocksBoth, maskedB
 -- word i is lane i % lanes of state i / lanes
 module _ (lanes n : ℕ) (l : 0 < lanes) (u : lanes ≤ 25) where
   abbrev permutes : ℕ
-  permutes = (n - 1) / lanes
+  permutes = furtherBlocks lanes n
 
   state-lt : (i : ℕ) → i < n → i / lanes < suc permutes
   state-lt i h =
@@ -49,7 +50,8 @@ module _ (lanes n : ℕ) (l : 0 < lanes) (u : lanes ≤ 25) where
 
   -- each state is fresh, by its own masks
   keeps : (d : ℕ → Differences)
-      → AllKeep (λ k. LanesApart (d k)) permutes 7824 (λ k. maskedKeccakP) (λ k. maskedKeccakP)
+      → AllKeep (λ k. LanesApart (d k)) permutes keccakPEntries (λ k. maskedKeccakP)
+      (λ k. maskedKeccakP)
   keeps d k h t t′ r = coupled-maskedKeccakP t t′ (lanes-both r) (d (suc k))
 
   kept-word : (c : ℕ → Bool) (s s′ : SharedList) {t t′ : List SharedList}
@@ -60,14 +62,14 @@ module _ (lanes n : ℕ) (l : 0 < lanes) (u : lanes ≤ 25) where
       (kept-lane (λ j. c (i / lanes * lanes + j)) (r .at s s′ (i / lanes) (state-lt i h)) (i % lanes)
       (omega (arith, mod-lt i l)))
 
-  pub maskedSqueeze-stage : Stage LanesApart (KeptShared n) (permutes * 7824) (maskedSqueeze lanes n)
+  maskedSqueeze-stage : Stage LanesApart (KeptShared n) (permutes * keccakPEntries) (maskedSqueeze lanes n)
       (maskedSqueeze lanes n)
   unfolding maskedSqueeze
   maskedSqueeze-stage =
       record {
         like = λ s s′. coupled-map _ _ (λ t t′ q. q) (like-chain permutes s s′ (λ k h. maskedKeccakP-stage .like));
         entry =
-            turns (EqualAt LanesApart (maskedSqueeze lanes n) (maskedSqueeze lanes n)) permutes 7824
+            turns (EqualAt LanesApart (maskedSqueeze lanes n) (maskedSqueeze lanes n)) permutes keccakPEntries
             (λ k i h g.
             let x = maskedKeccakP-stage .entry i g in (
               x .0,
@@ -102,7 +104,7 @@ module _ (rate suffix len : ℕ) (h : suffix < 128) (l : 8 ≤ rate) (u : rate �
   blocksOf a = sharedBlock rate (padded rate suffix (a .in0)) (a .in1)
 
   both-blocks : (a b : SharedBytes len) {e : Unit {0}}
-      → BlocksBoth (rate / 8) (len / rate + 1) e (blocksOf a) (blocksOf b)
+      → BlocksBoth (rate / 8) (inputBlocks rate len) e (blocksOf a) (blocksOf b)
   unfolding blocksOf
   both-blocks a b =
       record {
@@ -114,10 +116,11 @@ module _ (rate suffix len : ℕ) (h : suffix < 128) (l : 8 ≤ rate) (u : rate �
       lane : {p : List ℕ} (i j : ℕ) → Below 256 p → Bits 64 (laneOf (take rate (drop (i * rate) p)) j)
       lane i j b = laneOf-bits (below-take rate (below-drop (i * rate) b)) j
 
-  maskedAbsorb-stage : Stage (λ (e : Unit {0}). Any) LanesApart ((len / rate + 1) * (rate / 8 * 2 + 7824)) absorb absorb
+  maskedAbsorb-stage : Stage (λ (e : Unit {0}). Any) LanesApart (blocksEntries (rate / 8) (inputBlocks rate len)) absorb
+      absorb
   unfolding maskedAbsorb blocksOf
   maskedAbsorb-stage =
-      let s = maskedBlocks-stage (rate / 8) (len / rate + 1) (omega arith) in
+      let s = maskedBlocks-stage (rate / 8) (inputBlocks rate len) (omega arith) in
       record {
         like = λ a b. rw (a .long, b .long) (s .like (blocksOf a) (blocksOf b));
         entry = λ i k.
@@ -126,7 +129,7 @@ module _ (rate suffix len : ℕ) (h : suffix < 128) (l : 8 ≤ rate) (u : rate �
       }
 
   -- nothing is asked of the inputs; n words come out
-  pub maskedSponge-stage : (n : ℕ)
+  maskedSponge-stage : (n : ℕ)
       → Stage (λ (e : Unit {0}). Any) (KeptShared n) (spongeEntries rate len n)
       (λ (a : SharedBytes len). maskedSponge rate suffix (a .in0) (a .in1) n)
       (λ (b : SharedBytes len). maskedSponge rate suffix (b .in0) (b .in1) n)

@@ -2,7 +2,7 @@
 use mathlib.Core.Path.{_≡_, refl, sym, ap, ap₂, _∙_}
 use mathlib.Core.Bool.{cond}
 use mathlib.Core.List.{List, []}
-use Prim.Native.Nat.{ℕ, zero, suc, _+_, _-_, _*_, _/_, _%_, _^_, _<_, _≤_}
+use Prim.Native.Nat.{ℕ, suc, _+_, _-_, _*_, _/_, _%_, _^_, _<_, _≤_}
 use borrow.Author.Tests.{lt-ltb, le-ltb}
 use native.Mathlib.Decide.{decLt}
 use native.Mathlib.Nat.{mod-lt, mul-div-cancel, div-mul-le-self, lt-div-mul-add}
@@ -10,11 +10,12 @@ use native.Mathlib.Numerals.{add-one}
 use native.Mathlib.Omega.{arith}
 use lib.Dec.{ltb}
 use lib.ListN.{length, getD, take, drop, replicate, getD-replicate}
-use Rattle.words.specs.Word.{Bits, xor}
+use Rattle.words.specs.Word.{xor}
+use Rattle.words.specs.Bits.{Bits}
 use Rattle.words.specs.WordLaws.{xor-same, xor-zero}
 use Rattle.words.specs.Bounded.{Below}
 use Rattle.words.specs.BoundedLaws.{below-nil, below-take, below-drop}
-use Rattle.words.specs.Tab.{length-tab, getD-tab, tab-cong}
+use Rattle.words.specs.TabLaws.{length-tab, getD-tab, tab-cong}
 use Rattle.words.specs.Iterate.{iterate}
 use Rattle.keccak.specs.KeccakP.{keccak-p}
 use Rattle.worksheet.specs.declared.Shares.{Shares}
@@ -36,7 +37,9 @@ use Rattle.fips202.specs.Words.{spongeWords, sha3-512Words, shake256Words}
 use Rattle.masked_fips202.specs.XorBytes.{xorOf-take, xorOf-drop, xorOf-padded, length-joined, sharing-lane}
 use Rattle.masked_fips202.specs.XorBytes.{byte-xor}
 use Rattle.masked_fips202.specs.MaskedSponge.{start, mixLanes, maskedBlocks, maskedAbsorb, maskedSqueeze}
-use Rattle.masked_fips202.specs.MaskedSponge.{maskedSponge}
+use Rattle.masked_fips202.specs.MaskedSponge.{inputBlocks, furtherBlocks, maskedSponge}
+use Rattle.fips202.specs.Sizes.{SpongeFits}
+use Rattle.masked_fips202.specs.MaskedWordsLaws.{sha3-512-fits, shake256-fits}
 use Rattle.masked_fips202.specs.MaskedBytes.{sharedBytes, maskedHash}
 use Rattle.masked_fips202.specs.MaskedWords.{maskedSha3-512Words, maskedShake256Words}
 use Rattle.masked_fips202.specs.MaskedCalls.{maskedSha3-512, maskedShake256}
@@ -94,10 +97,7 @@ gives-maskedBlocks lanes n p h f g =
 
 -- a message in two shares of one length, to a sponge whose blocks are of whole lanes
 pub record SharedMessage (rate suffix : ℕ) (in0 in1 : List ℕ) : Type 0 where
-  pub positive : 0 < rate
-  pub fits : rate ≤ 200
-  pub whole : rate % 8 ≡ 0
-  pub short : suffix < 128
+  pub sponge : SpongeFits rate suffix
   pub long : length in0 ≡ length in1
   pub bytes0 : Below 256 in0
   pub bytes1 : Below 256 in1
@@ -106,31 +106,31 @@ module _ {rate suffix : ℕ} {in0 in1 : List ℕ} (a : SharedMessage rate suffix
   abbrev message : List ℕ
   message = joinedList (sharedList in0 in1)
 
-  blocks : length (padded rate suffix message) / rate ≡ length in0 / rate + 1
+  blocks : length (padded rate suffix message) / rate ≡ inputBlocks rate (length in0)
   blocks =
       let e = length-joined in0 in1 (a .long) in
       let q = length in0 / rate in
-      let p = a .positive in
+      let p = a .sponge .positive in
       ap (λ (n : ℕ). n / rate)
       (length-padded rate suffix message q (rw e (div-mul-le-self (length in0) rate))
       (rw e (lt-div-mul-add {a = length in0} {b = rate} p)))
       ∙ mul-div-cancel (suc q) {n = rate} p
       ∙ sym (add-one q)
 
-  pub gives-maskedAbsorb : Gives (StateSharing (absorbed rate (padded rate suffix message)))
+  gives-maskedAbsorb : Gives (StateSharing (absorbed rate (padded rate suffix message)))
       (maskedAbsorb rate suffix in0 in1)
   unfolding maskedAbsorb absorbed
   gives-maskedAbsorb =
-      let f = a .fits in
+      let f = a .sponge .fits in
       rw blocks
-      (gives-maskedBlocks (rate / 8) (length in0 / rate + 1)
+      (gives-maskedBlocks (rate / 8) (inputBlocks rate (length in0))
       (λ i. take rate (drop (i * rate) (padded rate suffix message)))
       (omega arith)
       (λ i j h.
       sharing-lane (xorOf-take rate (xorOf-drop (i * rate) (xorOf-padded in0 in1 (a .long) rate suffix)))
-      (below-take rate (below-drop (i * rate) (below-padded rate (a .short) (a .bytes0))))
+      (below-take rate (below-drop (i * rate) (below-padded rate (a .sponge .short) (a .bytes0))))
       (below-take rate (below-drop (i * rate) (a .bytes1))) j)
-      (λ i j h. laneOf-past rate (drop (i * rate) (padded rate suffix message)) j (a .whole) h))
+      (λ i j h. laneOf-past rate (drop (i * rate) (padded rate suffix message)) j (a .sponge .whole) h))
 
 -- ---- squeezing
 
@@ -147,7 +147,7 @@ gives-maskedSqueeze : (lanes n : ℕ) {l : List ℕ} {s : SharedList} → 0 < la
 unfolding maskedSqueeze iterate
 gives-maskedSqueeze lanes n {l} {s} h k r =
     gives-bind
-    (gives-chain (λ j. StateSharing (iterate j (λ _. keccak-p) l)) ((n - 1) / lanes)
+    (gives-chain (λ j. StateSharing (iterate j (λ _. keccak-p) l)) (furtherBlocks lanes n)
     (λ j g t a. gives-maskedKeccakP a) r)
     (λ t c.
     ret-g (record {
@@ -172,14 +172,14 @@ output-bytes rate d {l} {z} h k o =
 
 -- ---- the sponge
 
-pub gives-maskedSponge : {rate suffix : ℕ} {in0 in1 : List ℕ} → SharedMessage rate suffix in0 in1 → (n : ℕ)
+gives-maskedSponge : {rate suffix : ℕ} {in0 in1 : List ℕ} → SharedMessage rate suffix in0 in1 → (n : ℕ)
     → Gives (OutputSharing (rate / 8) n (absorbed rate (padded rate suffix (joinedList (sharedList in0 in1)))))
     (maskedSponge rate suffix in0 in1 n)
 unfolding maskedSponge
 gives-maskedSponge {rate} a n =
-    let f = a .fits in
-    let p = a .positive in
-    let w = a .whole in
+    let f = a .sponge .fits in
+    let p = a .sponge .positive in
+    let w = a .sponge .whole in
     gives-bind (gives-maskedAbsorb a) (λ s r. gives-maskedSqueeze (rate / 8) n (omega arith) (omega arith) r)
 
 -- two shares of the n words of l
@@ -195,60 +195,40 @@ gives-spongeWords {rate} {suffix} {in0} {in1} a n =
     gives-weaken (λ z o. record { long = length-tab n w; at = λ i h. rw (getD-tab n w i 0 h) (o .at i h) })
     (gives-maskedSponge a n)
 
-pub gives-maskedHash : {rate suffix : ℕ} {in0 in1 : List ℕ} → SharedMessage rate suffix in0 in1 → (d : ℕ)
+gives-maskedHash : {rate suffix : ℕ} {in0 in1 : List ℕ} → SharedMessage rate suffix in0 in1 → (d : ℕ)
     → Gives (λ z. joinedList z ≡ sponge rate suffix (joinedList (sharedList in0 in1)) d)
     (maskedHash rate suffix in0 in1 d)
 unfolding maskedHash sponge
 gives-maskedHash {rate} a d =
-    gives-bind (gives-maskedSponge a ((d + 7) / 8)) (λ z o. ret-g (output-bytes rate d (a .positive) (a .whole) o))
+    gives-bind (gives-maskedSponge a ((d + 7) / 8)) (λ z o.
+    ret-g (output-bytes rate d (a .sponge .positive) (a .sponge .whole) o))
 
 -- ---- the two hashes, by name
 
 module _ {in0 in1 : List ℕ} (e : length in0 ≡ length in1) (b0 : Below 256 in0) (b1 : Below 256 in1) where
-  sha3-message : SharedMessage 72 0x06 in0 in1
-  sha3-message =
-      record {
-        positive = omega arith;
-        fits = omega arith;
-        whole = refl;
-        short = omega arith;
-        long = e;
-        bytes0 = b0;
-        bytes1 = b1;
-      }
-
-  shake-message : SharedMessage 136 0x1f in0 in1
-  shake-message =
-      record {
-        positive = omega arith;
-        fits = omega arith;
-        whole = refl;
-        short = omega arith;
-        long = e;
-        bytes0 = b0;
-        bytes1 = b1;
-      }
+  messageTo : {rate suffix : ℕ} → SpongeFits rate suffix → SharedMessage rate suffix in0 in1
+  messageTo s = record { sponge = s; long = e; bytes0 = b0; bytes1 = b1 }
 
   -- in words
   pub gives-maskedSha3-512Words : Gives (WordSharing 8 (sha3-512Words (joinedList (sharedList in0 in1))))
       (maskedSha3-512Words in0 in1)
   unfolding maskedSha3-512Words sha3-512Words
-  gives-maskedSha3-512Words = gives-spongeWords sha3-message 8
+  gives-maskedSha3-512Words = gives-spongeWords (messageTo sha3-512-fits) 8
 
   pub gives-maskedShake256Words : (n : ℕ)
       → Gives (WordSharing n (shake256Words (joinedList (sharedList in0 in1)) n)) (maskedShake256Words in0 in1 n)
   unfolding maskedShake256Words shake256Words
-  gives-maskedShake256Words n = gives-spongeWords shake-message n
+  gives-maskedShake256Words n = gives-spongeWords (messageTo shake256-fits) n
 
   -- in bytes
   gives-maskedSha3-512 : Gives (λ z. joinedList z ≡ sha3-512 (joinedList (sharedList in0 in1))) (maskedSha3-512 in0 in1)
   unfolding maskedSha3-512 sha3-512
-  gives-maskedSha3-512 = gives-maskedHash sha3-message 64
+  gives-maskedSha3-512 = gives-maskedHash (messageTo sha3-512-fits) 64
 
   gives-maskedShake256 : (d : ℕ)
       → Gives (λ z. joinedList z ≡ shake256 (joinedList (sharedList in0 in1)) d) (maskedShake256 in0 in1 d)
   unfolding maskedShake256 shake256
-  gives-maskedShake256 d = gives-maskedHash shake-message d
+  gives-maskedShake256 d = gives-maskedHash (messageTo shake256-fits) d
 
   -- what the calls leave, on masks below 2 ^ 64
   pub sha3-512-joined : {masks : List ℕ} → Below (2 ^ 64) masks

@@ -1,12 +1,19 @@
--- The mask words of a sponge whose output is one block at most.
-use mathlib.Core.Path.{_≡_}
-use Prim.Native.Nat.{ℕ, _+_, _-_, _*_, _/_, _<_, _≤_}
+-- The two sponges fit, and a sponge whose output is one block at most draws what taking in draws.
+use mathlib.Core.Path.{_≡_, refl}
+use Prim.Native.Nat.{ℕ, _-_, _/_, _<_, _≤_}
 use native.Mathlib.Nat.{div-eq-of-lt}
 use native.Mathlib.Omega.{arith}
-use Rattle.masked_fips202.specs.MaskedSponge.{spongeMasks}
+use Rattle.masked_fips202.specs.MaskedSponge.{inputBlocks, furtherBlocks, hashMaskWords, spongeMaskWords}
+use Rattle.fips202.specs.Sizes.{SpongeFits}
 
-pub spongeMasks-one : (rate len n : ℕ) → 0 < rate / 8 → n ≤ rate / 8
-    → spongeMasks rate len n ≡ 25 + 600 * (len / rate + 1)
-spongeMasks-one rate len n h g =
-    let e : (n - 1) / (rate / 8) ≡ 0 = div-eq-of-lt (omega arith) in
+pub sha3-512-fits : SpongeFits 72 0x06
+sha3-512-fits = record { positive = omega arith; fits = omega arith; whole = refl; short = omega arith }
+
+pub shake256-fits : SpongeFits 136 0x1f
+shake256-fits = record { positive = omega arith; fits = omega arith; whole = refl; short = omega arith }
+
+pub spongeMaskWords-one : (rate len n : ℕ) → 0 < rate / 8 → n ≤ rate / 8
+    → spongeMaskWords rate len n ≡ hashMaskWords (inputBlocks rate len)
+spongeMaskWords-one rate len n h g =
+    let e : furtherBlocks (rate / 8) n ≡ 0 = div-eq-of-lt (omega arith) in
     rw e (omega arith)

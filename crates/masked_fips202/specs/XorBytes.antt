@@ -8,13 +8,16 @@ use native.Mathlib.Numerals.{one-add}
 use native.Mathlib.Omega.{arith}
 use lib.Bits.{xor-block}
 use lib.Dec.{eqb, eqb→eq}
-use lib.ListN.{length, getD, take, drop, length-take, List·getD-append, List·getD-eq-default}
+use lib.ListN.{length, getD, take, drop, List·getD-append, List·getD-eq-default}
 use lib.Seq.{getD-take, getD-drop, getD-append-add}
-use Rattle.words.specs.Word.{Bits, xor, low}
+use Rattle.words.specs.Word.{xor, low}
+use Rattle.words.specs.Bits.{Bits}
 use Rattle.words.specs.WordLaws.{xor-zero, xor-shift, low-xor}
 use Rattle.words.specs.Bounded.{Below}
 use Rattle.words.specs.BoundedLaws.{below-tab}
-use Rattle.words.specs.Tab.{tab, length-tab, getD-tab, tab-add, tab-cong}
+use Rattle.words.specs.Tab.{tab}
+use Rattle.words.specs.TabLaws.{length-tab, getD-tab, tab-add, tab-cong}
+use Rattle.words.specs.Part.{getD-take-past}
 use Rattle.words.specs.TableLaws.{every-at}
 use Rattle.words.specs.Numeral.{value}
 use Rattle.words.specs.NumeralLaws.{value-lt}
@@ -35,14 +38,11 @@ xorOf-drop {p} {p0} {p1} n a =
 pub xorOf-take : {p p0 p1 : List ℕ} (n : ℕ) → XorOf p p0 p1 → XorOf (take n p) (take n p0) (take n p1)
 xorOf-take {p} {p0} {p1} n a = record { at = λ x. go x (decLt x n) }
   where
-    past : (l : List ℕ) (x : ℕ) → n ≤ x → getD (take n l) x 0 ≡ 0
-    past l x h = List·getD-eq-default (take n l) 0 {n = x} (omega (arith, length-take n l))
-
     go : (x : ℕ) → Dec (x < n) → getD (take n p) x 0 ≡ xor (getD (take n p0) x 0) (getD (take n p1) x 0)
     go x (yes h) = rw (getD-take n p x 0 h, getD-take n p0 x 0 h, getD-take n p1 x 0 h) (a .at x)
     go x (no h) =
         let g : n ≤ x = omega arith in
-        rw (past p x g, past p0 x g, past p1 x g) (sym (xor-zero 0))
+        rw (getD-take-past n p x 0 g, getD-take-past n p0 x 0 g, getD-take-past n p1 x 0 g) (sym (xor-zero 0))
 
 -- ---- a message and its shares
 

@@ -1,14 +1,15 @@
 // Taking a message in on two shares (document 01, The gadgets: Hash).
-ghost use mathlib.Core.Path.{_≡_};
-ghost use Prim.Native.Nat.{_+_, _*_, _/_, _%_, _<_, _≤_};
+ghost use Prim.Native.Nat.{_+_, _*_, _/_, _<_, _≤_};
 ghost use lib.ListN.{length, take};
 ghost use Rattle.worksheet.specs.declared.Recorder.{Recorder as AnyRecorder};
 ghost use Rattle.worksheet.specs.Prog.{word, loop};
 ghost use Rattle.worksheet.specs.Ran.{Makes, Draws};
+ghost use Rattle.masked_keccak.specs.MaskedKeccak.{keccakPWords};
 ghost use Rattle.masked_keccak.specs.SharedRows.{sharedState};
-ghost use Rattle.masked_fips202.specs.Lent.{BlockLent, InputLent};
+ghost use Rattle.masked_fips202.specs.Lent.{BlockLent, InputLent, AbsorbLent};
 ghost use Rattle.masked_fips202.specs.MaskedSponge.{start as startOf, mixLanes, sharedBlock, maskedAbsorb};
-ghost use Rattle.masked_fips202.specs.MaskedBytes.{sharedLane, takeIn};
+ghost use Rattle.masked_fips202.specs.MaskedSponge.{inputBlocks, hashMaskWords};
+ghost use Rattle.masked_fips202.specs.MaskedSteps.{sharedLane, takeIn};
 use fips202::absorb::last_block;
 use fips202::absorb::zero_filled;
 use fips202::bytes;
@@ -32,7 +33,7 @@ fn start(ws: &[u64]) -> State
 
 // The first rate bytes of p and q are added to the shares s and t of the state.
 fn mix_lanes(rec: Recorder, s: State, t: State, p: &[u8], q: &[u8], rate: usize) -> EnteredStates
-    requires { ⌜ (rate ≤ 200) × (rate % 8 ≡ 0) × (rate ≤ length (now p)) × (rate ≤ length (now q)) ⌝ }
+    requires { ⌜ BlockLent rate (now p) (now q) ⌝ }
     ensures { λ o. ⌜ Makes
         (mixLanes (rate / 8) (sharedLane (take rate (now (p .entry))) (take rate (now (q .entry)))) (sharedState s t))
         rec (sharedState (o .s0) (o .s1)) (o .rec) ⌝ }
@@ -71,8 +72,8 @@ fn take_in(
     rate: usize,
     ws: &[u64],
 ) -> EnteredStates
-    requires { ⌜ BlockLent rate (now p) (now q) (now ws) ⌝ }
-    ensures { λ o. ⌜ Draws word 600
+    requires { ⌜ BlockLent rate (now p) (now q) × (keccakPWords ≤ length (now ws)) ⌝ }
+    ensures { λ o. ⌜ Draws word keccakPWords
         (takeIn (rate / 8) (sharedLane (take rate (now (p .entry))) (take rate (now (q .entry)))) (sharedState s t))
         rec (now (ws .entry)) (sharedState (o .s0) (o .s1)) (o .rec) ⌝ }
 {
@@ -91,7 +92,7 @@ fn whole_blocks(
     ws: &[u64],
 ) -> EnteredStates
     requires { ⌜ InputLent rate (now in0) (now in1) (now ws) ⌝ }
-    ensures { λ o. ⌜ Draws word (600 * (length (now (in0 .entry)) / rate))
+    ensures { λ o. ⌜ Draws word (keccakPWords * (length (now (in0 .entry)) / rate))
         (loop (length (now (in0 .entry)) / rate)
         (λ i. takeIn (rate / 8) (sharedBlock rate (now (in0 .entry)) (now (in1 .entry)) i)) (sharedState s t))
         rec (now (ws .entry)) (sharedState (o .s0) (o .s1)) (o .rec) ⌝ }
@@ -112,7 +113,7 @@ fn whole_blocks(
 }
 
 // The padded message, of which in0 and in1 are the shares, with 25 masks and 600 for each block.
-pub fn masked_absorb(
+pub(crate) fn masked_absorb(
     rec: Recorder,
     in0: &[u8],
     in1: &[u8],
@@ -120,9 +121,8 @@ pub fn masked_absorb(
     suffix: u8,
     ws: &[u64],
 ) -> EnteredStates
-    requires { ⌜ (length (now in0) ≡ length (now in1)) × (0 < rate) × (rate ≤ 200) × (rate % 8 ≡ 0) × (suffix < 128)
-        × (25 + 600 * (length (now in0) / rate + 1) ≤ length (now ws)) ⌝ }
-    ensures { λ o. ⌜ Draws word (25 + 600 * (length (now (in0 .entry)) / rate + 1))
+    requires { ⌜ AbsorbLent rate suffix (now in0) (now in1) (now ws) ⌝ }
+    ensures { λ o. ⌜ Draws word (hashMaskWords (inputBlocks rate (length (now (in0 .entry)))))
         (maskedAbsorb rate suffix (now (in0 .entry)) (now (in1 .entry)))
         rec (now (ws .entry)) (sharedState (o .s0) (o .s1)) (o .rec) ⌝ }
 {

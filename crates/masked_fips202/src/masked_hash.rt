@@ -7,8 +7,9 @@ ghost use lib.ListN.{length};
 ghost use Rattle.refusals.specs.Refusals.{number};
 ghost use Rattle.worksheet.specs.Run.{run};
 ghost use Rattle.worksheet.specs.SharedList.{sharedList};
+ghost use Rattle.fips202.specs.Sizes.{SpongeFits};
 ghost use Rattle.masked_fips202.specs.Lent.{HashLent};
-ghost use Rattle.masked_fips202.specs.MaskedSponge.{permutations as permutationsOf};
+ghost use Rattle.masked_fips202.specs.MaskedSponge.{permutations as permutationsOf, hashMaskWords};
 ghost use Rattle.masked_fips202.specs.MaskedBytes.{maskedHash};
 ghost use Rattle.masked_fips202.specs.MaskedCalls.{hashAnswer, MaskedHashed};
 ghost use Rattle.masked_fips202.specs.MaskedCalls.{maskedSha3-512Call, maskedShake256Call};
@@ -28,7 +29,7 @@ fn permutations(rate: usize, n: usize, d: usize) -> usize
 
 // Whether n masks are 25 and 600 for each permutation.
 fn enough(n: usize, permutations: usize) -> bool
-    ensures { λ r. ⌜ r ≡ eqb n (25 + 600 * permutations) ⌝ }
+    ensures { λ r. ⌜ r ≡ eqb n (hashMaskWords permutations) ⌝ }
 {
     if n < 25 {
         return false;
@@ -73,7 +74,7 @@ fn masked_hash(
     out0: &mut [u8],
     out1: &mut [u8],
 ) -> Answer
-    requires { ⌜ (0 < rate) × (rate ≤ 200) × (rate % 8 ≡ 0) × (suffix < 128) ⌝ }
+    requires { ⌜ SpongeFits rate suffix ⌝ }
     ensures { λ r. ⌜ MaskedHashed
         (hashAnswer rate (now (in0 .entry)) (now (in1 .entry)) (now (masks .entry))
         (now (out0 .entry)) (now (out1 .entry)))

@@ -5,9 +5,11 @@ ghost use lib.ListN.{length};
 ghost use Rattle.worksheet.specs.Prog.{word};
 ghost use Rattle.worksheet.specs.Ran.{Draws};
 ghost use Rattle.worksheet.specs.SharedList.{sharedList};
+ghost use Rattle.masked_keccak.specs.MaskedKeccak.{keccakPWords};
 ghost use Rattle.masked_keccak.specs.SharedRows.{sharedState};
 ghost use Rattle.masked_fips202.specs.Lent.{OutputLent};
-ghost use Rattle.masked_fips202.specs.MaskedBytes.{squeezeBytes};
+ghost use Rattle.masked_fips202.specs.MaskedSponge.{furtherBlocks};
+ghost use Rattle.masked_fips202.specs.MaskedSteps.{squeezeBytes};
 use fips202::squeeze::extract;
 use keccak::state::State;
 use worksheet::Recorder;
@@ -15,7 +17,7 @@ use worksheet::Recorder;
 // The permutations after the first block of n bytes of output.
 pub(crate) fn further(n: usize, rate: usize) -> usize
     requires { ⌜ 0 < rate ⌝ }
-    ensures { λ r. ⌜ r ≡ (n - 1) / rate ⌝ }
+    ensures { λ r. ⌜ r ≡ furtherBlocks rate n ⌝ }
 {
     if n == 0 {
         return 0;
@@ -34,7 +36,7 @@ pub(crate) fn masked_squeeze(
     out1: &mut [u8],
 ) -> Recorder
     requires { ⌜ OutputLent rate (now ws) (now out0) (now out1) ⌝ }
-    ensures { λ r. ⌜ Draws word (600 * ((length (now (out0 .entry)) - 1) / rate))
+    ensures { λ r. ⌜ Draws word (keccakPWords * furtherBlocks rate (length (now (out0 .entry))))
         (squeezeBytes (rate / 8) (length (now (out0 .entry))) (sharedState s t))
         rec (now (ws .entry)) (sharedList (now (out0 .exit)) (now (out1 .exit))) r ⌝ }
 {

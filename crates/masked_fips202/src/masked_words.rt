@@ -1,14 +1,15 @@
 // SHA3-512 and SHAKE256 on two shares, recorded, their output in words of one block at most.
 ghost use mathlib.Core.Path.{_≡_};
-ghost use Prim.Native.Nat.{_/_, _%_, _<_, _≤_};
+ghost use Prim.Native.Nat.{_≤_};
 ghost use lib.ListN.{length, getD};
 ghost use Rattle.words.specs.Tab.{tab};
 ghost use Rattle.worksheet.specs.Prog.{word};
 ghost use Rattle.worksheet.specs.Ran.{Draws};
 ghost use Rattle.worksheet.specs.SharedList.{sharedList};
-ghost use Rattle.masked_fips202.specs.MaskedSponge.{maskedSponge, spongeMasks};
+ghost use Rattle.masked_fips202.specs.MaskedSponge.{maskedSponge, spongeMaskWords};
 ghost use Rattle.masked_fips202.specs.MaskedWords.{maskedSha3-512Words, maskedShake256Words};
-ghost use Rattle.masked_fips202.specs.MaskedWords.{sha3-512Masks, shake256Masks};
+ghost use Rattle.masked_fips202.specs.MaskedWords.{sha3-512MaskWords, shake256MaskWords};
+ghost use Rattle.masked_fips202.specs.Lent.{WordsLent, Sha3-512Lent, Shake256Lent};
 use crate::masked_absorb::masked_absorb;
 use keccak::state::State;
 use worksheet::Recorder;
@@ -34,12 +35,9 @@ fn sponge_words(
     o0: &mut [u64],
     o1: &mut [u64],
 ) -> Recorder
-    requires { ⌜ (0 < rate) × (rate ≤ 200) × (rate % 8 ≡ 0) × (suffix < 128) ⌝ }
-    requires { ⌜
-        (length (now in0) ≡ length (now in1)) × (length (now o0) ≡ length (now o1)) × (length (now o0) ≤ rate / 8)
-        × (spongeMasks rate (length (now in0)) (length (now o0)) ≤ length (now ws)) ⌝ }
+    requires { ⌜ WordsLent rate suffix (now in0) (now in1) (now ws) (now o0) (now o1) ⌝ }
     ensures { λ r. ⌜
-        Draws word (spongeMasks rate (length (now (in0 .entry))) (length (now (o0 .entry))))
+        Draws word (spongeMaskWords rate (length (now (in0 .entry))) (length (now (o0 .entry))))
         (maskedSponge rate suffix (now (in0 .entry)) (now (in1 .entry)) (length (now (o0 .entry))))
         rec (now (ws .entry)) (sharedList (now (o0 .exit)) (now (o1 .exit))) r ⌝ }
 {
@@ -58,11 +56,9 @@ pub fn masked_sha3_512_words(
     o0: &mut [u64],
     o1: &mut [u64],
 ) -> Recorder
-    requires { ⌜
-        (length (now in0) ≡ length (now in1)) × (sha3-512Masks (length (now in0)) ≤ length (now ws))
-        × (length (now o0) ≡ 8) × (length (now o1) ≡ 8) ⌝ }
+    requires { ⌜ Sha3-512Lent (now in0) (now in1) (now ws) (now o0) (now o1) ⌝ }
     ensures { λ r. ⌜
-        Draws word (sha3-512Masks (length (now (in0 .entry))))
+        Draws word (sha3-512MaskWords (length (now (in0 .entry))))
         (maskedSha3-512Words (now (in0 .entry)) (now (in1 .entry)))
         rec (now (ws .entry)) (sharedList (now (o0 .exit)) (now (o1 .exit))) r ⌝ }
 {
@@ -78,11 +74,9 @@ pub fn masked_shake256_words(
     o0: &mut [u64],
     o1: &mut [u64],
 ) -> Recorder
-    requires { ⌜
-        (length (now in0) ≡ length (now in1)) × (length (now o0) ≡ length (now o1)) × (length (now o0) ≤ 17)
-        × (shake256Masks (length (now in0)) (length (now o0)) ≤ length (now ws)) ⌝ }
+    requires { ⌜ Shake256Lent (now in0) (now in1) (now ws) (now o0) (now o1) ⌝ }
     ensures { λ r. ⌜
-        Draws word (shake256Masks (length (now (in0 .entry))) (length (now (o0 .entry))))
+        Draws word (shake256MaskWords (length (now (in0 .entry))) (length (now (o0 .entry))))
         (maskedShake256Words (now (in0 .entry)) (now (in1 .entry)) (length (now (o0 .entry))))
         rec (now (ws .entry)) (sharedList (now (o0 .exit)) (now (o1 .exit))) r ⌝ }
 {

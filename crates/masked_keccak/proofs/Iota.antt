@@ -11,7 +11,8 @@ use Rattle.worksheet.specs.declared.Shares.{Shares}
 use Rattle.worksheet.specs.Prog.{Prog, ret, _>>=_, entry}
 use Rattle.worksheet.specs.Ran.{Ran, Makes, bind, over}
 use Rattle.worksheet.specs.Sharing.{none}
-use Rattle.worksheet.specs.SharedList.{SharedList, sharedList, unzip, zip}
+use Rattle.worksheet.specs.SharedList.{SharedList, sharedList, unzip}
+use Rattle.worksheet.specs.Zip.{zip}
 use Rattle.worksheet.specs.SharedListLaws.{getD-zip, unzip-zip}
 
 -- what follows chi in a round

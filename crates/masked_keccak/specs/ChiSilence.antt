@@ -4,7 +4,8 @@ use Prim.Native.Nat.{ℕ, zero, suc, _+_, _*_, _<_}
 use mathlib.Core.Path.{_≡_, ap}
 use mathlib.Core.Bool.{Bool, false}
 use native.Mathlib.Omega.{arith}
-use Rattle.words.specs.Word.{Bits, xor, and, complement}
+use Rattle.words.specs.Word.{xor, and, complement}
+use Rattle.words.specs.Bits.{Bits}
 use Rattle.words.specs.WordLaws.{xor-bits, and-bits, complement-bits}
 use Rattle.keccak.specs.LinearPass.{LaneBits}
 use Rattle.worksheet.specs.declared.Shares.{Shares}
@@ -15,15 +16,16 @@ use Rattle.worksheet.specs.Turns.{Turns}
 use Rattle.worksheet.specs.SharingLaws.{share, Sharing, Apart, sharing-notShares, share-notShares}
 use Rattle.worksheet.specs.SharedList.{SharedList, sharedAt}
 use Rattle.worksheet.specs.Gates.{maskedNot}
-use Rattle.worksheet.specs.MaskedAndSilence.{readsLeft, readsRight}
+use Rattle.worksheet.specs.MaskedAndSilence.{readsLeft, readsRight, behind}
 use Rattle.worksheet.specs.GatesSilence.{like-maskedNot, like-xorAnd, coupled-xorAnd, sameAt-xorAnd}
 use Rattle.keccak.specs.KeccakP.{along}
 use Rattle.masked_keccak.specs.MaskedKeccak.{chiLane, maskedChi}
+use Rattle.masked_keccak.specs.EntryCounts.{chiLaneEntries}
 use Rattle.masked_keccak.specs.SharedLanes.{LaneSharings}
 
 -- ---- one lane
 
-pub like-chiLane : (w u v w′ u′ v′ : Shares) → Like 11 (chiLane w u v) (chiLane w′ u′ v′)
+like-chiLane : (w u v w′ u′ v′ : Shares) → Like chiLaneEntries (chiLane w u v) (chiLane w′ u′ v′)
 unfolding chiLane
 like-chiLane w u v w′ u′ v′ = coupled-bind (like-maskedNot 64 u u′) (λ n n′ t. like-xorAnd 64 w n v w′ n′ v′)
 
@@ -33,23 +35,21 @@ chiOf X Y Z = xor X (and (complement 64 Y) Z)
 
 -- the share of u that entry i reads, and the share of v
 abbrev pub chiReadsFirst : ℕ → Bool
-chiReadsFirst zero = false
-chiReadsFirst (suc i) = readsLeft i
+chiReadsFirst = behind false readsLeft
 
 abbrev pub chiReadsSecond : ℕ → Bool
-chiReadsSecond zero = false
-chiReadsSecond (suc i) = readsRight i
+chiReadsSecond = behind false readsRight
 
 module _ {X Y Z X′ Y′ Z′ : ℕ} {w u v w′ u′ v′ : Shares}
     (sw : Sharing 64 X w) (su : Sharing 64 Y u) (sv : Sharing 64 Z v)
     (sw′ : Sharing 64 X′ w′) (su′ : Sharing 64 Y′ u′) (sv′ : Sharing 64 Z′ v′) where
-  pub coupled-chiLane : {d : ℕ} → Bits 64 d
-      → Coupled (Apart 64 d (chiOf X Y Z) (chiOf X′ Y′ Z′)) 11 (chiLane w u v) (chiLane w′ u′ v′)
+  coupled-chiLane : {d : ℕ} → Bits 64 d
+      → Coupled (Apart 64 d (chiOf X Y Z) (chiOf X′ Y′ Z′)) chiLaneEntries (chiLane w u v) (chiLane w′ u′ v′)
   unfolding chiLane maskedNot entry _>>=_
   coupled-chiLane b =
       enter-c (coupled-xorAnd (omega arith) sw (sharing-notShares su) sv sw′ (sharing-notShares su′) sv′ b)
 
-  pub sameAt-chiLane : (i : ℕ) → i < 11 → share (chiReadsFirst i) u ≡ share (chiReadsFirst i) u′
+  sameAt-chiLane : (i : ℕ) → i < chiLaneEntries → share (chiReadsFirst i) u ≡ share (chiReadsFirst i) u′
       → share (chiReadsSecond i) v ≡ share (chiReadsSecond i) v′ → SameAt i (chiLane w u v) (chiLane w′ u′ v′)
   unfolding chiLane maskedNot entry _>>=_
   sameAt-chiLane zero h p q = here (ap (complement 64) p) (like-xorAnd 64 _ _ _ _ _ _)
@@ -60,7 +60,7 @@ module _ {X Y Z X′ Y′ Z′ : ℕ} {w u v w′ u′ v′ : Shares}
 
 -- ---- 25 lanes
 
-pub like-chi : (s s′ : SharedList) → Like (25 * 11) (maskedChi s) (maskedChi s′)
+pub like-chi : (s s′ : SharedList) → Like (25 * chiLaneEntries) (maskedChi s) (maskedChi s′)
 unfolding maskedChi
 like-chi s s′ = like-times 25 (λ i h. like-chiLane _ _ _ _ _ _)
 
@@ -78,17 +78,18 @@ chiAt-bits b =
 
 module _ {X X′ : ℕ → ℕ} {s s′ : SharedList} (l : LaneSharings X s) (r : LaneSharings X′ s′) where
   pub coupled-chi : {e : ℕ → ℕ} → LaneBits e
-      → Coupled (Turns (λ i. Apart 64 (e i) (chiAt X i) (chiAt X′ i)) 25) (25 * 11) (maskedChi s) (maskedChi s′)
+      → Coupled (Turns (λ i. Apart 64 (e i) (chiAt X i) (chiAt X′ i)) 25) (25 * chiLaneEntries) (maskedChi s)
+      (maskedChi s′)
   unfolding maskedChi
   coupled-chi b =
       coupled-times 25 (λ i h.
       coupled-chiLane (l .at i h) (l .at (along 1 i) (omega arith)) (l .at (along 2 i) (omega arith))
       (r .at i h) (r .at (along 1 i) (omega arith)) (r .at (along 2 i) (omega arith)) (b .at i h))
 
-  pub sameAt-chi : (i j : ℕ) → i < 25 → j < 11
+  pub sameAt-chi : (i j : ℕ) → i < 25 → j < chiLaneEntries
       → share (chiReadsFirst j) (sharedAt s (along 1 i)) ≡ share (chiReadsFirst j) (sharedAt s′ (along 1 i))
       → share (chiReadsSecond j) (sharedAt s (along 2 i)) ≡ share (chiReadsSecond j) (sharedAt s′ (along 2 i))
-      → SameAt (i * 11 + j) (maskedChi s) (maskedChi s′)
+      → SameAt (i * chiLaneEntries + j) (maskedChi s) (maskedChi s′)
   unfolding maskedChi
   sameAt-chi i j h g p q =
       sameAt-times 25 i (λ i h. like-chiLane _ _ _ _ _ _) h

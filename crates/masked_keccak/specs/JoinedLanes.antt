@@ -5,9 +5,11 @@ use Prim.Native.Nat.{ℕ, zero, suc, _+_, _*_, _/_, _%_, _<_}
 use native.Mathlib.Omega.{arith}
 use lib.ListN.{length, getD, length-set}
 use lib.Seq.{getD-set-same, getD-set-other}
-use Rattle.words.specs.Word.{Bits, xor}
+use Rattle.words.specs.Word.{xor}
+use Rattle.words.specs.Bits.{Bits}
 use Rattle.words.specs.WordLaws.{zero-bits}
-use Rattle.words.specs.Tab.{tab, length-tab, getD-tab, tab-of}
+use Rattle.words.specs.Tab.{tab}
+use Rattle.words.specs.TabLaws.{length-tab, getD-tab, tab-of}
 use Rattle.words.specs.Iterate.{iterate}
 use Rattle.keccak.specs.KeccakP.{theta, rho, pi, chi, iota, constant, round, keccak-p}
 use Rattle.keccak.specs.Constant.{constant-bits}
@@ -111,7 +113,7 @@ module _ (i : ℕ) (l : List ℕ) where
 
 -- ---- the permutation
 
-pub gives-round : (i : ℕ) {l : List ℕ} {s : SharedList} → StateSharing l s
+gives-round : (i : ℕ) {l : List ℕ} {s : SharedList} → StateSharing l s
     → Gives (StateSharing (round i l)) (maskedRound i s)
 unfolding maskedRound entry _>>=_ unzip
 gives-round i {l} {s} r =

@@ -1,4 +1,6 @@
 pub mod MaskedKeccak
+pub mod EntryCounts
+pub mod Lent
 pub mod SharedRows
 pub mod MaskedKeccakUses
 pub mod SharedLanes

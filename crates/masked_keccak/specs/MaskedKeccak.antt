@@ -1,6 +1,7 @@
--- Keccak-p[1600, 24] on two shares of a state, every result entered (document 01, The gadgets: Hash).
+-- Keccak-p[1600, 24] on two shares of a state, every result entered (document 01, The gadgets: Hash), and how many
+-- mask words it draws.
 use mathlib.Core.List.{List}
-use Prim.Native.Nat.{ℕ}
+use Prim.Native.Nat.{ℕ, _*_}
 use lib.ListN.{getD, set}
 use Rattle.words.specs.Word.{xor}
 use Rattle.keccak.specs.KeccakP.{along, theta, rho, pi, constant}
@@ -37,3 +38,11 @@ maskedRound i s = do
 
 unfoldable pub maskedKeccakP : SharedList → Prog SharedList
 maskedKeccakP s = loop 24 maskedRound s
+
+-- ---- counts: a round draws a word for each lane
+
+abbrev pub roundWords : ℕ
+roundWords = 25
+
+abbrev pub keccakPWords : ℕ
+keccakPWords = 24 * roundWords

@@ -5,7 +5,8 @@ use mathlib.Core.Bool.{Bool, true, false}
 use mathlib.Core.List.{List}
 use native.Mathlib.Omega.{arith}
 use lib.ListN.{getD}
-use Rattle.words.specs.Tab.{tab, getD-tab}
+use Rattle.words.specs.Tab.{tab}
+use Rattle.words.specs.TabLaws.{getD-tab}
 use Rattle.keccak.specs.LinearPass.{passAt, LaneBits, pass-is, pass-cong, pass-bits, pass-xor}
 use Rattle.keccak.specs.Aim.{aimed, aimed-bits, aimed-1, aimed-2}
 use Rattle.worksheet.specs.declared.Shares.{Shares}

@@ -6,9 +6,11 @@ use mathlib.Core.List.{List}
 use native.Mathlib.Omega.{arith}
 use lib.ListN.{getD, set}
 use lib.Seq.{getD-set-same, getD-set-other}
-use Rattle.words.specs.Word.{Bits, xor}
+use Rattle.words.specs.Word.{xor}
+use Rattle.words.specs.Bits.{Bits}
 use Rattle.words.specs.WordLaws.{xor-bits, zero-bits}
-use Rattle.words.specs.Tab.{tab, length-tab, getD-tab}
+use Rattle.words.specs.Tab.{tab}
+use Rattle.words.specs.TabLaws.{length-tab, getD-tab}
 use Rattle.keccak.specs.KeccakP.{constant}
 use Rattle.keccak.specs.Constant.{constant-bits}
 use Rattle.keccak.specs.LinearPass.{LaneBits}
@@ -26,6 +28,7 @@ use Rattle.worksheet.specs.Sharing.{shares, none}
 use Rattle.worksheet.specs.SharingLaws.{Apart, share-keep, xorPublic, apart-xorPublic}
 use Rattle.worksheet.specs.SharedList.{SharedList, sharedList, sharedAt, unzip}
 use Rattle.masked_keccak.specs.MaskedKeccak.{pass, maskedChi, maskedRound, maskedKeccakP}
+use Rattle.masked_keccak.specs.EntryCounts.{chiLaneEntries, roundEntries, keccakPEntries}
 use Rattle.masked_keccak.specs.SharedLanes.{LanesBoth, lane-bits, Differences, LanesApart, keepLanes, lanes-both}
 use Rattle.masked_keccak.specs.PassSilence.{passes, both-passes, passes-stage, Operands, OperandsKept}
 use Rattle.masked_keccak.specs.ChiSilence.{chiAt, chiAt-bits, chiReadsFirst, chiReadsSecond, like-chi}
@@ -90,7 +93,8 @@ module _ (i : ℕ) where
   nonlinear t = maskedChi t >>= iota i
 
   module _ {s s′ : SharedList} (r : LanesBoth s s′) where
-    coupled-nonlinear : (d : Differences) → Coupled (LanesApart d) (25 * 11 + 1) (nonlinear s) (nonlinear s′)
+    coupled-nonlinear : (d : Differences)
+        → Coupled (LanesApart d) (25 * chiLaneEntries + 1) (nonlinear s) (nonlinear s′)
     unfolding iota
     coupled-nonlinear d =
         let Y = iotaAt (constant i) (chiAt (r .X)) in
@@ -101,19 +105,19 @@ module _ (i : ℕ) where
         coupled-bind (coupled-chi (r .left) (r .right) b) (λ c c′ t.
         enter-c (ret-c (record { X = Y; X′ = Y′; at = apart-iota (constant-bits i) t })))
 
-    last-nonlinear : SameAt (25 * 11 + 0) (nonlinear s) (nonlinear s′)
+    last-nonlinear : SameAt (25 * chiLaneEntries + 0) (nonlinear s) (nonlinear s′)
     unfolding iota
     last-nonlinear =
         sameAt-right (coupled-chi (r .left) (r .right) {e = λ k. 0} (record { at = λ k h. zero-bits })) (λ c c′ t.
         here (ap (λ (x : ℕ). xor x (constant i)) (share-keep false (t .at none none 0 (omega arith)))) (ret-c tt))
 
-  nonlinear-stage : Stage OperandsKept LanesApart (25 * 11 + 1) nonlinear nonlinear
+  nonlinear-stage : Stage OperandsKept LanesApart (25 * chiLaneEntries + 1) nonlinear nonlinear
   unfolding anyOperands
   nonlinear-stage =
       record {
         like = λ s s′. coupled-bind (like-chi s s′) (λ c c′ t. like-iota i c c′);
-        entry = cut (EqualAt OperandsKept nonlinear nonlinear) (25 * 11) 1
-            (turns (EqualAt OperandsKept nonlinear nonlinear) 25 11 (λ l j h g. (
+        entry = cut (EqualAt OperandsKept nonlinear nonlinear) (25 * chiLaneEntries) 1
+            (turns (EqualAt OperandsKept nonlinear nonlinear) 25 chiLaneEntries (λ l j h g. (
               record { lane = l; within = h; p = chiReadsFirst j; q = chiReadsSecond j },
               λ s s′ r.
                   sameAt-left (sameAt-chi (r .both .left) (r .both .right) l j h g (r .first) (r .second))
@@ -132,25 +136,25 @@ module _ (i : ℕ) where
       ∙ ap (λ (f : List ℕ → Prog SharedList). pass (s .s0) >>= f)
       (fun-ext (λ a. bind-assoc (pass (s .s1)) (λ b. ret (sharedList a b)) nonlinear))
 
-  pub round-stage : Stage LanesApart LanesApart 326 (maskedRound i) (maskedRound i)
+  round-stage : Stage LanesApart LanesApart roundEntries (maskedRound i) (maskedRound i)
   round-stage =
-      subst (λ (f : SharedList → Prog SharedList). Stage LanesApart LanesApart 326 f f) (fun-ext round-is)
+      subst (λ (f : SharedList → Prog SharedList). Stage LanesApart LanesApart roundEntries f f) (fun-ext round-is)
       (andThen passes-stage nonlinear-stage)
 
   -- fresh, however the states before are related
   coupled-round : (s s′ : SharedList) → LanesBoth s s′ → (d : Differences)
-      → Coupled (LanesApart d) 326 (maskedRound i s) (maskedRound i s′)
+      → Coupled (LanesApart d) roundEntries (maskedRound i s) (maskedRound i s′)
   coupled-round s s′ r d =
       rw (← round-is s, ← round-is s′) (coupled-bind (both-passes s s′ r) (λ t t′ q. coupled-nonlinear q d))
 
 -- ---- the permutation
 
-pub maskedKeccakP-stage : Stage LanesApart LanesApart 7824 maskedKeccakP maskedKeccakP
+pub maskedKeccakP-stage : Stage LanesApart LanesApart keccakPEntries maskedKeccakP maskedKeccakP
 unfolding maskedKeccakP
 maskedKeccakP-stage = loop-stage {R = λ j. LanesApart} 24 (λ j h. round-stage j)
 
 pub coupled-maskedKeccakP : (s s′ : SharedList) → LanesBoth s s′ → (d : Differences)
-    → Coupled (LanesApart d) 7824 (maskedKeccakP s) (maskedKeccakP s′)
+    → Coupled (LanesApart d) keccakPEntries (maskedKeccakP s) (maskedKeccakP s′)
 unfolding maskedKeccakP loop
 coupled-maskedKeccakP s s′ r d =
     coupled-bind

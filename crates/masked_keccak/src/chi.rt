@@ -3,7 +3,7 @@ ghost use Prim.Native.Nat.{_≤_};
 ghost use lib.ListN.{length};
 ghost use Rattle.worksheet.specs.Prog.{word};
 ghost use Rattle.worksheet.specs.Ran.{MakesWith, Draws};
-ghost use Rattle.worksheet.specs.SharedList.{zip};
+ghost use Rattle.worksheet.specs.Zip.{zip};
 ghost use Rattle.masked_keccak.specs.MaskedKeccak.{chiLane, maskedChi};
 ghost use Rattle.masked_keccak.specs.SharedRows.{sharedState, sharedRow, maskedChiRow};
 use keccak::row::Row;

@@ -1,11 +1,10 @@
 // Keccak-p[1600, 24] on two shares of a state (document 01, The gadgets: Hash).
-ghost use mathlib.Core.Path.{_≡_};
 ghost use Prim.Native.Nat.{_≤_};
 ghost use lib.ListN.{length};
-ghost use Rattle.keccak.specs.KeccakP.{constant};
 ghost use Rattle.worksheet.specs.Prog.{word};
 ghost use Rattle.worksheet.specs.Ran.{Draws};
-ghost use Rattle.masked_keccak.specs.MaskedKeccak.{maskedRound, maskedKeccakP};
+ghost use Rattle.masked_keccak.specs.MaskedKeccak.{maskedRound, maskedKeccakP, roundWords, keccakPWords};
+ghost use Rattle.masked_keccak.specs.Lent.{RoundLent};
 ghost use Rattle.masked_keccak.specs.SharedRows.{sharedState};
 use crate::chi::EnteredStates;
 use crate::chi::chi;
@@ -21,9 +20,9 @@ pub mod pass; // theta, rho and pi on one share
 
 // Round i, with its constant k and 25 masks.
 fn round(rec: Recorder, a: State, b: State, ws: &[u64], i: usize, k: u64) -> EnteredStates
-    requires { ⌜ (25 ≤ length (now ws)) × (k ≡ constant i) ⌝ }
+    requires { ⌜ RoundLent i k (now ws) ⌝ }
     ensures { λ o. ⌜
-        Draws word 25 (maskedRound i (sharedState a b)) rec (now (ws .entry))
+        Draws word roundWords (maskedRound i (sharedState a b)) rec (now (ws .entry))
         (sharedState (o .s0) (o .s1)) (o .rec)
         ⌝ }
 {
@@ -46,9 +45,9 @@ fn round(rec: Recorder, a: State, b: State, ws: &[u64], i: usize, k: u64) -> Ent
 
 // The permutation of the state with the shares a and b, with 600 masks.
 pub fn permute(rec: Recorder, a: State, b: State, ws: &[u64]) -> EnteredStates
-    requires { ⌜ 600 ≤ length (now ws) ⌝ }
+    requires { ⌜ keccakPWords ≤ length (now ws) ⌝ }
     ensures { λ o. ⌜
-        Draws word 600 (maskedKeccakP (sharedState a b)) rec (now (ws .entry))
+        Draws word keccakPWords (maskedKeccakP (sharedState a b)) rec (now (ws .entry))
         (sharedState (o .s0) (o .s1)) (o .rec)
         ⌝ }
 {

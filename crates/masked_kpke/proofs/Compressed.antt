@@ -1,20 +1,29 @@
--- Planes and coefficients as masked compression leaves and takes them.
+-- Planes and coefficients as masked compression leaves and takes them, and what a turn of its loops is lent.
 use mathlib.Core.Path.{_≡_, sym, ap, _∙_}
 use mathlib.Core.List.{List, _∷_, [], _++_}
-use Prim.Native.Nat.{ℕ, _+_, _-_, _*_, _<_}
+use Prim.Native.Nat.{ℕ, _+_, _-_, _*_, _<_, _≤_}
 use native.Mathlib.Nat.{add-comm}
 use native.Mathlib.Numerals.{add-one}
 use native.Mathlib.Omega.{arith}
 use lib.ListN.{length, getD, set, take, drop, length-drop}
 use lib.Seq.{getD-drop}
-use Rattle.words.specs.Tab.{tab, length-tab, getD-tab, tab-of}
+use Rattle.words.specs.Tab.{tab}
+use Rattle.words.specs.TabLaws.{length-tab, getD-tab, tab-of}
+use Rattle.worksheet.specs.declared.Recorder.{Recorder}
 use Rattle.worksheet.specs.declared.Shares.{Shares}
+use Rattle.worksheet.specs.Prog.{Prog}
 use Rattle.worksheet.specs.Sharing.{none}
-use Rattle.worksheet.specs.SharedList.{SharedList, sharedList, sharedAt, zip}
+use Rattle.worksheet.specs.SharedList.{SharedList, sharedList, sharedAt}
+use Rattle.worksheet.specs.Zip.{zip}
 use Rattle.worksheet.specs.SharedListLaws.{zip-zero, zip-set}
 use Rattle.masked_compression.specs.Compression.{maskedCompress}
 use Rattle.masked_compression.specs.CompressionReads.{maskedCompress-cong}
+use Rattle.kpke.proofs.Concatenated.{length-span}
+use Rattle.stages.specs.Layout.{partOf}
+use Rattle.masked_kpke.specs.Slices.{Residues, CompressInput}
+use Rattle.masked_kpke.specs.SliceLaws.{residues-span}
 use Rattle.masked_kpke.proofs.Laid.{sharedAt-part}
+use Rattle.masked_kpke.proofs.StoredRun.{Written, OnWords, fits0, fits1, fits-words, length-rest}
 
 -- the first j elements of l and m are those of s from a on
 pub record Copied (a : ℕ) (s : SharedList) (l m : List ℕ) (j : ℕ) : Type 0 where
@@ -56,3 +65,32 @@ pub group-part : (d g : ℕ) (l m : List ℕ)
 group-part d g l m =
     let e : 64 * g + 64 - 64 * g ≡ 64 = omega arith in
     rw e (maskedCompress-cong d (sharedAt-part (64 * g) 64 l m))
+
+-- turn i of k is lent part i: n coefficients, w mask words, and m words for the planes
+pub compress-part : {A : Type 0} {g : SharedList → A} {p : ℕ → Prog A} {d e w m k i : ℕ} {r₀ r : Recorder}
+    {f : SharedList} {ws l l′ : List ℕ} (n : ℕ) → Written g (OnWords p w k r₀ ws) m k l l′ r i → i < k
+    → d ≤ 11 → Residues e f → n * i + n ≤ e
+    → CompressInput d n w m
+    (sharedList (take (n * i + n - n * i) (drop (n * i) (f .s0))) (take (n * i + n - n * i) (drop (n * i) (f .s1))))
+    (take (length ws - w * i) (drop (w * i) ws))
+    (sharedList (take (m * i + m - m * i) (drop (m * i) l)) (take (m * i + m - m * i) (drop (m * i) l′)))
+compress-part {w = w} {m = m} {i = i} {ws = ws} {l = l} {l′ = l′} n s h depth c fits =
+    record {
+      depth = depth;
+      input = residues-span (n * i) n fits c;
+      words = length-rest (w * i) w ws (fits-words (s .ran) h);
+      out =
+          record {
+            long0 = length-span (m * i) m l (fits0 s h);
+            long1 = length-span (m * i) m l′ (fits1 s h);
+          };
+    }
+
+-- group j of polynomial i
+pub group-of : (d i j : ℕ) (z : SharedList) → j < 4
+    → maskedCompress d (λ t. sharedAt z (64 * (4 * i + j) + t))
+    ≡ maskedCompress d (λ t. sharedAt (partOf 256 z i) (64 * j + t))
+group-of d i j z h =
+    maskedCompress-cong d (λ t l.
+    let e : 64 * (4 * i + j) + t ≡ 256 * i + (64 * j + t) = omega arith in
+    ap (sharedAt z) e ∙ sym (sharedAt-part (256 * i) 256 (z .s0) (z .s1) (64 * j + t) (omega arith)))

@@ -1,4 +1,5 @@
 pub mod Laid
+pub mod Groups
 pub mod StoredRun
 pub mod SharedInput
 pub mod Vectors

@@ -11,9 +11,10 @@ use Rattle.words.specs.Bounded.{Below}
 use Rattle.words.specs.BoundedLaws.{below-append}
 use Rattle.words.specs.Part.{part-append}
 use Rattle.words.specs.Residue.{q}
-use Rattle.words.specs.Tab.{length-tab, getD-tab}
+use Rattle.words.specs.TabLaws.{getD-tab}
 use Rattle.codec.specs.Bytes.{byteDecode12}
 use Rattle.ring.specs.Polynomial.{add}
+use Rattle.ring.specs.Linear.{length-inverseNtt}
 use Rattle.ring.specs.Sum.{length-add, below-add}
 use Rattle.ring.specs.Transform.{ntt, inverseNtt}
 use Rattle.worksheet.specs.declared.Recorder.{Recorder}
@@ -34,10 +35,6 @@ use Rattle.stages.specs.Layout.{partOf, partsBy, polynomials}
 use Rattle.masked_kpke.specs.Passes.{uPass, vPass, uvPass}
 use Rattle.masked_kpke.proofs.StoredRun.{ran-as}
 use Rattle.masked_kpke.proofs.Vectors.{length-y, y-at, e1-at, e2-at}
-
-length-inverseNtt : (f : List ℕ) → length (inverseNtt f) ≡ 256
-unfolding inverseNtt
-length-inverseNtt f = length-tab 256 _
 
 -- ---- the passes: lengths, bounds, and what they read
 

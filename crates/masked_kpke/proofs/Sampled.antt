@@ -11,15 +11,15 @@ use Rattle.worksheet.specs.declared.Shares.{Shares}
 use Rattle.worksheet.specs.Ran.{Ran}
 use Rattle.worksheet.specs.Sharing.{shares}
 use Rattle.worksheet.specs.SharedList.{SharedList}
-use Rattle.masked_fips202.specs.MaskedWords.{shake256Masks}
+use Rattle.masked_fips202.specs.MaskedWords.{shake256MaskWords}
 use Rattle.masked_sampler.specs.Coefficient.{sampler}
-use Rattle.masked_sampler.specs.Coefficient as Coefficient
+use Rattle.masked_sampler.specs.Bit as Bit
 use Rattle.masked_sampler.specs.SamplerLaws.{sampler-cong}
 use Rattle.stages.specs.Moves.{stringBit}
 
 -- SHAKE256 of the coins and a byte, 16 words
-pub bits-words : shake256Masks 33 16 ≡ 625
-unfolding shake256Masks
+pub bits-words : shake256MaskWords 33 16 ≡ 625
+unfolding shake256MaskWords
 bits-words = refl
 
 -- the word that holds coefficient i's bits, from the first of them on
@@ -35,11 +35,11 @@ bit-at l i j h =
 
 pub sampled : (w : SharedList) (i : ℕ) {b a : Shares} {r r′ : Recorder} {ws ws′ cs cs′ : List ℕ}
     → b ≡ shares (bitsFrom (w .s0) i) (bitsFrom (w .s1) i)
-    → Ran (sampler 2 (Coefficient.bitOf b)) r ws cs a r′ ws′ cs′
+    → Ran (sampler 2 (Bit.bitOf b)) r ws cs a r′ ws′ cs′
     → Ran (sampler 2 (λ j. stringBit w (2 * 2 * i + j))) r ws cs a r′ ws′ cs′
 sampled w i e h =
     rw
     (sampler-cong 2 (λ j. stringBit w (2 * 2 * i + j))
-    (Coefficient.bitOf (shares (bitsFrom (w .s0) i) (bitsFrom (w .s1) i)))
+    (Bit.bitOf (shares (bitsFrom (w .s0) i) (bitsFrom (w .s1) i)))
     (λ j g. ap₂ shares (bit-at (w .s0) i j g) (bit-at (w .s1) i j g)))
     (rw e at h)

@@ -1,5 +1,5 @@
 -- The input of a hash in two shares: four words as bytes, and a public string behind them in share 0.
-use mathlib.Core.Path.{_≡_, refl, sym, ap, ap₂, _∙_}
+use mathlib.Core.Path.{_≡_, refl, sym, ap, _∙_}
 use mathlib.Core.List.{List, _++_}
 use Prim.Native.Nat.{ℕ, zero, suc, _+_, _-_, _*_}
 use native.Mathlib.Omega.{arith}
@@ -9,11 +9,16 @@ use Rattle.words.specs.LittleEndianLaws.{length-wordsToBytes, wordsToBytes-snoc
 use Rattle.words.specs.Numeral.{digits}
 use Rattle.words.specs.Overwrite.{overwritten-start, overwritten-length, overwritten-part}
 use Rattle.words.specs.Part.{part-rest}
-use Rattle.words.specs.Tab.{tab, tab-of}
+use Rattle.words.specs.Tab.{tab}
+use Rattle.words.specs.TabLaws.{tab-of}
+use Rattle.worksheet.specs.declared.Recorder.{Recorder}
+use Rattle.worksheet.specs.Prog.{Prog}
+use Rattle.worksheet.specs.Ran.{Ran}
 use Rattle.worksheet.specs.SharedList.{SharedList, sharedList}
 use Rattle.kpke.specs.KPke.{concat}
 use Rattle.kpke.proofs.Concatenated.{two-parts}
 use Rattle.stages.specs.Moves.{four, withPublic}
+use Rattle.masked_kpke.specs.Slices.{HashInput}
 
 -- ---- words as bytes, word after word
 
@@ -45,12 +50,23 @@ zeros-behind {r₁} l k n h g e f =
 four-all : (l : List ℕ) → length l ≡ 4 → four l ≡ l
 four-all l e = sym (tab-of 0 l 4 e (λ i h. refl))
 
-module _ (w0 w1 public : List ℕ) (h0 : length w0 ≡ 4) (h1 : length w1 ≡ 4) where
-  -- the shares b0 and b1 that the code makes are those of the definition
-  pub input-of : {b0 b1 : List ℕ} → b0 ≡ wordsToBytes 8 w0 ++ public
-      → b1 ≡ wordsToBytes 8 w1 ++ replicate (length public) 0
-      → sharedList b0 b1 ≡ withPublic (sharedList w0 w1) public
-  input-of e0 e1 = rw (four-all w0 h0, four-all w1 h1) (ap₂ sharedList e0 e1)
+-- a hash P of such an input, which draws M masks for the length of its input
+module _ {len w n : ℕ} {w0 w1 public ws : List ℕ} {o : SharedList}
+    (g : HashInput len w n (sharedList w0 w1) public ws o) (P : List ℕ → List ℕ → Prog SharedList) (M : ℕ → ℕ)
+    (count : M (32 + len) ≡ w) {b0 : List ℕ} (e0 : b0 ≡ wordsToBytes 8 w0 ++ public) where
+  length-input : length b0 ≡ 32 + len
+  length-input =
+      ap length e0 ∙ length-append (wordsToBytes 8 w0) public
+      ∙ omega (arith, length-wordsToBytes 8 w0, g .input .long0, g .public)
 
-  pub length-input : {b0 : List ℕ} → b0 ≡ wordsToBytes 8 w0 ++ public → length b0 ≡ 32 + length public
-  length-input e = ap length e ∙ length-append (wordsToBytes 8 w0) public ∙ omega (arith, length-wordsToBytes 8 w0)
+  pub hash-masks : M (length b0) ≡ w
+  hash-masks = ap M length-input ∙ count
+
+  -- the shares b0 and b1 that the code makes are those of the definition
+  pub hash-ran : {b1 cs : List ℕ} {v : SharedList} {r r′ : Recorder}
+      → b1 ≡ wordsToBytes 8 w1 ++ replicate (length public) 0
+      → Ran (P b0 b1) r ws cs v r′ (drop (M (length b0)) ws) cs
+      → Ran (P (withPublic (sharedList w0 w1) public .s0) (withPublic (sharedList w0 w1) public .s1))
+      r ws cs v r′ (drop w ws) cs
+  hash-ran e1 h =
+      rw (four-all w0 (g .input .long0), four-all w1 (g .input .long1), ← e0, ← e1) (rw hash-masks at h)

@@ -23,7 +23,7 @@ module _ (k : ℕ) (y : List ℕ) {z : List ℕ} (l : length y ≡ 256 * k) (e :
       λ i g. length-part (256 * i) 256 y (omega (arith, l, part-fits 256 g)) in
       record { long = λ i g. ntt-linear .long (parts 256 y i) (long i g) }
 
-  pub length-transformed : length z ≡ 256 * k
+  length-transformed : length z ≡ 256 * k
   length-transformed = ap length e ∙ length-concat each-transformed
 
   pub transformed-at : (j : ℕ) → j < k → parts 256 z j ≡ ntt (parts 256 y j)

@@ -1,4 +1,5 @@
 pub mod Slices
 pub mod SliceLaws
+pub mod MakesResidues
 pub mod Passes
 pub mod Encryption

@@ -1,12 +1,14 @@
--- What the stages ask of the slices that are lent to them.
+-- What the functions ask of the slices that are lent to them.
 use mathlib.Core.Path.{_≡_}
 use mathlib.Core.List.{List}
-use Prim.Native.Nat.{ℕ, _≤_}
+use Prim.Native.Nat.{ℕ, _+_, _*_, _<_, _≤_}
 use lib.ListN.{length, drop}
 use Rattle.words.specs.Bounded.{Below}
 use Rattle.words.specs.Residue.{q}
 use Rattle.worksheet.specs.SharedList.{SharedList}
+use Rattle.kpke.specs.Parameters.{Parameters, vectorBytes, ekBytes, ctBytes}
 use Rattle.kpke.specs.Expanded.{Expanded}
+use Rattle.stages.specs.Worksheet.{wordCount}
 
 -- both shares have n elements
 pub record Long (n : ℕ) (s : SharedList) : Type 0 where
@@ -25,7 +27,119 @@ pub record Masks (n : ℕ) (cs : List ℕ) : Type 0 where
   pub enough : n ≤ length cs
   pub below : Below q cs
 
--- an encryption key of ML-KEM-768, and its matrix expanded
-pub record Key (ek a : List ℕ) : Type 0 where
-  pub long : length ek ≡ 1184
-  pub expanded : Expanded 3 (drop 1152 ek) a
+-- an encryption key, and its matrix expanded
+pub record ExpandedKey (p : Parameters) (ek a : List ℕ) : Type 0 where
+  pub long : length ek ≡ ekBytes p
+  pub expanded : Expanded (p .k) (drop (vectorBytes p) ek) a
+
+-- ---- decryption
+
+-- k polynomials of depth d in bytes, and m elements for what is made of them
+pub record Decoding (d k m : ℕ) (b f : List ℕ) : Type 0 where
+  pub bytes : length b ≡ 32 * d * k
+  pub some : 0 < d
+  pub most : d ≤ 11
+  pub out : length f ≡ m
+
+-- one share of the secret s times u, both of k polynomials, and w, from which the product is taken
+pub record Product (k : ℕ) (s u w : List ℕ) : Type 0 where
+  pub secret : length s ≡ 256 * k
+  pub first : length u ≡ 256 * k
+  pub out : length w ≡ 256
+
+-- stage 1: the secret, the ciphertext, and where the noisy message goes
+pub record NoisyInput (p : Parameters) (s : SharedList) (c : List ℕ) (w : SharedList) : Type 0 where
+  pub secret : Long (256 * p .k) s
+  pub ct : length c ≡ ctBytes p
+  pub out : Long 256 w
+
+-- stages 1 and 2: the secret, the ciphertext, n mask words, and where m' goes
+pub record DecryptInput (p : Parameters) (n : ℕ) (s : SharedList) (c ws : List ℕ) (m : SharedList) : Type 0 where
+  pub secret : Long (256 * p .k) s
+  pub ct : length c ≡ ctBytes p
+  pub words : n ≤ length ws
+  pub out : Long 4 m
+
+-- ---- compression to depth d at most: n coefficients, w mask words, and m words for the planes
+pub record CompressInput (d n w m : ℕ) (f : SharedList) (ws : List ℕ) (planes : SharedList) : Type 0 where
+  pub depth : d ≤ 11
+  pub input : Residues n f
+  pub words : w ≤ length ws
+  pub out : Long m planes
+
+-- ---- message and noise
+
+-- bits in n words become coefficients: m of them, with c mask coefficients
+pub record ConvertInput (n c m : ℕ) (x : SharedList) (cs : List ℕ) (f : SharedList) : Type 0 where
+  pub input : Long n x
+  pub coeffs : Masks c cs
+  pub out : Long m f
+
+-- a hash of four words and a public string of len bytes, with w mask words, to n words
+pub record HashInput (len w n : ℕ) (x : SharedList) (string ws : List ℕ) (o : SharedList) : Type 0 where
+  pub input : Long 4 x
+  pub public : length string ≡ len
+  pub words : w ≤ length ws
+  pub out : Long n o
+
+-- noise polynomials n to n + k - 1, of width 2, from the coins r
+pub record MaskedNoiseInput (n k : ℕ) (r : SharedList) (ws cs : List ℕ) (f : SharedList) : Type 0 where
+  pub numbers : n + k ≤ 256
+  pub coins : Long 4 r
+  pub words : 625 * k ≤ length ws
+  pub coeffs : Masks (1024 * k) cs
+  pub out : Long (256 * k) f
+
+-- ---- encryption
+
+-- on one share: rows i to i + m - 1 of u, for the matrix a, the transformed y and the same rows of e1
+pub record RowsInput (k i m : ℕ) (a y e1 u : List ℕ) : Type 0 where
+  pub rows : i + m ≤ k
+  pub matrix : length a ≡ 256 * k * k
+  pub vector : length y ≡ 256 * k
+  pub errors : length e1 ≡ 256 * m
+  pub out : length u ≡ 256 * m
+
+-- v, for the public vector t, the transformed y, e2 and mu
+pub record LastInput (k : ℕ) (t y e2 mu v : List ℕ) : Type 0 where
+  pub public : length t ≡ 256 * k
+  pub vector : length y ≡ 256 * k
+  pub error : length e2 ≡ 256
+  pub message : length mu ≡ 256
+  pub out : length v ≡ 256
+
+-- u and v, where n holds y, e1 and e2
+pub record ShareInput (k : ℕ) (a t n mu : List ℕ) : Type 0 where
+  pub matrix : length a ≡ 256 * k * k
+  pub public : length t ≡ 256 * k
+  pub noise : length n ≡ 256 * (2 * k + 1)
+  pub message : length mu ≡ 256
+
+-- and where they go
+pub record PassInput (k : ℕ) (a t n mu uv : List ℕ) : Type 0 where
+  pub share : ShareInput k a t n mu
+  pub out : length uv ≡ 256 * (k + 1)
+
+-- stage 6: the key and its matrix, the noise and mu
+pub record ReencryptInput (p : Parameters) (ek a : List ℕ) (n mu : SharedList) : Type 0 where
+  pub key : ExpandedKey p ek a
+  pub noise : Long (256 * (2 * p .k + 1)) n
+  pub message : Long 256 mu
+
+-- stages 6 and 7: also w mask words, and where the planes go
+pub record EncryptWithInput (p : Parameters) (w : ℕ) (ek a : List ℕ) (n mu : SharedList) (ws : List ℕ)
+    (planes : SharedList) : Type 0 where
+  pub input : ReencryptInput p ek a n mu
+  pub words : w ≤ length ws
+  pub out : Long (wordCount p) planes
+
+-- stages 4 to 7: the key and its matrix, the message, the coins, w mask words and c mask coefficients, and where the
+-- planes go
+pub record MaskedEncryptInput (p : Parameters) (w c : ℕ) (ek a : List ℕ) (m r : SharedList) (ws cs : List ℕ)
+    (planes : SharedList) : Type 0 where
+  pub key : ExpandedKey p ek a
+  pub message : Long 4 m
+  pub coins : Long 4 r
+  pub words : w ≤ length ws
+  pub coeffs : Masks c cs
+  pub out : Long (wordCount p) planes

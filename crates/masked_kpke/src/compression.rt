@@ -1,15 +1,16 @@
 // Stages 2 and 7: masked compression of polynomials.
 ghost use mathlib.Core.Path.{_≡_};
 ghost use Prim.Native.Nat.{_+_, _*_, _≤_};
-ghost use lib.ListN.{drop, length};
+ghost use lib.ListN.{drop};
 ghost use Rattle.worksheet.specs.Prog.{word, times};
 ghost use Rattle.worksheet.specs.Ran.{Draws};
-ghost use Rattle.worksheet.specs.SharedList.{sharedList, sharedAt, zip};
+ghost use Rattle.worksheet.specs.SharedList.{sharedList, sharedAt};
+ghost use Rattle.worksheet.specs.Zip.{zip};
 ghost use Rattle.masked_compression.specs.Compression.{maskedCompress};
 ghost use Rattle.kpke.specs.Parameters.{mlKem768};
-ghost use Rattle.stages.specs.Worksheet.{compressPoly, stage2 as stage2Of, stage7 as stage7Of};
-ghost use Rattle.stages.specs.Layout.{partOf, partsBy, polynomials};
-ghost use Rattle.masked_kpke.specs.Slices.{Long, Residues};
+ghost use Rattle.stages.specs.Worksheet.{stage2 as stage2Of, stage7 as stage7Of};
+ghost use Rattle.stages.specs.Layout.{partsBy, polynomials};
+ghost use Rattle.masked_kpke.specs.Slices.{Long, CompressInput};
 use masked_compression::adder::Planes;
 use masked_compression::compression::masked_compress;
 use worksheet::Recorder;
@@ -37,8 +38,8 @@ fn compress_group(
     out0: &mut [u64],
     out1: &mut [u64],
 ) -> Recorder
-    requires { ⌜ (d ≤ 11) × (3 * d + 38 ≤ length (now ws)) ⌝ }
-    requires { ⌜ Residues 64 (sharedList (now x0) (now x1)) × Long d (sharedList (now out0) (now out1)) ⌝ }
+    requires { ⌜
+        CompressInput d 64 (3 * d + 38) d (sharedList (now x0) (now x1)) (now ws) (sharedList (now out0) (now out1)) ⌝ }
     ensures { λ r. ⌜
         Draws word (3 * d + 38) (maskedCompress d (sharedAt (sharedList (now (x0 .entry)) (now (x1 .entry)))))
         rec (now (ws .entry)) (zip d (sharedList (now (out0 .exit)) (now (out1 .exit)))) r ⌝ }
@@ -48,73 +49,34 @@ fn compress_group(
     e.rec
 }
 
-// The planes of a polynomial, group by group.
-fn compress_poly(
+// The planes of n groups, one after the other.
+fn compress_groups(
     rec: Recorder,
     d: usize,
+    n: usize,
     f0: &[u16],
     f1: &[u16],
     ws: &[u64],
     out0: &mut [u64],
     out1: &mut [u64],
 ) -> Recorder
-    requires { ⌜ (d ≤ 11) × (12 * d + 152 ≤ length (now ws)) ⌝ }
-    requires { ⌜ Residues 256 (sharedList (now f0) (now f1)) × Long (4 * d) (sharedList (now out0) (now out1)) ⌝ }
+    requires { ⌜
+        CompressInput d (64 * n) ((3 * d + 38) * n) (d * n) (sharedList (now f0) (now f1)) (now ws)
+        (sharedList (now out0) (now out1)) ⌝ }
     ensures { λ r. ⌜
-        Draws word (12 * d + 152) (compressPoly d (sharedList (now (f0 .entry)) (now (f1 .entry))))
-        rec (now (ws .entry)) (zip (4 * d) (sharedList (now (out0 .exit)) (now (out1 .exit)))) r ⌝ }
+        Draws word ((3 * d + 38) * n)
+        (times n (λ g. maskedCompress d (λ i. sharedAt (sharedList (now (f0 .entry)) (now (f1 .entry))) (64 * g + i))))
+        rec (now (ws .entry)) (partsBy (zip d) d n (sharedList (now (out0 .exit)) (now (out1 .exit)))) r ⌝ }
 {
-    let n = 3 * d + 38; // masks of a group
+    let m = 3 * d + 38; // masks of a group
     let mut rec = rec;
-    for g in 0..4 {
+    for g in 0..n {
         let a = 64 * g;
         let ae = a + 64;
-        let w = n * g;
+        let w = m * g;
         let o = d * g;
         let oe = o + d;
         rec = compress_group(
-            rec,
-            d,
-            &f0[a..ae],
-            &f1[a..ae],
-            &ws[w..],
-            &mut out0[o..oe],
-            &mut out1[o..oe],
-        );
-    }
-    rec
-}
-
-// The planes of k polynomials.
-fn compress_polys(
-    rec: Recorder,
-    d: usize,
-    k: usize,
-    f0: &[u16],
-    f1: &[u16],
-    ws: &[u64],
-    out0: &mut [u64],
-    out1: &mut [u64],
-) -> Recorder
-    requires { ⌜ (d ≤ 11) × ((12 * d + 152) * k ≤ length (now ws)) ⌝ }
-    requires { ⌜
-        Residues (256 * k) (sharedList (now f0) (now f1)) × Long (4 * d * k) (sharedList (now out0) (now out1)) ⌝ }
-    ensures { λ r. ⌜
-        Draws word ((12 * d + 152) * k)
-        (times k (λ i. compressPoly d (partOf 256 (sharedList (now (f0 .entry)) (now (f1 .entry))) i)))
-        rec (now (ws .entry))
-        (partsBy (zip (4 * d)) (4 * d) k (sharedList (now (out0 .exit)) (now (out1 .exit)))) r ⌝ }
-{
-    let n = 12 * d + 152; // masks of a polynomial
-    let m = 4 * d;
-    let mut rec = rec;
-    for i in 0..k {
-        let a = 256 * i;
-        let ae = a + 256;
-        let w = n * i;
-        let o = m * i;
-        let oe = o + m;
-        rec = compress_poly(
             rec,
             d,
             &f0[a..ae],
@@ -137,13 +99,12 @@ pub fn stage2(
     m1: &mut [u64],
 ) -> Recorder
     requires { ⌜
-        Residues 256 (sharedList (now w0) (now w1)) × (164 ≤ length (now ws))
-        × Long 4 (sharedList (now m0) (now m1)) ⌝ }
+        CompressInput 1 256 164 4 (sharedList (now w0) (now w1)) (now ws) (sharedList (now m0) (now m1)) ⌝ }
     ensures { λ r. ⌜
         Draws word 164 (stage2Of (sharedList (now (w0 .entry)) (now (w1 .entry))))
         rec (now (ws .entry)) (sharedList (now (m0 .exit)) (now (m1 .exit))) r ⌝ }
 {
-    compress_poly(rec, 1, w0, w1, ws, m0, m1)
+    compress_groups(rec, 1, 4, w0, w1, ws, m0, m1)
 }
 
 // The planes of u's three polynomials, then of v.
@@ -152,33 +113,34 @@ pub fn stage7(
     uv0: &[u16],
     uv1: &[u16],
     ws: &[u64],
-    w0: &mut [u64],
-    w1: &mut [u64],
+    planes0: &mut [u64],
+    planes1: &mut [u64],
 ) -> Recorder
     requires { ⌜
-        Residues 1024 (sharedList (now uv0) (now uv1)) × (1016 ≤ length (now ws))
-        × Long 136 (sharedList (now w0) (now w1)) ⌝ }
+        CompressInput 10 1024 1016 136 (sharedList (now uv0) (now uv1)) (now ws)
+        (sharedList (now planes0) (now planes1)) ⌝ }
     ensures { λ r. ⌜
         Draws word 1016 (stage7Of mlKem768 (polynomials 4 (sharedList (now (uv0 .entry)) (now (uv1 .entry)))))
-        rec (now (ws .entry)) (zip 136 (sharedList (now (w0 .exit)) (now (w1 .exit)))) r ⌝ }
+        rec (now (ws .entry)) (zip 136 (sharedList (now (planes0 .exit)) (now (planes1 .exit)))) r ⌝ }
 {
-    let rec = compress_polys(
+    let rec = compress_groups(
         rec,
         10,
-        3,
+        12,
         &uv0[0..768],
         &uv1[0..768],
         ws,
-        &mut w0[0..120],
-        &mut w1[0..120],
+        &mut planes0[0..120],
+        &mut planes1[0..120],
     );
-    compress_poly(
+    compress_groups(
         rec,
+        4,
         4,
         &uv0[768..],
         &uv1[768..],
         &ws[816..],
-        &mut w0[120..],
-        &mut w1[120..],
+        &mut planes0[120..],
+        &mut planes1[120..],
     )
 }

@@ -1,19 +1,20 @@
 // Stages 1 and 2: masked decryption.
 ghost use mathlib.Core.List.{map};
 ghost use mathlib.Core.Path.{_≡_};
-ghost use Prim.Native.Nat.{_*_, _<_, _≤_};
+ghost use Prim.Native.Nat.{_*_};
 ghost use lib.ListN.{length};
 ghost use Rattle.codec.specs.Bytes.{byteDecode};
 ghost use Rattle.codec.specs.Compress.{decompress};
 ghost use Rattle.ring.specs.Polynomial.{sub};
 ghost use Rattle.ring.specs.Transform.{ntt as nttOf, inverseNtt};
 ghost use Rattle.worksheet.specs.Prog.{word};
-ghost use Rattle.worksheet.specs.Ran.{Makes, Draws};
+ghost use Rattle.worksheet.specs.Ran.{Draws};
 ghost use Rattle.worksheet.specs.SharedList.{sharedList};
 ghost use Rattle.kpke.specs.Parameters.{mlKem768};
 ghost use Rattle.kpke.specs.KPke.{parts, concat, dot as dotOf, firstDecoded, secondDecoded};
 ghost use Rattle.stages.specs.Worksheet.{stage1 as stage1Of, maskedDecrypt};
-ghost use Rattle.masked_kpke.specs.Slices.{Long, Residues};
+ghost use Rattle.masked_kpke.specs.MakesResidues.{MakesResidues};
+ghost use Rattle.masked_kpke.specs.Slices.{Decoding, Product, NoisyInput, DecryptInput};
 use crate::compression::stage2;
 use crate::passes::enter_both;
 use codec::byte_decode;
@@ -27,7 +28,7 @@ use worksheet::Recorder;
 
 // The polynomial that b holds at depth d.
 fn decoded(b: &[u8], d: u32, f: &mut [u16])
-    requires { ⌜ (length (now b) ≡ 32 * d) × (0 < d) × (d ≤ 11) × (length (now f) ≡ 256) ⌝ }
+    requires { ⌜ Decoding d 1 256 (now b) (now f) ⌝ }
     ensures { λ _. ⌜ now (f .exit) ≡ map (decompress d) (byteDecode d (now (b .entry))) ⌝ }
 {
     byte_decode(b, d, f);
@@ -36,7 +37,7 @@ fn decoded(b: &[u8], d: u32, f: &mut [u16])
 
 // The k polynomials that b holds.
 fn decoded_all(b: &[u8], d: u32, k: usize, u: &mut [u16])
-    requires { ⌜ (length (now b) ≡ 32 * d * k) × (0 < d) × (d ≤ 11) × (length (now u) ≡ 256 * k) ⌝ }
+    requires { ⌜ Decoding d k (256 * k) (now b) (now u) ⌝ }
     ensures { λ _. ⌜
         now (u .exit) ≡ concat k (λ i. map (decompress d) (byteDecode d (parts (32 * d) (now (b .entry)) i))) ⌝ }
 {
@@ -69,7 +70,7 @@ fn decoded_second(c: &[u8], v: &mut [u16])
 
 // A pass on one share: its product with u, transformed back, is taken from w.
 fn take_product(s: &[u16], u: &[u16], w: &mut [u16])
-    requires { ⌜ (length (now s) ≡ 768) × (length (now u) ≡ 768) × (length (now w) ≡ 256) ⌝ }
+    requires { ⌜ Product 3 (now s) (now u) (now w) ⌝ }
     ensures { λ _. ⌜
         now (w .exit)
         ≡ sub (now (w .entry)) (inverseNtt (dotOf 3 (parts 256 (now (s .entry))) (parts 256 (now (u .entry))))) ⌝ }
@@ -89,12 +90,10 @@ fn stage1(
     w0: &mut [u16],
     w1: &mut [u16],
 ) -> Recorder
-    requires { ⌜
-        Long 768 (sharedList (now s0) (now s1)) × (length (now c) ≡ 1088) × Long 256 (sharedList (now w0) (now w1)) ⌝ }
+    requires { ⌜ NoisyInput mlKem768 (sharedList (now s0) (now s1)) (now c) (sharedList (now w0) (now w1)) ⌝ }
     ensures { λ r. ⌜
-        Makes (stage1Of mlKem768 (sharedList (now (s0 .entry)) (now (s1 .entry))) (now (c .entry)))
-        rec (sharedList (now (w0 .exit)) (now (w1 .exit))) r ⌝ }
-    ensures { λ _. ⌜ Residues 256 (sharedList (now (w0 .exit)) (now (w1 .exit))) ⌝ }
+        MakesResidues (stage1Of mlKem768 (sharedList (now (s0 .entry)) (now (s1 .entry))) (now (c .entry)))
+        rec 256 (λ w. w) (sharedList (now (w0 .exit)) (now (w1 .exit))) r ⌝ }
 {
     let mut u = [0u16; 768];
     transformed_first(c, &mut u);
@@ -115,8 +114,8 @@ pub fn masked_decrypt(
     m0: &mut [u64],
     m1: &mut [u64],
 ) -> Recorder
-    requires { ⌜ Long 768 (sharedList (now s0) (now s1)) × (length (now c) ≡ 1088) ⌝ }
-    requires { ⌜ (164 ≤ length (now ws)) × Long 4 (sharedList (now m0) (now m1)) ⌝ }
+    requires { ⌜
+        DecryptInput mlKem768 164 (sharedList (now s0) (now s1)) (now c) (now ws) (sharedList (now m0) (now m1)) ⌝ }
     ensures { λ r. ⌜
         Draws word 164 (maskedDecrypt mlKem768 (sharedList (now (s0 .entry)) (now (s1 .entry))) (now (c .entry)))
         rec (now (ws .entry)) (sharedList (now (m0 .exit)) (now (m1 .exit))) r ⌝ }

@@ -1,14 +1,14 @@
 // Stages 4 to 7: masked encryption.
-ghost use Prim.Native.Nat.{_≤_};
-ghost use lib.ListN.{length, drop};
+ghost use lib.ListN.{drop};
 ghost use Rattle.worksheet.specs.Prog.{word};
 ghost use Rattle.worksheet.specs.Ran.{Ran, Draws};
-ghost use Rattle.worksheet.specs.SharedList.{sharedList, zip};
+ghost use Rattle.worksheet.specs.SharedList.{sharedList};
+ghost use Rattle.worksheet.specs.Zip.{zip};
 ghost use Rattle.kpke.specs.Parameters.{mlKem768};
 ghost use Rattle.stages.specs.Worksheet.{maskedEncrypt};
 ghost use Rattle.stages.specs.Layout.{polynomials};
 ghost use Rattle.masked_kpke.specs.Encryption.{encryptWith};
-ghost use Rattle.masked_kpke.specs.Slices.{Long, Masks, Key};
+ghost use Rattle.masked_kpke.specs.Slices.{EncryptWithInput, MaskedEncryptInput};
 use crate::compression::stage7;
 use crate::message::stage4;
 use crate::noise::stage5;
@@ -25,19 +25,20 @@ fn encrypt_with(
     mu0: &[u16],
     mu1: &[u16],
     ws: &[u64],
-    w0: &mut [u64],
-    w1: &mut [u64],
+    planes0: &mut [u64],
+    planes1: &mut [u64],
 ) -> Recorder
-    requires { ⌜ Key (now ek) (now a) × Long 1792 (sharedList (now n0) (now n1)) × (1016 ≤ length (now ws)) ⌝ }
-    requires { ⌜ Long 256 (sharedList (now mu0) (now mu1)) × Long 136 (sharedList (now w0) (now w1)) ⌝ }
+    requires { ⌜
+        EncryptWithInput mlKem768 1016 (now ek) (now a) (sharedList (now n0) (now n1))
+        (sharedList (now mu0) (now mu1)) (now ws) (sharedList (now planes0) (now planes1)) ⌝ }
     ensures { λ r. ⌜
         Draws word 1016
         (encryptWith mlKem768 (now (ek .entry)) (polynomials 7 (sharedList (now (n0 .entry)) (now (n1 .entry))))
         (sharedList (now (mu0 .entry)) (now (mu1 .entry))))
-        rec (now (ws .entry)) (zip 136 (sharedList (now (w0 .exit)) (now (w1 .exit)))) r ⌝ }
+        rec (now (ws .entry)) (zip 136 (sharedList (now (planes0 .exit)) (now (planes1 .exit)))) r ⌝ }
 {
     let rec = stage6(rec, a, ek, n0, n1, mu0, mu1);
-    stage7(rec, &n0[0..1024], &n1[0..1024], ws, w0, w1)
+    stage7(rec, &n0[0..1024], &n1[0..1024], ws, planes0, planes1)
 }
 
 // The planes of the ciphertext of m0, m1 under the coins r0, r1, for the matrix a.
@@ -51,17 +52,17 @@ pub fn masked_encrypt(
     r1: &[u64],
     ws: &[u64],
     cs: &[u16],
-    w0: &mut [u64],
-    w1: &mut [u64],
+    planes0: &mut [u64],
+    planes1: &mut [u64],
 ) -> Recorder
     requires { ⌜
-        Key (now ek) (now a) × Long 4 (sharedList (now m0) (now m1)) × Long 4 (sharedList (now r0) (now r1)) ⌝ }
-    requires { ⌜ (5391 ≤ length (now ws)) × Masks 7424 (now cs) × Long 136 (sharedList (now w0) (now w1)) ⌝ }
+        MaskedEncryptInput mlKem768 5391 7424 (now ek) (now a) (sharedList (now m0) (now m1)) (sharedList (now r0) (now r1))
+        (now ws) (now cs) (sharedList (now planes0) (now planes1)) ⌝ }
     ensures { λ r. ⌜
         Ran
         (maskedEncrypt mlKem768 (now (ek .entry)) (sharedList (now (m0 .entry)) (now (m1 .entry)))
         (sharedList (now (r0 .entry)) (now (r1 .entry))))
-        rec (now (ws .entry)) (now (cs .entry)) (zip 136 (sharedList (now (w0 .exit)) (now (w1 .exit))))
+        rec (now (ws .entry)) (now (cs .entry)) (zip 136 (sharedList (now (planes0 .exit)) (now (planes1 .exit))))
         r (drop 5391 (now (ws .entry))) (drop 7424 (now (cs .entry))) ⌝ }
 {
     let mut mu0 = [0u16; 256];
@@ -79,7 +80,7 @@ pub fn masked_encrypt(
         &mu0,
         &mu1,
         &ws[4375..],
-        w0,
-        w1,
+        planes0,
+        planes1,
     )
 }

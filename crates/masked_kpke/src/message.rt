@@ -3,7 +3,7 @@ ghost use Rattle.worksheet.specs.Prog.{coeff};
 ghost use Rattle.worksheet.specs.Ran.{Draws};
 ghost use Rattle.worksheet.specs.SharedList.{sharedList};
 ghost use Rattle.stages.specs.Worksheet.{stage4 as stage4Of};
-ghost use Rattle.masked_kpke.specs.Slices.{Long, Masks};
+ghost use Rattle.masked_kpke.specs.Slices.{ConvertInput};
 use masked_sampler::coefficient::bit_of;
 use masked_sampler::coefficient::bit_to_coeff;
 use worksheet::Recorder;
@@ -19,7 +19,7 @@ pub fn stage4(
     mu1: &mut [u16],
 ) -> Recorder
     requires { ⌜
-        Long 4 (sharedList (now m0) (now m1)) × Masks 256 (now cs) × Long 256 (sharedList (now mu0) (now mu1)) ⌝ }
+        ConvertInput 4 256 256 (sharedList (now m0) (now m1)) (now cs) (sharedList (now mu0) (now mu1)) ⌝ }
     ensures { λ r. ⌜
         Draws coeff 256 (stage4Of (sharedList (now (m0 .entry)) (now (m1 .entry))))
         rec (now (cs .entry)) (sharedList (now (mu0 .exit)) (now (mu1 .exit))) r ⌝ }

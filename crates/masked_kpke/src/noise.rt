@@ -1,11 +1,12 @@
 // Stage 5: the noise of re-encryption.
 ghost use mathlib.Core.List.{[], _∷_};
 ghost use mathlib.Core.Path.{_≡_};
-ghost use Prim.Native.Nat.{_+_, _*_, _/_, _^_, _<_, _≤_};
-ghost use lib.ListN.{length, drop};
+ghost use Prim.Native.Nat.{_+_, _*_, _/_, _^_, _<_};
+ghost use lib.ListN.{drop};
 ghost use Rattle.worksheet.specs.Prog.{times, word, coeff};
 ghost use Rattle.worksheet.specs.Ran.{Ran, Draws};
-ghost use Rattle.worksheet.specs.SharedList.{sharedList, zip};
+ghost use Rattle.worksheet.specs.SharedList.{sharedList};
+ghost use Rattle.worksheet.specs.Zip.{zip};
 ghost use Rattle.worksheet.specs.Sharing.{shares};
 ghost use Rattle.masked_fips202.specs.MaskedWords.{maskedShake256Words};
 ghost use Rattle.masked_sampler.specs.Coefficient.{sampler as samplerOf};
@@ -13,7 +14,7 @@ ghost use Rattle.kpke.specs.Parameters.{mlKem768};
 ghost use Rattle.stages.specs.Moves.{stringBit, withPublic};
 ghost use Rattle.stages.specs.Worksheet.{noisePoly, stage5 as stage5Of};
 ghost use Rattle.stages.specs.Layout.{polynomials};
-ghost use Rattle.masked_kpke.specs.Slices.{Long, Masks};
+ghost use Rattle.masked_kpke.specs.Slices.{ConvertInput, HashInput, MaskedNoiseInput};
 use crate::shared_input::with_public;
 use crate::shared_input::with_zeros;
 use masked_fips202::masked_words::masked_shake256_words;
@@ -42,7 +43,7 @@ fn sample_all(
     f1: &mut [u16],
 ) -> Recorder
     requires { ⌜
-        Long 16 (sharedList (now o0) (now o1)) × Masks 1024 (now cs) × Long 256 (sharedList (now f0) (now f1)) ⌝ }
+        ConvertInput 16 1024 256 (sharedList (now o0) (now o1)) (now cs) (sharedList (now f0) (now f1)) ⌝ }
     ensures { λ r. ⌜
         Draws coeff 1024
         (times 256 (λ i. samplerOf 2 (λ j. stringBit (sharedList (now (o0 .entry)) (now (o1 .entry))) (2 * 2 * i + j))))
@@ -71,7 +72,7 @@ fn noise_bits(
     o1: &mut [u64],
 ) -> Recorder
     requires { ⌜
-        Long 4 (sharedList (now r0) (now r1)) × (625 ≤ length (now ws)) × Long 16 (sharedList (now o0) (now o1)) ⌝ }
+        HashInput 1 625 16 (sharedList (now r0) (now r1)) (n ∷ []) (now ws) (sharedList (now o0) (now o1)) ⌝ }
     ensures { λ r. ⌜
         Draws word 625
         (maskedShake256Words (withPublic (sharedList (now (r0 .entry)) (now (r1 .entry))) (n ∷ []) .s0)
@@ -97,8 +98,8 @@ fn noise_poly(
     f0: &mut [u16],
     f1: &mut [u16],
 ) -> Recorder
-    requires { ⌜ Long 4 (sharedList (now r0) (now r1)) × (625 ≤ length (now ws)) × Masks 1024 (now cs) ⌝ }
-    requires { ⌜ Long 256 (sharedList (now f0) (now f1)) ⌝ }
+    requires { ⌜
+        MaskedNoiseInput n 1 (sharedList (now r0) (now r1)) (now ws) (now cs) (sharedList (now f0) (now f1)) ⌝ }
     ensures { λ r. ⌜
         Ran (noisePoly 2 (sharedList (now (r0 .entry)) (now (r1 .entry))) n)
         rec (now (ws .entry)) (now (cs .entry)) (sharedList (now (f0 .exit)) (now (f1 .exit)))
@@ -123,9 +124,7 @@ fn noise_polys(
     f1: &mut [u16],
 ) -> Recorder
     requires { ⌜
-        Long 4 (sharedList (now r0) (now r1)) × (n + k ≤ 256) × (625 * k ≤ length (now ws))
-        × Masks (1024 * k) (now cs) ⌝ }
-    requires { ⌜ Long (256 * k) (sharedList (now f0) (now f1)) ⌝ }
+        MaskedNoiseInput n k (sharedList (now r0) (now r1)) (now ws) (now cs) (sharedList (now f0) (now f1)) ⌝ }
     ensures { λ r. ⌜
         Ran (times k (λ i. noisePoly 2 (sharedList (now (r0 .entry)) (now (r1 .entry))) (n + i)))
         rec (now (ws .entry)) (now (cs .entry)) (polynomials k (sharedList (now (f0 .exit)) (now (f1 .exit))))
@@ -161,8 +160,8 @@ pub fn stage5(
     n0: &mut [u16],
     n1: &mut [u16],
 ) -> Recorder
-    requires { ⌜ Long 4 (sharedList (now r0) (now r1)) × (4375 ≤ length (now ws)) × Masks 7168 (now cs) ⌝ }
-    requires { ⌜ Long 1792 (sharedList (now n0) (now n1)) ⌝ }
+    requires { ⌜
+        MaskedNoiseInput 0 7 (sharedList (now r0) (now r1)) (now ws) (now cs) (sharedList (now n0) (now n1)) ⌝ }
     ensures { λ r. ⌜
         Ran (stage5Of mlKem768 (sharedList (now (r0 .entry)) (now (r1 .entry))))
         rec (now (ws .entry)) (now (cs .entry)) (polynomials 7 (sharedList (now (n0 .exit)) (now (n1 .exit))))

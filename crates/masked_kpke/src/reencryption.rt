@@ -1,8 +1,6 @@
 // Stage 6: re-encryption, share by share.
 ghost use mathlib.Core.Path.{_≡_};
-ghost use Prim.Native.Nat.{_*_, _<_};
-ghost use lib.ListN.{length, take};
-ghost use Rattle.worksheet.specs.Ran.{Makes};
+ghost use lib.ListN.{take};
 ghost use Rattle.worksheet.specs.SharedList.{sharedList};
 ghost use Rattle.kpke.specs.Parameters.{mlKem768};
 ghost use Rattle.kpke.specs.KPke.{parts, concat};
@@ -10,7 +8,8 @@ ghost use Rattle.kpke.specs.Expanded.{placesOf};
 ghost use Rattle.stages.specs.Worksheet.{stage6 as stage6Of};
 ghost use Rattle.stages.specs.Layout.{polynomials};
 ghost use Rattle.masked_kpke.specs.Passes.{uPass, vPass, uvPass};
-ghost use Rattle.masked_kpke.specs.Slices.{Long, Residues, Key};
+ghost use Rattle.masked_kpke.specs.MakesResidues.{MakesResidues};
+ghost use Rattle.masked_kpke.specs.Slices.{RowsInput, LastInput, ShareInput, PassInput, ReencryptInput};
 use crate::passes::enter_polynomials;
 use kpke::copy::copy_coefficients;
 use kpke::vector::decode12_all;
@@ -22,9 +21,7 @@ use worksheet::Recorder;
 
 // Row i of u, for the matrix a, the transformed y and row i of e1.
 fn u_pass(a: &[u16], y: &[u16], e1: &[u16], k: usize, i: usize, u: &mut [u16])
-    requires { ⌜
-        (length (now a) ≡ 256 * k * k) × (length (now y) ≡ 256 * k) × (length (now e1) ≡ 256) × (i < k)
-        × (length (now u) ≡ 256) ⌝ }
+    requires { ⌜ RowsInput k i 1 (now a) (now y) (now e1) (now u) ⌝ }
     ensures { λ _. ⌜
         now (u .exit) ≡ uPass k (placesOf k (now (a .entry))) (parts 256 (now (y .entry))) (now (e1 .entry)) i ⌝ }
 {
@@ -34,9 +31,7 @@ fn u_pass(a: &[u16], y: &[u16], e1: &[u16], k: usize, i: usize, u: &mut [u16])
 }
 
 fn u_passes(a: &[u16], y: &[u16], e1: &[u16], k: usize, u: &mut [u16])
-    requires { ⌜
-        (length (now a) ≡ 256 * k * k) × (length (now y) ≡ 256 * k) × (length (now e1) ≡ 256 * k)
-        × (length (now u) ≡ 256 * k) ⌝ }
+    requires { ⌜ RowsInput k 0 k (now a) (now y) (now e1) (now u) ⌝ }
     ensures { λ _. ⌜
         now (u .exit)
         ≡ concat k (λ i.
@@ -50,9 +45,7 @@ fn u_passes(a: &[u16], y: &[u16], e1: &[u16], k: usize, u: &mut [u16])
 }
 
 fn v_pass(t: &[u16], y: &[u16], e2: &[u16], mu: &[u16], k: usize, v: &mut [u16])
-    requires { ⌜
-        (length (now t) ≡ 256 * k) × (length (now y) ≡ 256 * k) × (length (now e2) ≡ 256) × (length (now mu) ≡ 256)
-        × (length (now v) ≡ 256) ⌝ }
+    requires { ⌜ LastInput k (now t) (now y) (now e2) (now mu) (now v) ⌝ }
     ensures { λ _. ⌜
         now (v .exit)
         ≡ vPass k (parts 256 (now (t .entry))) (parts 256 (now (y .entry))) (now (e2 .entry)) (now (mu .entry)) ⌝ }
@@ -65,9 +58,7 @@ fn v_pass(t: &[u16], y: &[u16], e2: &[u16], mu: &[u16], k: usize, v: &mut [u16])
 
 // A pass on one share, of which n holds y, e1 and e2: u, then v. It transforms y where it stands.
 fn uv_pass(a: &[u16], t: &[u16], n: &mut [u16], mu: &[u16], uv: &mut [u16])
-    requires { ⌜
-        (length (now a) ≡ 2304) × (length (now t) ≡ 768) × (length (now n) ≡ 1792) × (length (now mu) ≡ 256)
-        × (length (now uv) ≡ 1024) ⌝ }
+    requires { ⌜ PassInput 3 (now a) (now t) (now n) (now mu) (now uv) ⌝ }
     ensures { λ _. ⌜
         now (uv .exit)
         ≡ uvPass 3 (placesOf 3 (now (a .entry))) (parts 256 (now (t .entry))) (parts 256 (now (n .entry)))
@@ -80,8 +71,7 @@ fn uv_pass(a: &[u16], t: &[u16], n: &mut [u16], mu: &[u16], uv: &mut [u16])
 
 // u and v of one share take the first places of its noise.
 fn uv_in_place(a: &[u16], t: &[u16], n: &mut [u16], mu: &[u16])
-    requires { ⌜
-        (length (now a) ≡ 2304) × (length (now t) ≡ 768) × (length (now n) ≡ 1792) × (length (now mu) ≡ 256) ⌝ }
+    requires { ⌜ ShareInput 3 (now a) (now t) (now n) (now mu) ⌝ }
     ensures { λ _. ⌜
         take 1024 (now (n .exit))
         ≡ uvPass 3 (placesOf 3 (now (a .entry))) (parts 256 (now (t .entry))) (parts 256 (now (n .entry)))
@@ -102,14 +92,13 @@ pub fn stage6(
     mu0: &[u16],
     mu1: &[u16],
 ) -> Recorder
-    requires { ⌜ Key (now ek) (now a) × Long 1792 (sharedList (now n0) (now n1)) ⌝ }
-    requires { ⌜ Long 256 (sharedList (now mu0) (now mu1)) ⌝ }
+    requires { ⌜
+        ReencryptInput mlKem768 (now ek) (now a) (sharedList (now n0) (now n1)) (sharedList (now mu0) (now mu1)) ⌝ }
     ensures { λ r. ⌜
-        Makes
+        MakesResidues
         (stage6Of mlKem768 (now (ek .entry)) (polynomials 7 (sharedList (now (n0 .entry)) (now (n1 .entry))))
         (sharedList (now (mu0 .entry)) (now (mu1 .entry))))
-        rec (polynomials 4 (sharedList (take 1024 (now (n0 .exit))) (take 1024 (now (n1 .exit))))) r ⌝ }
-    ensures { λ _. ⌜ Residues 1024 (sharedList (take 1024 (now (n0 .exit))) (take 1024 (now (n1 .exit)))) ⌝ }
+        rec 1024 (polynomials 4) (sharedList (take 1024 (now (n0 .exit))) (take 1024 (now (n1 .exit)))) r ⌝ }
 {
     let mut t = [0u16; 768];
     decode12_all(&ek[0..1152], 3, &mut t);

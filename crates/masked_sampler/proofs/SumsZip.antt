@@ -8,7 +8,8 @@ use Rattle.worksheet.specs.declared.Shares.{Shares}
 use Rattle.worksheet.specs.Sharing.{none}
 use Rattle.masked_sampler.specs.Coefficient.{sums}
 use Rattle.masked_sampler.specs.SamplerLaws.{sums-cong}
-use Rattle.worksheet.specs.SharedList.{sharedList, zip}
+use Rattle.worksheet.specs.SharedList.{sharedList}
+use Rattle.worksheet.specs.Zip.{zip}
 use Rattle.worksheet.specs.SharedListLaws.{getD-zip}
 
 module _ (k n : ℕ) (l m : List ℕ) (h : n < k) where

@@ -5,15 +5,10 @@ use Prim.Native.Nat.{ℕ, _+_, _-_, _*_, _%_}
 use lib.Dec.{eqb, ltb}
 use lib.ListN.{getD}
 use Rattle.words.specs.Word.{xor}
-use Rattle.words.specs.Digit.{digit}
 use Rattle.words.specs.Residue.{q}
 use Rattle.worksheet.specs.declared.Shares.{Shares}
 use Rattle.worksheet.specs.Prog.{Prog, coeff, ret, _>>=_, mask, entry, loop, times}
 use Rattle.worksheet.specs.Sharing.{shares, none}
-
--- bit j of a word in two shares
-abbrev pub bitOf : Shares → ℕ → Shares
-bitOf w j = shares (digit j (w .s0)) (digit j (w .s1))
 
 -- T[i]
 abbrev pub tableValue : ℕ → ℕ → ℕ → ℕ → ℕ
@@ -27,6 +22,10 @@ bitToCoeff w b = do
   a0 ← entry (cond (eqb (b .s0) 0) t0 t1)
   a1 ← entry ((q - r) % q)
   ret (shares a0 a1)
+
+-- its mask coefficients
+abbrev pub bitToCoeffCoeffs : ℕ
+bitToCoeffCoeffs = 1
 
 -- n + 1 numbers added modulo q from the left, n sums
 unfoldable pub sums : ℕ → (ℕ → ℕ) → Prog ℕ
@@ -48,9 +47,6 @@ sampler eta b = do
   s1 ← sums (2 * eta - 1) (λ j. getD z j none .s1)
   ret (shares s0 s1)
 
--- its entries and mask coefficients: four and one for a conversion, one for a sum
-unfoldable pub samplerEntries : ℕ → ℕ
-samplerEntries eta = 2 * eta * 4 + ((2 * eta - 1) * 1 + (2 * eta - 1) * 1)
-
-unfoldable pub samplerCoeffs : ℕ → ℕ
+-- its mask coefficients: one for a conversion
+abbrev pub samplerCoeffs : ℕ → ℕ
 samplerCoeffs eta = 2 * eta

@@ -15,9 +15,10 @@ use Rattle.worksheet.specs.Uses.{Uses, ret-u, coeff-u, enter-u}
 use Rattle.worksheet.specs.Gives.{Gives, ret-g, draw-g, enter-g, gives-weaken}
 use Rattle.worksheet.specs.Sharing.{shares, joined}
 use Rattle.worksheet.specs.CoeffSharing.{CoeffSharing}
-use Rattle.masked_sampler.specs.Coefficient.{bitToCoeff, tableValue}
+use Rattle.masked_sampler.specs.Coefficient.{bitToCoeff, tableValue, bitToCoeffCoeffs}
+use Rattle.masked_sampler.specs.EntryCounts.{bitToCoeffEntries}
 
-pub uses-bitToCoeff : (w : ℕ) (b : Shares) → Uses 4 0 1 (bitToCoeff w b)
+pub uses-bitToCoeff : (w : ℕ) (b : Shares) → Uses bitToCoeffEntries 0 bitToCoeffCoeffs (bitToCoeff w b)
 unfolding bitToCoeff mask entry _>>=_
 uses-bitToCoeff w b = coeff-u (λ r. enter-u (enter-u (enter-u (enter-u ret-u))))
 

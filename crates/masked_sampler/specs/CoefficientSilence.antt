@@ -15,6 +15,7 @@ use Rattle.worksheet.specs.Matching.{identity, byAdding}
 use Rattle.worksheet.specs.SharingLaws.{share}
 use Rattle.worksheet.specs.CoeffSharing.{CoeffApart, coeffKeep, share-coeffKeep}
 use Rattle.masked_sampler.specs.Coefficient.{bitToCoeff}
+use Rattle.masked_sampler.specs.EntryCounts.{bitToCoeffEntries}
 use Rattle.masked_sampler.specs.CoefficientLaws.{mod-q-lt, coeffOf, cond-table, coeffSharing-result}
 
 -- the constant by which masks are matched so that v and v′ masked differ by d
@@ -44,13 +45,14 @@ add-constant v v′ d r =
 same-masked : (v v′ r : ℕ) → (v + r) % q ≡ (v′ + (r + constant v v′ 0) % q) % q
 same-masked v v′ r = sym (add-constant v v′ 0 r ∙ ap (λ (t : ℕ). t % q) (add-zero ((v + r) % q)) ∙ mod-mod (v + r) q)
 
-pub like-bitToCoeff : (w : ℕ) (b b′ : Shares) → Like 4 (bitToCoeff w b) (bitToCoeff w b′)
+pub like-bitToCoeff : (w : ℕ) (b b′ : Shares) → Like bitToCoeffEntries (bitToCoeff w b) (bitToCoeff w b′)
 unfolding bitToCoeff mask entry _>>=_ identity
 like-bitToCoeff w b b′ = draw-c identity (λ r h. enter-c (enter-c (enter-c (enter-c (ret-c tt)))))
 
 -- the result is fresh
 pub coupled-bitToCoeff : (w : ℕ) (b b′ : Shares) (d : ℕ)
-    → Coupled (CoeffApart q d (coeffOf w b % q) (coeffOf w b′ % q)) 4 (bitToCoeff w b) (bitToCoeff w b′)
+    → Coupled (CoeffApart q d (coeffOf w b % q) (coeffOf w b′ % q)) bitToCoeffEntries (bitToCoeff w b)
+    (bitToCoeff w b′)
 unfolding bitToCoeff mask entry _>>=_ byAdding coeffOf
 coupled-bitToCoeff w b b′ d =
     draw-c (byAdding (constant-lt (coeffOf w b) (coeffOf w b′) d)) (λ r h.
@@ -67,12 +69,12 @@ coupled-bitToCoeff w b b′ d =
 
 -- so that share c is equal
 pub coupled-bitToCoeff-share : (c : Bool) (w : ℕ) (b b′ : Shares)
-    → Coupled (λ z z′. share c z ≡ share c z′) 4 (bitToCoeff w b) (bitToCoeff w b′)
+    → Coupled (λ z z′. share c z ≡ share c z′) bitToCoeffEntries (bitToCoeff w b) (bitToCoeff w b′)
 coupled-bitToCoeff-share c w b b′ =
     coupled-weaken (λ z z′ a. share-coeffKeep c a)
     (coupled-bitToCoeff w b b′ (coeffKeep q c (coeffOf w b % q) (coeffOf w b′ % q)))
 
-pub silent-bitToCoeff : (w : ℕ) (b b′ : Shares) → Silent 4 (bitToCoeff w b) (bitToCoeff w b′)
+pub silent-bitToCoeff : (w : ℕ) (b b′ : Shares) → Silent bitToCoeffEntries (bitToCoeff w b) (bitToCoeff w b′)
 unfolding bitToCoeff mask entry _>>=_ byAdding identity coeffOf
 silent-bitToCoeff w b b′ zero h =
     let v = xor 0 (b .s1) * w in

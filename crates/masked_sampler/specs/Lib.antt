@@ -1,4 +1,7 @@
 pub mod Coefficient
+pub mod Bit
+pub mod EntryCounts
+pub mod Lent
 pub mod CoefficientLaws
 pub mod CoefficientSilence
 pub mod SamplerLaws

@@ -13,7 +13,8 @@ use Rattle.worksheet.specs.Sharing.{none}
 use Rattle.worksheet.specs.SharingLaws.{share}
 use Rattle.worksheet.specs.SharedList.{SharedList, unzip}
 use Rattle.worksheet.specs.Choice.{SameShare, sameShare-unzip}
-use Rattle.masked_sampler.specs.Coefficient.{bitToCoeff, sampler, samplerEntries}
+use Rattle.masked_sampler.specs.Coefficient.{bitToCoeff, sampler}
+use Rattle.masked_sampler.specs.EntryCounts.{bitToCoeffEntries, samplerEntries}
 use Rattle.masked_sampler.specs.CoefficientSilence.{like-bitToCoeff, silent-bitToCoeff, coupled-bitToCoeff-share}
 use Rattle.masked_sampler.specs.SamplerSilence.{like-sampler, silent-sampler, coupled-sampler-share}
 
@@ -47,7 +48,8 @@ module _ {A B : Type 0} (n : ℕ) {m : ℕ} {f : A → ℕ → Prog Shares} {f�
 abbrev pub bitsToCoeffs : ℕ → ℕ → (ℕ → Shares) → Prog SharedList
 bitsToCoeffs n w b = polynomial n (λ i. bitToCoeff w (b i))
 
-pub bitsToCoeffs-stage : (n w : ℕ) → Stage Anything SameShare (n * 4) (bitsToCoeffs n w) (bitsToCoeffs n w)
+pub bitsToCoeffs-stage : (n w : ℕ) → Stage Anything SameShare (n * bitToCoeffEntries) (bitsToCoeffs n w)
+    (bitsToCoeffs n w)
 bitsToCoeffs-stage n w =
     polynomial-stage n (λ b b′ i. like-bitToCoeff w (b i) (b′ i)) (λ b b′ i. silent-bitToCoeff w (b i) (b′ i))
     (λ c b b′ i. coupled-bitToCoeff-share c w (b i) (b′ i))

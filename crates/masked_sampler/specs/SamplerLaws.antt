@@ -9,7 +9,8 @@ use native.Mathlib.Omega.{arith}
 use lib.ListN.{length, getD}
 use borrow.Author.Tests.{lt-ltb, le-ltb}
 use Rattle.words.specs.Residue.{q}
-use Rattle.words.specs.Tab.{tab, getD-tab, tab-add, tab-cong, tab-part}
+use Rattle.words.specs.Tab.{tab}
+use Rattle.words.specs.TabLaws.{getD-tab, tab-add, tab-cong, tab-part}
 use Rattle.ring.specs.Polynomial.{minus}
 use Rattle.codec.specs.Bytes.{bitsOf}
 use Rattle.codec.specs.BytesLaws.{length-bitsOf}
@@ -21,7 +22,8 @@ use Rattle.worksheet.specs.Uses.{Uses, ret-u, enter-u, uses-bind, uses-map, use
 use Rattle.worksheet.specs.Gives.{Gives, ret-g, enter-g, gives-bind, gives-loop, gives-times}
 use Rattle.worksheet.specs.Sharing.{shares, joined, none}
 use Rattle.worksheet.specs.CoeffSharing.{CoeffSharing, coeffSharing-addShares}
-use Rattle.masked_sampler.specs.Coefficient.{bitToCoeff, sums, weight, sampler, samplerEntries, samplerCoeffs}
+use Rattle.masked_sampler.specs.Coefficient.{bitToCoeff, sums, weight, sampler, samplerCoeffs}
+use Rattle.masked_sampler.specs.EntryCounts.{samplerEntries}
 use Rattle.masked_sampler.specs.CoefficientLaws.{uses-bitToCoeff, gives-bitToCoeff}
 
 pub weight-lt : (eta j : ℕ) → j < eta → weight eta j ≡ 1
@@ -87,7 +89,7 @@ sumTo-mod x (suc n) =
 -- ---- the sampler
 
 pub uses-sampler : (eta : ℕ) (b : ℕ → Shares) → Uses (samplerEntries eta) 0 (samplerCoeffs eta) (sampler eta b)
-unfolding sampler samplerEntries samplerCoeffs
+unfolding sampler samplerEntries
 uses-sampler eta b =
     uses-recount (omega arith) (omega arith) (omega arith)
     (uses-bind (uses-times (2 * eta) (λ j. uses-bitToCoeff (weight eta j) (b j))) (λ z.

@@ -19,7 +19,8 @@ use Rattle.worksheet.specs.Sharing.{shares, none}
 use Rattle.worksheet.specs.SharingLaws.{share}
 use Rattle.worksheet.specs.CoeffSharing.{CoeffApart, coeffApart-cong, coeffApart-addShares}
 use Rattle.worksheet.specs.CoeffSharing.{coeffKeep, coeffKeep-lt, share-coeffKeep}
-use Rattle.masked_sampler.specs.Coefficient.{bitToCoeff, sums, weight, sampler, samplerEntries}
+use Rattle.masked_sampler.specs.Coefficient.{bitToCoeff, sums, weight, sampler}
+use Rattle.masked_sampler.specs.EntryCounts.{bitToCoeffEntries, samplerEntries}
 use Rattle.masked_sampler.specs.CoefficientLaws.{coeffOf}
 use Rattle.masked_sampler.specs.SamplerLaws.{sumTo}
 use Rattle.masked_sampler.specs.CoefficientSilence.{like-bitToCoeff, coupled-bitToCoeff, silent-bitToCoeff}
@@ -31,7 +32,7 @@ pub record Sums (x x′ : ℕ → ℕ) (n s s′ : ℕ) : Type 0 where
   pub right : s′ ≡ sumTo x′ n
 
 module _ (n : ℕ) (x x′ : ℕ → ℕ) where
-  pub like-sums : Like (n * 1) (sums n x) (sums n x′)
+  like-sums : Like (n * 1) (sums n x) (sums n x′)
   unfolding sums entry
   like-sums = like-loop n (x 0) (x′ 0) (λ j h s s′. enter-c (ret-c tt))
 
@@ -48,7 +49,7 @@ module _ (n : ℕ) (x x′ : ℕ → ℕ) where
       })))
       (record { left = refl; right = refl })
 
-  pub silent-sums : ((j : ℕ) → j < suc n → x j ≡ x′ j) → Silent (n * 1) (sums n x) (sums n x′)
+  silent-sums : ((j : ℕ) → j < suc n → x j ≡ x′ j) → Silent (n * 1) (sums n x) (sums n x′)
   unfolding sums entry
   silent-sums e =
       silent-loop (λ j s s′. s ≡ s′) n (λ j h s s′. enter-c (ret-c tt)) (λ j h s s′ r. enter-c (ret-c (next j h r)))
@@ -93,7 +94,7 @@ module _ (eta : ℕ) (b b′ : ℕ → Shares) where
       Turns (λ j. CoeffApart q (d j) (coeffOf (weight eta j) (b j) % q) (coeffOf (weight eta j) (b′ j) % q)) (2 * eta)
 
   converted : (d : ℕ → ℕ)
-      → Coupled (Converted d) (2 * eta * 4) (times (2 * eta) (λ j. bitToCoeff (weight eta j) (b j)))
+      → Coupled (Converted d) (2 * eta * bitToCoeffEntries) (times (2 * eta) (λ j. bitToCoeff (weight eta j) (b j)))
       (times (2 * eta) (λ j. bitToCoeff (weight eta j) (b′ j)))
   converted d = coupled-times (2 * eta) (λ j h. coupled-bitToCoeff (weight eta j) (b j) (b′ j) (d j))
 
@@ -112,7 +113,7 @@ module _ (eta : ℕ) (b b′ : ℕ → Shares) where
 
   module _ (pos : 0 < eta) where
     -- the result is fresh
-    pub coupled-sampler : {d : ℕ} → d < q
+    coupled-sampler : {d : ℕ} → d < q
         → Coupled (CoeffApart q d (samplerOf eta b) (samplerOf eta b′)) (samplerEntries eta)
         (sampler eta b) (sampler eta b′)
     unfolding sampler samplerEntries
@@ -153,16 +154,17 @@ module _ (eta : ℕ) (b b′ : ℕ → Shares) where
     pub silent-sampler : Silent (samplerEntries eta) (sampler eta b) (sampler eta b′)
     unfolding sampler samplerEntries
     silent-sampler =
-        cut At (2 * eta * 4) ((2 * eta - 1) * 1 + (2 * eta - 1) * 1)
+        cut At (2 * eta * bitToCoeffEntries) ((2 * eta - 1) * 1 + (2 * eta - 1) * 1)
         (λ i h. sameAt-left
         (silent-times (2 * eta) (λ j g. like-bitToCoeff _ _ _) (λ j g. silent-bitToCoeff _ _ _) i h) like-rest)
-        (cut (λ i. At (2 * eta * 4 + i)) ((2 * eta - 1) * 1) ((2 * eta - 1) * 1)
+        (cut (λ i. At (2 * eta * bitToCoeffEntries + i)) ((2 * eta - 1) * 1) ((2 * eta - 1) * 1)
         (λ i h. go false i h) (λ i h. go true i h))
       where
         At : ℕ → Type 0
         At i = SameAt i (sampler eta b) (sampler eta b′)
 
-        go : (c : Bool) (i : ℕ) → i < (2 * eta - 1) * 1 → At (2 * eta * 4 + cond c ((2 * eta - 1) * 1 + i) i)
+        go : (c : Bool) (i : ℕ) → i < (2 * eta - 1) * 1
+            → At (2 * eta * bitToCoeffEntries + cond c ((2 * eta - 1) * 1 + i) i)
         go c i h =
             sameAt-right (converted (kept c)) (λ z z′ r.
             silent-rest c z z′ (λ j g. share-coeffKeep c (r .at none none j g)) i h)

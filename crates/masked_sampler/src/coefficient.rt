@@ -1,13 +1,14 @@
 // A bit in two shares becomes a coefficient in two shares.
 ghost use mathlib.Core.Bool.{cond};
-ghost use mathlib.Core.Path.{_≡_};
 ghost use Prim.Native.Nat.{_+_, _*_, _-_, _%_, _^_, _<_};
 ghost use lib.Dec.{eqb};
-ghost use Rattle.masked_sampler.specs.Coefficient.{bitOf, tableValue, bitToCoeff};
+ghost use Rattle.masked_sampler.specs.Coefficient.{tableValue, bitToCoeff};
+ghost use Rattle.masked_sampler.specs.Lent.{BitRead};
 ghost use Rattle.words.specs.Residue.{q};
 ghost use Rattle.worksheet.specs.Prog.{coeff, entry};
 ghost use Rattle.worksheet.specs.Ran.{Makes, MakesWith};
 ghost use Rattle.worksheet.specs.Sharing.{shares};
+ghost use Rattle.worksheet.specs.BitShares.{BitShares};
 use worksheet::Recorder;
 use worksheet::Shares;
 
@@ -25,7 +26,7 @@ pub struct EnteredCoeffs {
 // Bit j of both shares.
 pub fn bit_of(w: Shares, j: usize) -> Shares
     requires { ⌜ j < 64 ⌝ }
-    ensures { λ r. ⌜ (r ≡ bitOf w j) × (r .s0 < 2) × (r .s1 < 2) ⌝ }
+    ensures { λ r. ⌜ BitRead w j r ⌝ }
 {
     Shares {
         s0: (w.s0 >> j) % 2,
@@ -81,7 +82,7 @@ pub fn enter_sum(rec: Recorder, x: u16, y: u16) -> EnteredCoeff
 }
 
 pub fn bit_to_coeff(rec: Recorder, w: u16, b: Shares, r: u16) -> EnteredCoeffs
-    requires { ⌜ (b .s0 < 2) × (b .s1 < 2) × (r < q) ⌝ }
+    requires { ⌜ BitShares b × (r < q) ⌝ }
     ensures { λ o. ⌜ MakesWith coeff (bitToCoeff w b) r rec (shares (o .s0) (o .s1)) (o .rec) ⌝ }
 {
     let t0 = enter_table(rec, 0, b.s1, w, r);

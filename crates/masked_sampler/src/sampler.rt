@@ -1,12 +1,13 @@
 // One coefficient of the centred binomial distribution from 2 eta bits in two shares.
 ghost use mathlib.Core.Path.{_≡_};
-ghost use Prim.Native.Nat.{_*_, _-_, _<_, _≤_};
-ghost use lib.ListN.{getD, length};
+ghost use Prim.Native.Nat.{_*_, _-_, _<_};
+ghost use lib.ListN.{getD};
 ghost use Rattle.masked_sampler.specs.Coefficient;
-ghost use Rattle.masked_sampler.specs.Coefficient.{bitOf, conversions, sums};
-ghost use Rattle.worksheet.specs.SharedList.{sharedList, zip};
-ghost use Rattle.words.specs.Bounded.{Below};
-ghost use Rattle.words.specs.Residue.{q};
+ghost use Rattle.masked_sampler.specs.Coefficient.{conversions, sums, samplerCoeffs};
+ghost use Rattle.masked_sampler.specs.Bit.{bitOf};
+ghost use Rattle.masked_sampler.specs.Lent.{SamplerLent};
+ghost use Rattle.worksheet.specs.SharedList.{sharedList};
+ghost use Rattle.worksheet.specs.Zip.{zip};
 ghost use Rattle.worksheet.specs.Prog.{coeff};
 ghost use Rattle.worksheet.specs.Ran.{Makes, Draws};
 ghost use Rattle.worksheet.specs.Sharing.{shares};
@@ -34,9 +35,9 @@ fn weight(eta: usize, j: usize) -> u16
 }
 
 fn convert_bits(rec: Recorder, eta: usize, b: Shares, cs: &[u16]) -> EnteredTerms
-    requires { ⌜ (eta ≤ 3) × (2 * eta ≤ length (now cs)) × Below q (now cs) ⌝ }
+    requires { ⌜ SamplerLent eta (now cs) ⌝ }
     ensures { λ r. ⌜
-        Draws coeff (2 * eta) (conversions eta (bitOf b)) rec (now (cs .entry))
+        Draws coeff (samplerCoeffs eta) (conversions eta (bitOf b)) rec (now (cs .entry))
         (zip (2 * eta) (sharedList (r .s0) (r .s1))) (r .rec)
         ⌝ }
 {
@@ -68,9 +69,9 @@ fn sum_terms(rec: Recorder, n: usize, x: [u16; 6]) -> EnteredCoeff
 }
 
 pub fn sampler(rec: Recorder, eta: usize, b: Shares, cs: &[u16]) -> EnteredCoeffs
-    requires { ⌜ (0 < eta) × (eta ≤ 3) × (2 * eta ≤ length (now cs)) × Below q (now cs) ⌝ }
+    requires { ⌜ SamplerLent eta (now cs) ⌝ }
     ensures { λ r. ⌜
-        Draws coeff (2 * eta) (Coefficient.sampler eta (bitOf b)) rec (now (cs .entry))
+        Draws coeff (samplerCoeffs eta) (Coefficient.sampler eta (bitOf b)) rec (now (cs .entry))
         (shares (r .s0) (r .s1)) (r .rec)
         ⌝ }
 {

@@ -2,24 +2,25 @@
 -- ciphertext are the words of the numbers that it encodes.
 use mathlib.Core.Path.{_≡_, refl, sym, ap, ap₂, _∙_}
 use mathlib.Core.List.{List, _++_, flatten}
-use Prim.Native.Nat.{ℕ, _*_, _^_, _<_}
+use Prim.Native.Nat.{ℕ, _*_, _<_}
 use native.Mathlib.Omega.{arith}
 use lib.ListN.{length, drop, take-append-drop, length-append, length-drop}
 use lib.Seq.{drop-at}
 use Rattle.words.specs.Bounded.{Below}
 use Rattle.words.specs.BoundedLaws.{below-append, below-take, below-drop}
 use Rattle.words.specs.Part.{length-part, part-append}
-use Rattle.words.specs.Tab.{tab, tab-cong}
+use Rattle.words.specs.Tab.{tab}
+use Rattle.words.specs.TabLaws.{tab-cong}
 use Rattle.codec.specs.Bytes.{byteEncode, byteDecode}
 use Rattle.codec.specs.BytesLaws.{length-byteEncode, below-byteEncode, length-byteDecode, below-byteDecode}
 use Rattle.codec.specs.BytesLaws.{byteDecode-byteEncode, byteEncode-byteDecode}
 use Rattle.kpke.specs.Parameters.{Parameters, ctBytes}
 use Rattle.kpke.specs.KPke.{parts, concat}
 use Rattle.kpke.specs.VectorLaws.{Each, part-fits, length-concat, concat-cong, concat-parts, parts-concat}
-use Rattle.stages.specs.Worksheet.{planeWords, ciphertextWords, wordCount}
-use Rattle.meaning.specs.FlattenLaws.{flatten-tab, below-concat, length-flatten, flatten-cancel}
+use Rattle.stages.specs.Worksheet.{planesOf, ciphertextPlanes, wordCount}
+use Rattle.meaning.specs.FlattenLaws.{below-concat, length-flatten, flatten-cancel}
 use Rattle.meaning.specs.FlattenLaws.{append-cancel-front, append-cancel-back}
-use Rattle.meaning.specs.PlanesValue.{Numbers, length-planeWords, ext-planeWords}
+use Rattle.meaning.specs.PlanesValue.{Numbers, length-planesOf, ext-planesOf}
 
 -- a string of a ciphertext's length
 pub record Ciphertext (p : Parameters) (c : List ℕ) : Type 0 where
@@ -39,23 +40,23 @@ module _ (p : Parameters) where
 
   -- the words of the planes of the numbers u and v
   unfoldable pub wordsOf : (ℕ → List ℕ) → List ℕ → List ℕ
-  wordsOf u v = flatten (tab (p .k) (λ i. planeWords (p .du) (u i))) ++ planeWords (p .dv) v
+  wordsOf u v = flatten (tab (p .k) (λ i. planesOf (p .du) (u i))) ++ planesOf (p .dv) v
 
-  ciphertextWords-numbers : (c : List ℕ) → ciphertextWords p c ≡ wordsOf (uNumbers c) (vNumbers c)
-  unfolding ciphertextWords wordsOf
-  ciphertextWords-numbers c = refl
+  ciphertextPlanes-numbers : (c : List ℕ) → ciphertextPlanes p c ≡ wordsOf (uNumbers c) (vNumbers c)
+  unfolding ciphertextPlanes wordsOf
+  ciphertextPlanes-numbers c = refl
 
-  each-words : (u : ℕ → List ℕ) → Each (4 * p .du) (p .k) (λ i. planeWords (p .du) (u i))
-  each-words u = record { long = λ i h. length-planeWords (p .du) (u i) }
+  each-words : (u : ℕ → List ℕ) → Each (4 * p .du) (p .k) (λ i. planesOf (p .du) (u i))
+  each-words u = record { long = λ i h. length-planesOf (p .du) (u i) }
 
   length-wordsOf : (u : ℕ → List ℕ) (v : List ℕ) → length (wordsOf u v) ≡ wordCount p
   unfolding wordsOf
   length-wordsOf u v =
-      length-append (flatten (tab (p .k) (λ i. planeWords (p .du) (u i)))) (planeWords (p .dv) v)
-      ∙ omega (arith, length-flatten (each-words u), length-planeWords (p .dv) v)
+      length-append (flatten (tab (p .k) (λ i. planesOf (p .du) (u i)))) (planesOf (p .dv) v)
+      ∙ omega (arith, length-flatten (each-words u), length-planesOf (p .dv) v)
 
-  pub length-ciphertextWords : (c : List ℕ) → length (ciphertextWords p c) ≡ wordCount p
-  length-ciphertextWords c = ap length (ciphertextWords-numbers c) ∙ length-wordsOf (uNumbers c) (vNumbers c)
+  pub length-ciphertextPlanes : (c : List ℕ) → length (ciphertextPlanes p c) ≡ wordCount p
+  length-ciphertextPlanes c = ap length (ciphertextPlanes-numbers c) ∙ length-wordsOf (uNumbers c) (vNumbers c)
 
   -- ---- the ciphertext that encodes the numbers u and v
 
@@ -96,12 +97,12 @@ module _ (p : Parameters) where
         (length-concat each-encoded))
         ∙ byteDecode-byteEncode (p .dv) v (nv .long) (nv .below)
 
-    pub ciphertextWords-encoded : ciphertextWords p (encoded u v) ≡ wordsOf u v
-    unfolding ciphertextWords wordsOf
-    ciphertextWords-encoded =
+    pub ciphertextPlanes-encoded : ciphertextPlanes p (encoded u v) ≡ wordsOf u v
+    unfolding ciphertextPlanes wordsOf
+    ciphertextPlanes-encoded =
         ap₂ (λ (l m : List ℕ). l ++ m)
-        (ap flatten (tab-cong (p .k) (λ i h. ap (planeWords (p .du)) (uNumbers-encoded i h))))
-        (ap (planeWords (p .dv)) vNumbers-encoded)
+        (ap flatten (tab-cong (p .k) (λ i h. ap (planesOf (p .du)) (uNumbers-encoded i h))))
+        (ap (planesOf (p .dv)) vNumbers-encoded)
 
   -- ---- a ciphertext is the encoding of its numbers, and these are found again in its words
 
@@ -132,29 +133,29 @@ module _ (p : Parameters) where
         ∙ take-append-drop firstBytes c
 
   module _ {c d : List ℕ} (a : Ciphertext p c) (b : Ciphertext p d)
-      (e : ciphertextWords p c ≡ ciphertextWords p d) where
+      (e : ciphertextPlanes p c ≡ ciphertextPlanes p d) where
     -- the words of u, and of v
-    abbrev uWords : List ℕ → List ℕ
-    uWords l = flatten (tab (p .k) (λ i. planeWords (p .du) (uNumbers l i)))
+    abbrev uPlanes : List ℕ → List ℕ
+    uPlanes l = flatten (tab (p .k) (λ i. planesOf (p .du) (uNumbers l i)))
 
-    abbrev vWords : List ℕ → List ℕ
-    vWords l = planeWords (p .dv) (vNumbers l)
+    abbrev vPlanes : List ℕ → List ℕ
+    vPlanes l = planesOf (p .dv) (vNumbers l)
 
-    length-uWords : length (uWords c) ≡ length (uWords d)
-    length-uWords = length-flatten (each-words (uNumbers c)) ∙ sym (length-flatten (each-words (uNumbers d)))
+    length-uPlanes : length (uPlanes c) ≡ length (uPlanes d)
+    length-uPlanes = length-flatten (each-words (uNumbers c)) ∙ sym (length-flatten (each-words (uNumbers d)))
 
     same-u : (i : ℕ) → i < p .k → uNumbers c i ≡ uNumbers d i
-    unfolding ciphertextWords
+    unfolding ciphertextPlanes
     same-u i h =
-        ext-planeWords (p .du) (u-numbers a i h) (u-numbers b i h)
+        ext-planesOf (p .du) (u-numbers a i h) (u-numbers b i h)
         (flatten-cancel (each-words (uNumbers c)) (each-words (uNumbers d))
-        (append-cancel-front (uWords c) (uWords d) (vWords c) (vWords d) length-uWords e) i h)
+        (append-cancel-front (uPlanes c) (uPlanes d) (vPlanes c) (vPlanes d) length-uPlanes e) i h)
 
     same-v : vNumbers c ≡ vNumbers d
-    unfolding ciphertextWords
+    unfolding ciphertextPlanes
     same-v =
-        ext-planeWords (p .dv) (v-numbers a) (v-numbers b)
-        (append-cancel-back (uWords c) (uWords d) (vWords c) (vWords d) length-uWords e)
+        ext-planesOf (p .dv) (v-numbers a) (v-numbers b)
+        (append-cancel-back (uPlanes c) (uPlanes d) (vPlanes c) (vPlanes d) length-uPlanes e)
 
     same-encoded : encoded (uNumbers c) (vNumbers c) ≡ encoded (uNumbers d) (vNumbers d)
     unfolding encoded
@@ -163,5 +164,5 @@ module _ (p : Parameters) where
         (concat-cong (p .k) (λ i h. ap (byteEncode (p .du)) (same-u i h)))
         (ap (byteEncode (p .dv)) same-v)
 
-    pub ext-ciphertextWords : c ≡ d
-    ext-ciphertextWords = sym (encoded-numbers a) ∙ same-encoded ∙ encoded-numbers b
+    pub ext-ciphertextPlanes : c ≡ d
+    ext-ciphertextPlanes = sym (encoded-numbers a) ∙ same-encoded ∙ encoded-numbers b

@@ -16,7 +16,8 @@ use Rattle.mlkem.specs.MlKem.{secretPart, publicPart, hashPart}
 use Rattle.mlkem.specs.SplitKey.{SplitKey, ekOf, hOf}
 use Rattle.stages.specs.Fits.{Fits}
 use Rattle.stages.specs.Worksheet.{Compared, maskedDecrypt, compared}
-use Rattle.meaning.specs.JoinedDk.{joinedDk, InOrder}
+use Rattle.meaning.specs.JoinedDk.{joinedDk}
+use Rattle.meaning.specs.InOrder.{InOrder}
 use Rattle.meaning.specs.JoinedDkLaws.{publicPart-joined, hashPart-joined, decrypt-joined}
 use Rattle.meaning.specs.StageSharing.{BytesSharing}
 use Rattle.meaning.specs.PolynomialValue.{gives-stage1}

@@ -20,11 +20,11 @@ use Rattle.kpke.specs.Parameters.{Parameters}
 use Rattle.refusals.specs.Same.{same}
 use Rattle.refusals.specs.SameLaws.{same-refl, same-true}
 use Rattle.stages.specs.Fits.{Fits}
-use Rattle.stages.specs.Worksheet.{ciphertextWords, wordCount, stage8}
+use Rattle.stages.specs.Worksheet.{ciphertextPlanes, wordCount, stage8}
 use Rattle.meaning.specs.StageSharing.{SharingList}
-use Rattle.stages.specs.PlaneWordsLaws.{below-ciphertextWords}
-use Rattle.meaning.specs.CiphertextPlanes.{Ciphertext, length-ciphertextWords}
-use Rattle.meaning.specs.CiphertextPlanes.{ext-ciphertextWords}
+use Rattle.stages.specs.PlanesLaws.{below-ciphertextPlanes}
+use Rattle.meaning.specs.CiphertextPlanes.{Ciphertext, length-ciphertextPlanes}
+use Rattle.meaning.specs.CiphertextPlanes.{ext-ciphertextPlanes}
 
 -- ---- tests
 
@@ -43,26 +43,26 @@ xor-eq-zero x y e = sym (sym (xor-cancel x y) ∙ ap (xor x) e ∙ xor-zero x)
 module _ (p : Parameters) {c d : List ℕ} (a : Ciphertext p c) (b : Ciphertext p d) where
   -- the words that are folded
   abbrev difference : ℕ → ℕ
-  difference j = xor (getD (ciphertextWords p d) j 0) (getD (ciphertextWords p c) j 0)
+  difference j = xor (getD (ciphertextPlanes p d) j 0) (getD (ciphertextPlanes p c) j 0)
 
   abbrev allEqual : Bool
   allEqual = every (wordCount p) (λ j. isZero (difference j))
 
   equal-ciphertexts : T allEqual → d ≡ c
   equal-ciphertexts t =
-      ext-ciphertextWords p b a
-      (ext-getD 0 (ciphertextWords p d) (ciphertextWords p c)
-      (length-ciphertextWords p d ∙ sym (length-ciphertextWords p c))
+      ext-ciphertextPlanes p b a
+      (ext-getD 0 (ciphertextPlanes p d) (ciphertextPlanes p c)
+      (length-ciphertextPlanes p d ∙ sym (length-ciphertextPlanes p c))
       (λ j h.
-      xor-eq-zero (getD (ciphertextWords p d) j 0) (getD (ciphertextWords p c) j 0)
+      xor-eq-zero (getD (ciphertextPlanes p d) j 0) (getD (ciphertextPlanes p c) j 0)
       (isZero-true (difference j)
-      (every-at (wordCount p) (λ j. isZero (difference j)) t j (omega (arith, length-ciphertextWords p d))))))
+      (every-at (wordCount p) (λ j. isZero (difference j)) t j (omega (arith, length-ciphertextPlanes p d))))))
 
   zero-at : c ≡ d → (j : ℕ) → isZero (difference j) ≡ true
   zero-at e j =
       ap isZero
-      (ap (λ (l : List ℕ). xor (getD (ciphertextWords p d) j 0) (getD (ciphertextWords p l) j 0)) e
-      ∙ xor-same (getD (ciphertextWords p d) j 0))
+      (ap (λ (l : List ℕ). xor (getD (ciphertextPlanes p d) j 0) (getD (ciphertextPlanes p l) j 0)) e
+      ∙ xor-same (getD (ciphertextPlanes p d) j 0))
 
   equal-words : allEqual ≡ same c d
   equal-words =
@@ -70,17 +70,17 @@ module _ (p : Parameters) {c d : List ℕ} (a : Ciphertext p c) (b : Ciphertext 
       (λ e. ap (same c) (equal-ciphertexts (subst T (sym e) tt)) ∙ same-refl c)
       (λ e. every-true (wordCount p) (λ j. isZero (difference j)) (λ j h. zero-at (same-true c d e) j))
 
-  pub gives-stage8 : Fits p → {w : List Shares} → SharingList (ciphertextWords p d) w
+  pub gives-stage8 : Fits p → {w : List Shares} → SharingList (ciphertextPlanes p d) w
       → Gives (Sharing 1 (cond (same c d) 1 0)) (stage8 p c w)
   unfolding stage8
   gives-stage8 fits {w} s =
       let n : suc (wordCount p - 1) ≡ wordCount p = omega (arith, fits .dv) in
       let bit : Bool → ℕ = λ b. cond b 1 0 in
       gives-bind
-      (gives-addPublic (wordCount p) (λ j. getD (ciphertextWords p c) j 0) (λ j. getD (ciphertextWords p d) j 0)
+      (gives-addPublic (wordCount p) (λ j. getD (ciphertextPlanes p c) j 0) (λ j. getD (ciphertextPlanes p d) j 0)
       (λ j. getD w j none)
-      (λ j l. record { lt = below-ciphertextWords p c .at j })
-      (λ j l. s .each .at none j (omega (arith, length-ciphertextWords p d))))
+      (λ j l. record { lt = below-ciphertextPlanes p c .at j })
+      (λ j l. s .each .at none j (omega (arith, length-ciphertextPlanes p d))))
       (λ x e.
       gives-weaken
       (λ z r.

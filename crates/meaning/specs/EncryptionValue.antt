@@ -17,12 +17,12 @@ use Rattle.kpke.specs.KPke.{matrix, firstPart, secondPart, ephemeral, publicVec
 use Rattle.kpke.specs.VectorLaws.{concat-cong, dot-cong}
 use Rattle.stages.specs.Fits.{Fits}
 use Rattle.stages.specs.Moves.{nothing}
-use Rattle.stages.specs.Worksheet.{uShare, vShare, uvShare, planeWords, stage7, ciphertextWords, maskedEncrypt}
+use Rattle.stages.specs.Worksheet.{uShare, vShare, uvShare, planesOf, stage7, ciphertextPlanes, maskedEncrypt}
 use Rattle.meaning.specs.StageSharing.{PolySharing, BytesSharing, SharingList}
 use Rattle.meaning.specs.StageSharingLaws.{sharingList-append, sharingList-flatten}
 use Rattle.meaning.specs.PlanesValue.{Numbers, compress-numbers, gives-compressPoly}
 use Rattle.meaning.specs.CiphertextPlanes.{Ciphertext, wordsOf, encoded, encoded-ciphertext}
-use Rattle.meaning.specs.CiphertextPlanes.{ciphertextWords-encoded}
+use Rattle.meaning.specs.CiphertextPlanes.{ciphertextPlanes-encoded}
 use Rattle.meaning.specs.MessageValue.{gives-stage4}
 use Rattle.meaning.specs.NoiseValue.{noiseOf, noiseOf-first, noiseOf-later, gives-stage5}
 use Rattle.meaning.specs.PolynomialValue.{length-uvShare, gives-stage6}
@@ -36,7 +36,7 @@ module _ (p : Parameters) where
   unfolding stage7 wordsOf
   gives-stage7 {f} s =
       gives-bind
-      (gives-times (λ i. SharingList (planeWords (p .du) (map (compress (p .du)) (f i)))) (p .k) (λ i h.
+      (gives-times (λ i. SharingList (planesOf (p .du) (map (compress (p .du)) (f i)))) (p .k) (λ i h.
       gives-compressPoly (p .du) (s .at nothing i (omega arith))))
       (λ u e.
       gives-bind (gives-compressPoly (p .dv) (s .at nothing (p .k) (omega arith))) (λ v g.
@@ -98,14 +98,14 @@ module _ (p : Parameters) where
     pub encrypt-ciphertext : Ciphertext p (encrypt p ek m r)
     encrypt-ciphertext = rw encrypt-encoded (encoded-ciphertext p u-numbers v-numbers)
 
-    encrypt-words : ciphertextWords p (encrypt p ek m r) ≡ wordsOf p uMade vMade
-    encrypt-words = ap (ciphertextWords p) encrypt-encoded ∙ ciphertextWords-encoded p u-numbers v-numbers
+    encrypt-words : ciphertextPlanes p (encrypt p ek m r) ≡ wordsOf p uMade vMade
+    encrypt-words = ap (ciphertextPlanes p) encrypt-encoded ∙ ciphertextPlanes-encoded p u-numbers v-numbers
 
   -- ---- the whole
 
   pub gives-maskedEncrypt : Fits p → (ek : List ℕ) {m r : List ℕ} {s t : SharedList}
       → BytesSharing 4 m s → BytesSharing 4 r t
-      → Gives (SharingList (ciphertextWords p (encrypt p ek m r))) (maskedEncrypt p ek s t)
+      → Gives (SharingList (ciphertextPlanes p (encrypt p ek m r))) (maskedEncrypt p ek s t)
   unfolding maskedEncrypt
   gives-maskedEncrypt fits ek {m} {r} a b =
       gives-bind (gives-stage4 a) (λ mu x.

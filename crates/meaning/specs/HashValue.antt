@@ -10,7 +10,7 @@ use Rattle.words.specs.Bounded.{Below}
 use Rattle.words.specs.BoundedLaws.{below-append, below-zeros}
 use Rattle.words.specs.LittleEndian.{wordsToBytes}
 use Rattle.words.specs.LittleEndianLaws.{length-wordsToBytes, below-wordsToBytes, drop-wordsToBytes}
-use Rattle.words.specs.Tab.{length-tab, getD-tab, tab-of}
+use Rattle.words.specs.TabLaws.{length-tab, getD-tab, tab-of}
 use Rattle.worksheet.specs.Gives.{Gives}
 use Rattle.worksheet.specs.SharedList.{SharedList, sharedList, sharedAt, joinedList}
 use Rattle.worksheet.specs.SharedListLaws.{sharedAt-unzip}
@@ -90,5 +90,5 @@ coins-sharing {g = g} a =
             rw (getD-drop 4 (a .words) i 0, sharedAt-unzip 4 (λ i. sharedAt g (4 + i)) i h)
             (w .at (4 + i) (omega arith));
       };
-      bytes = sym (drop-wordsToBytes 8 4 (a .words)) ∙ ap (drop 32) (a .bytes);
+      bytes = sym (drop-wordsToBytes 8 4 (a .words) (omega (arith, w .long))) ∙ ap (drop 32) (a .bytes);
     }

@@ -8,7 +8,7 @@ use lib.Seq.{take-at, drop-at, drop-drop, take-length, take-append-le, drop-appe
 use Rattle.words.specs.BoundedLaws.{below-take, below-drop}
 use Rattle.words.specs.LittleEndian.{wordsToBytes}
 use Rattle.words.specs.LittleEndianLaws.{length-wordsToBytes}
-use Rattle.words.specs.Tab.{length-tab}
+use Rattle.words.specs.TabLaws.{length-tab}
 use Rattle.words.specs.Part.{length-part}
 use Rattle.codec.specs.Bytes.{byteEncode, byteDecode12}
 use Rattle.codec.specs.BytesLaws.{length-byteEncode, byteDecode12-byteEncode}
@@ -23,7 +23,8 @@ use Rattle.kpke.specs.VectorLaws
 use Rattle.kpke.specs.VectorLaws.{part-fits, length-concat, parts-concat, dot-cong}
 use Rattle.mlkem.specs.MlKem.{secretPart, publicPart, hashPart, zPart}
 use Rattle.mlkem.specs.SplitKey.{SplitKey, ekOf, hOf}
-use Rattle.meaning.specs.JoinedDk.{joinedCoeffs, joinedDk, InOrder}
+use Rattle.meaning.specs.JoinedDk.{joinedCoeffs, joinedDk}
+use Rattle.meaning.specs.InOrder.{InOrder}
 
 module _ {p : Parameters} {key : SplitKey} (o : InOrder p key) where
   -- the encoded secret, and z
@@ -39,7 +40,7 @@ module _ {p : Parameters} {key : SplitKey} (o : InOrder p key) where
   length-secret : length secret ≡ vectorBytes p
   length-secret = length-concat each-encoded
 
-  pub length-hOf : length (hOf p key) ≡ 32
+  length-hOf : length (hOf p key) ≡ 32
   length-hOf = length-drop (ekBytes p) (key .public) ∙ omega (arith, o .public)
 
   length-z : length z ≡ 32

@@ -9,7 +9,8 @@ use Rattle.words.specs.Word.{xor}
 use Rattle.words.specs.WordLaws.{xor-zero}
 use Rattle.words.specs.LittleEndian.{wordsToBytes}
 use Rattle.words.specs.LittleEndianLaws.{length-wordsToBytes, getD-wordsToBytes}
-use Rattle.words.specs.Tab.{tab, length-tab, getD-tab, tab-of, tab-cong, tab-add}
+use Rattle.words.specs.Tab.{tab}
+use Rattle.words.specs.TabLaws.{length-tab, getD-tab, tab-of, tab-cong, tab-add}
 use Rattle.worksheet.specs.Sharing.{joined}
 use Rattle.worksheet.specs.SharedList.{sharedList, sharedAt, joinedList}
 use Rattle.masked_fips202.specs.XorBytes.{byte-xor}

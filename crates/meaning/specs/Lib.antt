@@ -1,6 +1,7 @@
 pub mod WordBits
 pub mod FlattenLaws
 pub mod JoinedDk
+pub mod InOrder
 pub mod JoinedDkLaws
 pub mod StageSharing
 pub mod StageSharingLaws

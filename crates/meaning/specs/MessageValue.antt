@@ -6,7 +6,8 @@ use native.Mathlib.Nat.{mod-one, div-one}
 use native.Mathlib.Omega.{arith}
 use lib.ListN.{length, getD, take, drop, length-map, List·getD-map}
 use lib.Seq.{drop-cons, ext-getD}
-use Rattle.words.specs.Tab.{tab, getD-tab, tab-of}
+use Rattle.words.specs.Tab.{tab}
+use Rattle.words.specs.TabLaws.{getD-tab, tab-of}
 use Rattle.words.specs.Numeral.{value}
 use Rattle.words.specs.Digit.{digit}
 use Rattle.words.specs.DigitLaws.{digit-lt}
@@ -22,9 +23,9 @@ use Rattle.worksheet.specs.Sharing.{joined, none}
 use Rattle.worksheet.specs.SharedList.{SharedList}
 use Rattle.masked_sampler.specs.CoefficientLaws.{gives-bitToCoeff, bit-1665}
 use Rattle.stages.specs.Moves.{stringBit}
-use Rattle.stages.specs.Worksheet.{planeWords, stage2, stage4}
+use Rattle.stages.specs.Worksheet.{planesOf, stage2, stage4}
 use Rattle.meaning.specs.WordBits.{bitsOf-wordsToBytes, getD-bitsOf, ext-bytes}
-use Rattle.meaning.specs.PlanesValue.{planeOf, digit-planeOf, length-planeWords, gives-compressPoly}
+use Rattle.meaning.specs.PlanesValue.{planeOf, digit-planeOf, length-planesOf, gives-compressPoly}
 use Rattle.meaning.specs.StageSharing.{PolySharing, BytesSharing}
 use Rattle.meaning.specs.StageSharingLaws.{polySharing-length, polySharing-unzip, wordSharing-unzip}
 use Rattle.meaning.specs.StageSharingLaws.{bytesSharing-length, joined-stringBit}
@@ -32,18 +33,18 @@ use Rattle.meaning.specs.StageSharingLaws.{bytesSharing-length, joined-s
 -- ---- stage 2
 
 -- of numbers of one bit the only planes, one for each group
-bit-planes : (f : List ℕ) → planeWords 1 f ≡ tab 4 (λ g. planeOf f g 0)
-unfolding planeWords tab flatten
+bit-planes : (f : List ℕ) → planesOf 1 f ≡ tab 4 (λ g. planeOf f g 0)
+unfolding planesOf tab flatten
 bit-planes f = refl
 
 module _ (f : List ℕ) (e : length f ≡ 256) where
   abbrev words : List ℕ
-  words = planeWords 1 f
+  words = planesOf 1 f
 
   bits-words : bitsOf 64 words ≡ bitsOf 1 f
   bits-words =
       let n : length (bitsOf 64 words) ≡ 256 =
-      length-bitsOf 64 words ∙ ap (λ (k : ℕ). 64 * k) (length-planeWords 1 f) in
+      length-bitsOf 64 words ∙ ap (λ (k : ℕ). 64 * k) (length-planesOf 1 f) in
       let m : length (bitsOf 1 f) ≡ 256 = length-bitsOf 1 f ∙ ap (λ (k : ℕ). 1 * k) e in
       ext-getD 0 (bitsOf 64 words) (bitsOf 1 f) (n ∙ sym m)
       (λ i h.
@@ -57,7 +58,7 @@ module _ (f : List ℕ) (e : length f ≡ 256) where
   unfolding byteEncode
   message-bytes =
       ext-bytes (wordsToBytes 8 words) (byteEncode 1 f) (below-wordsToBytes 8 words) (below-byteEncode 1 f e)
-      (length-wordsToBytes 8 words ∙ ap (λ (k : ℕ). 8 * k) (length-planeWords 1 f) ∙ sym (length-byteEncode 1 f))
+      (length-wordsToBytes 8 words ∙ ap (λ (k : ℕ). 8 * k) (length-planesOf 1 f) ∙ sym (length-byteEncode 1 f))
       (bitsOf-wordsToBytes 8 words
       ∙ bits-words
       ∙ sym (bitsOf-numbersOf 8 32 (bitsOf 1 f) (length-bitsOf 1 f ∙ ap (λ (k : ℕ). 1 * k) e) (below-bitsOf 1 f)))
@@ -70,8 +71,8 @@ gives-stage2 {f} a =
     gives-bind (gives-compressPoly 1 a) (λ m e.
     ret-g
     (record {
-      words = planeWords 1 bits;
-      sharing = wordSharing-unzip 4 none (length-planeWords 1 bits) e;
+      words = planesOf 1 bits;
+      sharing = wordSharing-unzip 4 none (length-planesOf 1 bits) e;
       bytes = message-bytes bits (length-map f (compress 1) ∙ polySharing-length a);
     }))
 

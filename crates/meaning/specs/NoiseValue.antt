@@ -9,7 +9,8 @@ use borrow.Author.Tests.{lt-ltb, le-ltb}
 use lib.Dec.{ltb}
 use lib.ListN.{getD}
 use Rattle.words.specs.BoundedLaws.{below-nil, below-cons}
-use Rattle.words.specs.Tab.{tab, tab-cong, tab-of}
+use Rattle.words.specs.Tab.{tab}
+use Rattle.words.specs.TabLaws.{tab-cong, tab-of}
 use Rattle.words.specs.DigitLaws.{digit-lt}
 use Rattle.codec.specs.Bytes.{bitsOf}
 use Rattle.ring.specs.Polynomial.{minus}

@@ -12,7 +12,8 @@ use Rattle.words.specs.DigitLaws.{ext-bits}
 use Rattle.words.specs.Plane.{plane}
 use Rattle.words.specs.PlaneLaws.{digit-plane, plane-cong}
 use Rattle.words.specs.Residue.{q}
-use Rattle.words.specs.Tab.{tab, length-tab, getD-tab}
+use Rattle.words.specs.Tab.{tab}
+use Rattle.words.specs.TabLaws.{length-tab, getD-tab}
 use Rattle.codec.specs.Compress.{compress}
 use Rattle.codec.specs.CompressLaws.{compress-lt, getD-compress}
 use Rattle.worksheet.specs.declared.Shares.{Shares}
@@ -22,7 +23,7 @@ use Rattle.worksheet.specs.SharedList.{SharedList, sharedAt}
 use Rattle.masked_compression.specs.Compression.{maskedCompress}
 use Rattle.masked_compression.specs.CompressionLaws.{gives-maskedCompress}
 use Rattle.kpke.specs.VectorLaws
-use Rattle.stages.specs.Worksheet.{planeWords, compressPoly}
+use Rattle.stages.specs.Worksheet.{planesOf, compressPoly}
 use Rattle.meaning.specs.FlattenLaws.{length-flatten, flatten-cancel}
 use Rattle.meaning.specs.StageSharing.{PolySharing, SharingList}
 use Rattle.meaning.specs.StageSharingLaws.{polySharing-at, sharingList-tab, sharingList-flatten}
@@ -65,13 +66,13 @@ module _ (d : ℕ) where
   each-group : (f : List ℕ) → VectorLaws.Each d 4 (λ g. tab d (planeOf f g))
   each-group f = record { long = λ g h. length-tab d (planeOf f g) }
 
-  pub length-planeWords : (f : List ℕ) → length (planeWords d f) ≡ 4 * d
-  unfolding planeWords
-  length-planeWords f = length-flatten (each-group f) ∙ omega arith
+  pub length-planesOf : (f : List ℕ) → length (planesOf d f) ≡ 4 * d
+  unfolding planesOf
+  length-planesOf f = length-flatten (each-group f) ∙ omega arith
 
-  pub ext-planeWords : {f h : List ℕ} → Numbers d f → Numbers d h → planeWords d f ≡ planeWords d h → f ≡ h
-  unfolding planeWords
-  ext-planeWords {f} {h} a b e =
+  pub ext-planesOf : {f h : List ℕ} → Numbers d f → Numbers d h → planesOf d f ≡ planesOf d h → f ≡ h
+  unfolding planesOf
+  ext-planesOf {f} {h} a b e =
       ext-planes d a b (λ g j l k.
       sym (getD-tab d (planeOf f g) j 0 k)
       ∙ ap (λ (w : List ℕ). getD w j 0) (flatten-cancel (each-group f) (each-group h) e g l)
@@ -87,8 +88,8 @@ gives-group d x {v} e =
     (gives-maskedCompress d x)
 
 pub gives-compressPoly : (d : ℕ) {f : List ℕ} {s : SharedList} → PolySharing f s
-    → Gives (SharingList (planeWords d (map (compress d) f))) (compressPoly d s)
-unfolding compressPoly planeWords
+    → Gives (SharingList (planesOf d (map (compress d) f))) (compressPoly d s)
+unfolding compressPoly planesOf
 gives-compressPoly d {f} {s} a =
     gives-bind
     (gives-times (λ g. SharingList (tab d (planeOf (map (compress d) f) g))) 4 (λ g h.

@@ -10,7 +10,7 @@ use Rattle.words.specs.Bounded.{Below}
 use Rattle.words.specs.BoundedLaws.{below-append, below-take, below-drop, below-tab}
 use Rattle.words.specs.LittleEndian.{wordsToBytes}
 use Rattle.words.specs.LittleEndianLaws.{wordsToBytes-words}
-use Rattle.words.specs.Tab.{length-tab, tab-cong}
+use Rattle.words.specs.TabLaws.{length-tab, tab-cong}
 use Rattle.words.specs.Part.{length-part}
 use Rattle.codec.specs.Bytes.{byteEncode, byteDecode}
 use Rattle.codec.specs.BytesLaws.{length-byteDecode, byteEncode-byteDecode}
@@ -25,12 +25,13 @@ use Rattle.kpke.specs.KPke.{parts, concat, coefficients}
 use Rattle.kpke.specs.VectorLaws
 use Rattle.kpke.specs.VectorLaws.{part-fits, length-concat, concat-cong, concat-parts, parts-concat}
 use Rattle.mlkem.specs.MlKem.{secretPart, publicPart, hashPart, zPart, decaps}
-use Rattle.mlkem.specs.Calls.{secondCoeffs, secondWords}
-use Rattle.mlkem.specs.SplitKey.{split, Importable}
+use Rattle.mlkem.specs.SplitKey.{secondCoeffs, secondWords, split}
+use Rattle.mlkem.specs.Importable.{Importable}
 use Rattle.mlkem.specs.AcceptedLaws.{join-coefficients, join-words}
 use Rattle.stages.specs.Fits.{Fits}
 use Rattle.stages.specs.Worksheet.{worksheet}
-use Rattle.meaning.specs.JoinedDk.{joinedDk, InOrder}
+use Rattle.meaning.specs.JoinedDk.{joinedDk}
+use Rattle.meaning.specs.InOrder.{InOrder}
 use Rattle.meaning.specs.WorksheetValue.{run-worksheet}
 
 module _ {p : Parameters} {dk a w : List ℕ} (o : Importable p dk a w) where
@@ -49,7 +50,7 @@ module _ {p : Parameters} {dk a w : List ℕ} (o : Importable p dk a w) where
   below-zPart : Below 256 (zPart p dk)
   below-zPart = below-take 32 (below-drop (vectorBytes p + ekBytes p + 32) (o .bytes))
 
-  pub split-inOrder : InOrder p (split p dk a w)
+  split-inOrder : InOrder p (split p dk a w)
   unfolding split secondCoeffs secondWords
   split-inOrder =
       record {
@@ -121,7 +122,7 @@ module _ {p : Parameters} {dk a w : List ℕ} (o : Importable p dk a w) where
       ∙ ap (λ (l : List ℕ). take v dk ++ l) (take-append-drop e (drop v dk))
       ∙ take-append-drop v dk
 
-  pub joinedDk-split : joinedDk p (split p dk a w) ≡ dk
+  joinedDk-split : joinedDk p (split p dk a w) ≡ dk
   unfolding joinedDk split
   joinedDk-split =
       ap₂ (λ (s z : List ℕ). s ++ ((publicPart p dk ++ hashPart p dk) ++ z))

@@ -7,7 +7,8 @@ use lib.ListN.{length, getD, length-append, List·getD-append}
 use lib.Seq.{getD-append-add}
 use Rattle.words.specs.Residue.{q}
 use Rattle.words.specs.LittleEndianLaws.{length-wordsToBytes}
-use Rattle.words.specs.Tab.{tab, length-tab, getD-tab, tab-of}
+use Rattle.words.specs.Tab.{tab}
+use Rattle.words.specs.TabLaws.{length-tab, getD-tab, tab-of}
 use Rattle.words.specs.Digit.{digit}
 use Rattle.words.specs.DigitLaws.{xor-digit}
 use Rattle.codec.specs.Bytes.{bitsOf}

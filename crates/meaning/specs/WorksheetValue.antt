@@ -9,7 +9,8 @@ use lib.Seq.{getD-take}
 use Rattle.words.specs.Bounded.{Below}
 use Rattle.words.specs.LittleEndian.{wordsToBytes}
 use Rattle.words.specs.LittleEndianLaws.{take-wordsToBytes}
-use Rattle.words.specs.Tab.{tab, length-tab, getD-tab, tab-of}
+use Rattle.words.specs.Tab.{tab}
+use Rattle.words.specs.TabLaws.{length-tab, getD-tab, tab-of}
 use Rattle.worksheet.specs.declared.Shares.{Shares}
 use Rattle.worksheet.specs.Prog.{word, coeff, bound}
 use Rattle.worksheet.specs.Run.{run}
@@ -27,7 +28,8 @@ use Rattle.mlkem.specs.MlKem.{decaps}
 use Rattle.mlkem.specs.SplitKey.{SplitKey}
 use Rattle.stages.specs.Fits.{Fits}
 use Rattle.stages.specs.Worksheet.{stage10, worksheet}
-use Rattle.meaning.specs.JoinedDk.{joinedDk, InOrder}
+use Rattle.meaning.specs.JoinedDk.{joinedDk}
+use Rattle.meaning.specs.InOrder.{InOrder}
 use Rattle.meaning.specs.JoinedDkLaws.{zPart-joined}
 use Rattle.meaning.specs.StageSharing.{BytesSharing}
 use Rattle.meaning.specs.HashValue.{gives-stage9}
@@ -47,7 +49,7 @@ module _ {x y : List ℕ} {g rejected : SharedList} (a : BytesSharing 8 x g) (r 
       let l = a .words in
       let e = a .sharing .long in
       ap (wordsToBytes 8) (sym (tab-of 0 (take 4 l) 4 (length-take 4 l ∙ omega arith) (λ j h. getD-take 4 l j 0 h)))
-      ∙ sym (take-wordsToBytes 8 4 l)
+      ∙ sym (take-wordsToBytes 8 4 l (omega arith))
       ∙ ap (take 32) (a .bytes)
   chosen-bytes false = ap (wordsToBytes 8) (sym (tab-of 0 (r .words) 4 (r .sharing .long) (λ j h. refl))) ∙ r .bytes
 

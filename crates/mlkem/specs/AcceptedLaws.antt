@@ -12,7 +12,7 @@ use Rattle.words.specs.WordLaws.{xor-comm, xor-xor-cancel}
 use Rattle.words.specs.Residue.{q}
 use Rattle.words.specs.ResidueLaws.{sub-add-mod}
 use Rattle.words.specs.Bounded.{Below}
-use Rattle.words.specs.Tab.{getD-tab}
+use Rattle.words.specs.TabLaws.{getD-tab}
 use Rattle.fips202.specs.Sponge.{laneOf}
 use Rattle.refusals.specs.declared.Answer.the-variants.{
   Done,
@@ -31,17 +31,21 @@ use Rattle.mlkem.specs.Reduced.{reduced}
 use Rattle.refusals.specs.RefusalLaws.{passed, no-row, done-passed, sized-exact}
 use Rattle.mlkem.specs.ReducedLaws.{reduced-below}
 use Rattle.kpke.specs.KPke.{coefficients}
-use Rattle.mlkem.specs.Calls.{keyRows, importAnswer, ImportSized, Accepted, secondCoeffs, secondWords}
+use Rattle.mlkem.specs.SplitKey.{SplitKey, secondCoeffs, secondWords}
+use Rattle.mlkem.specs.Calls.{keyRows, importAnswer, Accepted}
+use Rattle.mlkem.specs.Sized.{ImportSized}
 use Rattle.mlkem.specs.CallLaws.{import-answer}
 
 module _ (p : Parameters) where
   -- rows 2 to 4 don't apply
-  record KeyRowsPassed (dk : List ℕ) : Type 0 where
+  pub record KeyRowsPassed (dk : List ℕ) : Type 0 where
     public : reduced (coefficients (p .k) (take (vectorBytes p) (publicPart p dk))) ≡ true
     hash : same (hashPart p dk) (H (publicPart p dk)) ≡ true
     secret : reduced (coefficients (p .k) (secretPart p dk)) ≡ true
 
-  key-rows-passed : (dk : List ℕ) (rs : List Row) → answer (keyRows p dk ++ rs) ≡ Done → KeyRowsPassed dk
+  -- nor do the rows behind them
+  pub key-rows-passed : (dk : List ℕ) (rs : List Row) → answer (keyRows p dk ++ rs) ≡ Done
+      → KeyRowsPassed dk × (answer rs ≡ Done)
   unfolding keyRows
   key-rows-passed dk rs h =
       let n : (0 < number PublicKeyRange) × (0 < number WrongHash) × (0 < number SecretRange) =
@@ -49,30 +53,30 @@ module _ (p : Parameters) where
       let e = done-passed _ PublicKeyRange _ (n .0) h in
       let f = done-passed _ WrongHash _ (n .1) (e .1) in
       let g = done-passed _ SecretRange rs (n .2) (f .1) in
-      record { public = e .0; hash = f .0; secret = g .0 }
+      (record { public = e .0; hash = f .0; secret = g .0 }, g .1)
 
   rows-passed : {dk : List ℕ} (rs : List Row) → KeyRowsPassed dk → answer rs ≡ Done → answer (keyRows p dk ++ rs) ≡ Done
   unfolding keyRows
   rows-passed rs t h =
       passed PublicKeyRange _ (t .public) (passed WrongHash _ (t .hash) (passed SecretRange rs (t .secret) h))
 
-  module _ (dk a w s0 s1 z0 z1 h : List ℕ) where
-    pub import-accepted : importAnswer p dk a w s0 s1 z0 z1 h ≡ Done → Accepted p dk
+  module _ (dk maskCoeffs maskWords : List ℕ) (key : SplitKey) where
+    pub import-accepted : importAnswer p dk maskCoeffs maskWords key ≡ Done → Accepted p dk
     unfolding importAnswer keyRows
     import-accepted e =
         let f = done-passed _ WrongLength _ (omega arith) e in
-        record { long = sized-exact _ (f .0) .0; rows = rows-passed [] (key-rows-passed dk _ (f .1)) no-row }
+        record { long = sized-exact _ (f .0) .0; rows = rows-passed [] (key-rows-passed dk _ (f .1) .0) no-row }
 
-    pub accepted-import : Accepted p dk → ImportSized p dk a w s0 s1 z0 z1 h → reduced a ≡ true
-        → importAnswer p dk a w s0 s1 z0 z1 h ≡ Done
+    pub accepted-import : Accepted p dk → ImportSized p dk maskCoeffs maskWords key → reduced maskCoeffs ≡ true
+        → importAnswer p dk maskCoeffs maskWords key ≡ Done
     unfolding keyRows
     accepted-import x s r =
-        import-answer p Done s (rows-passed _ (key-rows-passed dk [] (x .rows)) (passed MaskRange [] r no-row))
+        import-answer p Done s (rows-passed _ (key-rows-passed dk [] (x .rows) .0) (passed MaskRange [] r no-row))
 
   pub accepted-secret : {dk : List ℕ} → Accepted p dk → Below q (coefficients (p .k) (secretPart p dk))
   unfolding keyRows
   accepted-secret {dk} x =
-      reduced-below (coefficients (p .k) (secretPart p dk)) (key-rows-passed dk [] (x .rows) .secret)
+      reduced-below (coefficients (p .k) (secretPart p dk)) (key-rows-passed dk [] (x .rows) .0 .secret)
 
   -- the split of an accepted key joins to it
   pub join-coefficients : {dk : List ℕ} (a : List ℕ) (i : ℕ) → Accepted p dk → Below q a → i < 256 * p .k

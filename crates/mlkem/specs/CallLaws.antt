@@ -17,21 +17,20 @@ use Rattle.refusals.specs.SameLaws.{same-true}
 use Rattle.refusals.specs.Refusals.{number, row, answer, after}
 use Rattle.refusals.specs.RefusalLaws.{passed, exact-sized, after-refused}
 use Rattle.mlkem.specs.Reduced.{reduced}
+use Rattle.mlkem.specs.SplitKey.{SplitKey}
 use Rattle.mlkem.specs.Calls.{
   sampleAnswer,
   StreamSampled,
   rhoOf,
   keyGenAnswer,
-  KeyGenSized,
   KeysMade,
   encapsAnswer,
-  EncapsSized,
   Encapsulated,
   keyRows,
   importAnswer,
-  ImportSized,
   Imported,
 }
+use Rattle.mlkem.specs.Sized.{KeyGenSized, EncapsSized, ImportSized}
 
 -- the lengths that were compared, one by one
 pub exact-at : (has wants : List ℕ) {r : Bool} → r ≡ same has wants → not r ≡ false → (i : ℕ)
@@ -39,8 +38,8 @@ pub exact-at : (has wants : List ℕ) {r : Bool} → r ≡ same has wants → no
 exact-at has wants {r} e t i = ap (λ (l : List ℕ). getD l i 0) (same-true has wants (sym e ∙ not-false r t))
 
 -- a buffer after a refusal
-kept : (r : Answer) (new old : List ℕ) → 0 < number r → old ≡ after (number r) new old
-kept r new old h = sym (after-refused (number r) new old (λ z. omega arith))
+kept : {A : Type 0} (r : Answer) (new old : A) → 0 < number r → old ≡ after (number r) new old
+kept {A} r new old h = sym (after-refused (number r) new old (λ z. omega arith))
 
 pub sample-refused : (r : Answer) {stream out : List ℕ} → 0 < number r → sampleAnswer stream out ≡ r
     → StreamSampled stream out (number r) out
@@ -67,15 +66,16 @@ module _ (p : Parameters) (r : Answer) where
     unfolding encapsAnswer
     encaps-answer s h = passed WrongLength _ (exact-sized _ (s .ek, (s .m, (s .ct, (s .k, tt))))) h
 
-  module _ {dk a w s0 s1 z0 z1 public : List ℕ} where
-    pub import-answer : ImportSized p dk a w s0 s1 z0 z1 public
-        → answer (keyRows p dk ++ row (not (reduced a)) MaskRange ∷ []) ≡ r
-        → importAnswer p dk a w s0 s1 z0 z1 public ≡ r
+  module _ {dk maskCoeffs maskWords : List ℕ} {key : SplitKey} where
+    pub import-answer : ImportSized p dk maskCoeffs maskWords key
+        → answer (keyRows p dk ++ row (not (reduced maskCoeffs)) MaskRange ∷ []) ≡ r
+        → importAnswer p dk maskCoeffs maskWords key ≡ r
     unfolding importAnswer
     import-answer s h =
+        let k = s .key in
         passed WrongLength _
         (exact-sized _
-        (s .dk, (s .coeffs, (s .words, (s .s0, (s .s1, (s .z0, (s .z1, (s .public, tt)))))))))
+        (s .dk, (s .maskCoeffs, (s .maskWords, (k .s0, (k .s1, (k .z0, (k .z1, (k .public, tt)))))))))
         h
 
   -- ---- refused
@@ -88,14 +88,7 @@ module _ (p : Parameters) (r : Answer) where
     pub encaps-refused : (ek m ct k : List ℕ) → encapsAnswer p ek m ct k ≡ r → Encapsulated p ek m ct k (number r) ct k
     encaps-refused ek m ct k e = record { answer = ap number (sym e); ct = kept r _ _ h; k = kept r _ _ h }
 
-    pub import-refused : (dk a w s0 s1 z0 z1 public : List ℕ) → importAnswer p dk a w s0 s1 z0 z1 public ≡ r
-        → Imported p dk a w s0 s1 z0 z1 public (number r) s0 s1 z0 z1 public
-    import-refused dk a w s0 s1 z0 z1 public e =
-        record {
-          answer = ap number (sym e);
-          s0 = kept r _ _ h;
-          s1 = kept r _ _ h;
-          z0 = kept r _ _ h;
-          z1 = kept r _ _ h;
-          public = kept r _ _ h;
-        }
+    pub import-refused : (dk maskCoeffs maskWords : List ℕ) (key : SplitKey)
+        → importAnswer p dk maskCoeffs maskWords key ≡ r
+        → Imported p dk maskCoeffs maskWords key (number r) key
+    import-refused dk maskCoeffs maskWords key e = record { answer = ap number (sym e); key = kept r _ _ h }

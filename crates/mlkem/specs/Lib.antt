@@ -1,7 +1,11 @@
 pub mod MlKem
 pub mod Reduced
 pub mod ReducedLaws
+pub mod SplitKey
 pub mod Calls
+pub mod Importable
+pub mod Sized
 pub mod CallLaws
 pub mod AcceptedLaws
-pub mod SplitKey
+pub mod Written
+pub mod ImportLaws

@@ -8,13 +8,17 @@ use Rattle.kpke.specs.Parameters.{Parameters, vectorBytes, ekBytes}
 use Rattle.kpke.specs.Functions.{H, J, G₁, G₂}
 use Rattle.kpke.specs.KPke.{ekPke, dkPke, encrypt, decrypt}
 
+-- Algorithm 16, line 3: dk, from K-PKE's dk, ek and z
+abbrev pub wholeDk : List ℕ → List ℕ → List ℕ → List ℕ
+wholeDk dk ek z = dk ++ (ek ++ (H ek ++ z))
+
 module _ (p : Parameters) where
   -- Algorithm 16, ML-KEM.KeyGen_internal(d, z): ek and dk
   unfoldable pub keyGenEk : List ℕ → List ℕ
   keyGenEk d = ekPke p d
 
   unfoldable pub keyGenDk : List ℕ → List ℕ → List ℕ
-  keyGenDk d z = dkPke p d ++ (keyGenEk d ++ (H (keyGenEk d) ++ z))
+  keyGenDk d z = wholeDk (dkPke p d) (keyGenEk d) z
 
   -- Algorithm 17, ML-KEM.Encaps_internal(ek, m): line 1's K, and c
   unfoldable pub encapsKey : List ℕ → List ℕ → List ℕ

@@ -10,7 +10,8 @@ use lib.ListN.{getD}
 use Rattle.words.specs.Residue.{q}
 use Rattle.words.specs.Bounded.{Below}
 use Rattle.words.specs.BoundedLaws.{below-nil, below-cons, below-head, below-tail}
-use Rattle.refusals.specs.SameLaws.{and-left, and-right, refuted}
+use Rattle.words.specs.Walk.{refuted}
+use Rattle.refusals.specs.SameLaws.{and-left, and-right}
 use Rattle.mlkem.specs.Reduced.{reduced}
 
 pub reduced-below : (l : List ℕ) → reduced l ≡ true → Below q l

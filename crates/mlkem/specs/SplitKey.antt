@@ -1,20 +1,26 @@
 -- Document 01, The work and its edge: a split key, and the split that import makes of a key.
-use mathlib.Core.Path.{_≡_}
-use mathlib.Core.List.{List, _++_}
-use Prim.Native.Nat.{ℕ, _*_, _^_}
-use lib.ListN.{length, take, drop}
-use Rattle.words.specs.Bounded.{Below}
+use mathlib.Core.List.{List, [], _∷_, _++_}
+use Prim.Native.Nat.{ℕ, _+_, _-_, _*_, _%_}
+use lib.ListN.{getD, take, drop}
+use Rattle.words.specs.Word.{xor}
 use Rattle.words.specs.Residue.{q}
+use Rattle.words.specs.Tab.{tab}
+use Rattle.fips202.specs.Sponge.{laneOf}
 use Rattle.worksheet.specs.SharedList.{SharedList, sharedList}
+use Rattle.refusals.specs.Refusals.{Lent, lent}
 use Rattle.kpke.specs.Parameters.{Parameters, ekBytes}
-use Rattle.mlkem.specs.MlKem.{publicPart, hashPart}
-use Rattle.mlkem.specs.Calls.{Accepted, secondCoeffs, secondWords}
+use Rattle.kpke.specs.KPke.{coefficients}
+use Rattle.mlkem.specs.MlKem.{secretPart, publicPart, hashPart, zPart}
 
--- the secret's shares, z's shares, and the public part: the public key, then h
+-- the secret's shares, z's shares, and the public key followed by h
 pub record SplitKey : Type 0 where
   pub s : SharedList
   pub z : SharedList
   pub public : List ℕ
+
+-- by the five buffers that hold it
+abbrev pub splitKey : List ℕ → List ℕ → List ℕ → List ℕ → List ℕ → SplitKey
+splitKey s0 s1 z0 z1 public = record { s = sharedList s0 s1; z = sharedList z0 z1; public = public }
 
 module _ (p : Parameters) where
   -- the public key and h, as stored
@@ -24,20 +30,26 @@ module _ (p : Parameters) where
   abbrev pub hOf : SplitKey → List ℕ
   hOf key = drop (ekBytes p) (key .public)
 
-  -- import's split of dk with the first shares a of the secret and w of z
-  unfoldable pub split : List ℕ → List ℕ → List ℕ → SplitKey
-  split dk a w =
-      record {
-        s = sharedList a (secondCoeffs p dk a);
-        z = sharedList w (secondWords p dk w);
-        public = publicPart p dk ++ hashPart p dk;
-      }
+  -- the lengths that the five buffers must have
+  abbrev pub keyLengths : SplitKey → List Lent
+  keyLengths key =
+      lent (key .s .s0) (256 * p .k)
+      ∷ lent (key .s .s1) (256 * p .k)
+      ∷ lent (key .z .s0) 4
+      ∷ lent (key .z .s1) 4
+      ∷ lent (key .public) (ekBytes p + 32)
+      ∷ []
 
--- an accepted key, and first shares of its secret and of z
-pub record Importable (p : Parameters) (dk a w : List ℕ) : Type 0 where
-  pub accepted : Accepted p dk
-  pub bytes : Below 256 dk
-  pub coeffs : length a ≡ 256 * p .k
-  pub range : Below q a
-  pub words : length w ≡ 4
-  pub bits : Below (2 ^ 64) w
+  -- ---- import's split of dk: the first shares are the masks
+
+  unfoldable pub secondCoeffs : List ℕ → List ℕ → List ℕ
+  secondCoeffs dk maskCoeffs =
+      tab (256 * p .k) (λ i. (getD (coefficients (p .k) (secretPart p dk)) i 0 + (q - getD maskCoeffs i 0)) % q)
+
+  unfoldable pub secondWords : List ℕ → List ℕ → List ℕ
+  secondWords dk maskWords = tab 4 (λ i. xor (laneOf (zPart p dk) i) (getD maskWords i 0))
+
+  unfoldable pub split : List ℕ → List ℕ → List ℕ → SplitKey
+  split dk maskCoeffs maskWords =
+      splitKey maskCoeffs (secondCoeffs dk maskCoeffs) maskWords (secondWords dk maskWords)
+      (publicPart p dk ++ hashPart p dk)

@@ -34,7 +34,7 @@ pub fn same(a: &[u8], b: &[u8]) -> bool
 }
 
 // Each coefficient of an encoded vector is below q.
-pub fn vector_reduced(b: &[u8]) -> bool
+pub(crate) fn vector_reduced(b: &[u8]) -> bool
     requires { ⌜ length (now b) ≡ 1152 ⌝ }
     ensures { λ r. ⌜ r ≡ reducedOf (coefficients 3 (now (b .entry))) ⌝ }
 {
@@ -44,7 +44,7 @@ pub fn vector_reduced(b: &[u8]) -> bool
 }
 
 // h is the public key's hash.
-pub fn hash_matches(h: &[u8], ek: &[u8]) -> bool
+pub(crate) fn hash_matches(h: &[u8], ek: &[u8]) -> bool
     requires { ⌜ length (now h) ≡ 32 ⌝ }
     ensures { λ r. ⌜ r ≡ sameOf (now (h .entry)) (sha3-256 (now (ek .entry))) ⌝ }
 {

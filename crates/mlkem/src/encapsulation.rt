@@ -1,11 +1,9 @@
 // ML-KEM.Encaps_internal (FIPS 203, algorithm 17).
-ghost use mathlib.Core.Path.{_≡_};
-ghost use lib.ListN.{drop};
 ghost use Rattle.kpke.specs.Parameters.{mlKem768};
-ghost use Rattle.mlkem.specs.MlKem.{encapsKey, encapsCt};
-ghost use Rattle.mlkem.specs.Calls.{EncapsSized, Encapsulated};
+ghost use Rattle.mlkem.specs.Calls.{Encapsulated};
+ghost use Rattle.mlkem.specs.Sized.{EncapsSized};
+ghost use Rattle.mlkem.specs.Written.{SecretInput, SecretWritten};
 ghost use Rattle.refusals.specs.Refusals.{number};
-ghost use Rattle.kpke.specs.Expanded.{Expanded};
 use crate::conditions::vector_reduced;
 use kpke::copy::copy_bytes;
 use kpke::encrypt::encrypt;
@@ -17,12 +15,8 @@ use refusals::exact;
 
 // Lines 1 and 2, for the matrix A-hat in a: K and the coins r are the halves of g.
 fn write_secret(a: &[u16], ek: &[u8], m: &[u8], ct: &mut [u8], k: &mut [u8])
-    requires { ⌜
-        Expanded 3 (drop 1152 (now ek)) (now a)
-        × EncapsSized mlKem768 (now ek) (now m) (now ct) (now k)
-        ⌝ }
-    ensures { λ _. ⌜ now (ct .exit) ≡ encapsCt mlKem768 (now (ek .entry)) (now (m .entry)) ⌝ }
-    ensures { λ _. ⌜ now (k .exit) ≡ encapsKey mlKem768 (now (ek .entry)) (now (m .entry)) ⌝ }
+    requires { ⌜ SecretInput mlKem768 (now a) (now ek) (now m) (now ct) (now k) ⌝ }
+    ensures { λ _. ⌜ SecretWritten mlKem768 (now (ek .entry)) (now (m .entry)) (now (ct .exit)) (now (k .exit)) ⌝ }
 {
     let mut h = [0u8; 32];
     let mut g = [0u8; 64];

@@ -1,13 +1,13 @@
 // ML-KEM.KeyGen_internal (FIPS 203, algorithm 16).
-ghost use mathlib.Core.List.{List, [], _∷_, _++_};
+ghost use mathlib.Core.List.{_++_};
 ghost use mathlib.Core.Path.{_≡_};
-ghost use Prim.Native.Nat.{ℕ, _+_};
-ghost use lib.ListN.{length, take};
-ghost use Rattle.fips202.specs.Sponge.{sha3-256, sha3-512};
+ghost use Prim.Native.Nat.{_+_};
+ghost use lib.ListN.{length};
+ghost use Rattle.fips202.specs.Sponge.{sha3-256};
 ghost use Rattle.kpke.specs.Parameters.{mlKem768};
-ghost use Rattle.kpke.specs.Expanded.{Expanded};
-ghost use Rattle.mlkem.specs.MlKem.{keyGenEk, keyGenDk};
-ghost use Rattle.mlkem.specs.Calls.{KeyGenSized, KeysMade};
+ghost use Rattle.mlkem.specs.Calls.{KeysMade};
+ghost use Rattle.mlkem.specs.Sized.{KeyGenSized};
+ghost use Rattle.mlkem.specs.Written.{KeysInput, KeysWritten};
 ghost use Rattle.refusals.specs.Refusals.{number};
 use kpke::copy::copy_bytes;
 use kpke::hashes::hash_g_seed;
@@ -28,25 +28,14 @@ fn write_rest(ek: &[u8], z: &[u8], rest: &mut [u8])
     copy_bytes(z, &mut rest[e..]);
 }
 
-// Lines 1 to 3, for the matrix A-hat in a and the hash rho || sigma in g that K-PKE's keys are made from.
+// Lines 1 to 3, for the matrix A-hat in a and the seeds rho || sigma in g that K-PKE's keys are made from.
 fn write_keys(a: &[u16], g: &[u8], z: &[u8], ek: &mut [u8], dk: &mut [u8])
-    requires { ⌜
-        Expanded 3 (take 32 (now g)) (now a)
-        × (length (now g) ≡ 64)
-        × (length (now z) ≡ 32)
-        × (length (now ek) ≡ 1184)
-        × (length (now dk) ≡ 2400)
-        ⌝ }
+    requires { ⌜ KeysInput mlKem768 (now a) (now g) (now z) (now ek) (now dk) ⌝ }
     ensures { λ _. ⌜
-        ((d : List ℕ) → now (g .entry) ≡ sha3-512 (d ++ 3 ∷ []) → now (ek .exit) ≡ keyGenEk mlKem768 d)
-        ⌝ }
-    ensures { λ _. ⌜
-        ((d : List ℕ)
-        → now (g .entry) ≡ sha3-512 (d ++ 3 ∷ [])
-        → now (dk .exit) ≡ keyGenDk mlKem768 d (now (z .entry)))
+        KeysWritten mlKem768 (now (g .entry)) (now (z .entry)) (now (ek .exit)) (now (dk .exit))
         ⌝ }
 {
-    kpke::key_making::write_keys(a, g, ek, &mut dk[0..1152]);
+    kpke::key_making::write_keys(a, &g[0..32], &g[32..], ek, &mut dk[0..1152]);
     write_rest(ek, z, &mut dk[1152..]);
 }
 

@@ -1,14 +1,16 @@
 // Import: a decapsulation key (FIPS 203, algorithm 16) is tested, by section 7.3's hash check among others, and split.
-ghost use mathlib.Core.List.{_++_};
 ghost use mathlib.Core.Path.{_≡_};
-ghost use lib.ListN.{length, getD};
+ghost use lib.ListN.{getD};
 ghost use Rattle.words.specs.Word.{xor};
 ghost use Rattle.words.specs.Tab.{tab};
 ghost use Rattle.fips202.specs.Sponge.{laneOf};
 ghost use Rattle.ring.specs.Polynomial.{sub};
+ghost use Rattle.worksheet.specs.SharedList.{sharedList};
 ghost use Rattle.kpke.specs.Parameters.{mlKem768};
-ghost use Rattle.mlkem.specs.MlKem.{publicPart, hashPart};
-ghost use Rattle.mlkem.specs.Calls.{ImportSized, Imported, secondWords};
+ghost use Rattle.mlkem.specs.SplitKey.{splitKey, split};
+ghost use Rattle.mlkem.specs.Calls.{Imported};
+ghost use Rattle.mlkem.specs.Sized.{ImportSized};
+ghost use Rattle.mlkem.specs.Written.{SplitInput, SharingInput};
 ghost use Rattle.refusals.specs.Refusals.{number};
 use crate::conditions::hash_matches;
 use crate::conditions::reduced;
@@ -21,39 +23,43 @@ use refusals::Answer;
 use refusals::exact;
 use ring::sub_from;
 
-// The shares of the coefficients s, of which r is the first.
-fn split_coefficients(s: &[u16], r: &[u16], s0: &mut [u16], s1: &mut [u16])
-    requires { ⌜
-        (length (now s) ≡ 768) × (length (now r) ≡ 768) × (length (now s0) ≡ 768) × (length (now s1) ≡ 768)
+// The shares of the coefficients s.
+fn split_coefficients(s: &[u16], mask_coeffs: &[u16], s0: &mut [u16], s1: &mut [u16])
+    requires { ⌜ SharingInput 768 768 (now s) (now «mask_coeffs») (now s0) (now s1) ⌝ }
+    ensures { λ _. ⌜
+        sharedList (now (s0 .exit)) (now (s1 .exit))
+        ≡ sharedList (now («mask_coeffs» .entry)) (sub (now (s .entry)) (now («mask_coeffs» .entry)))
         ⌝ }
-    ensures { λ _. ⌜ now (s0 .exit) ≡ now (r .entry) ⌝ }
-    ensures { λ _. ⌜ now (s1 .exit) ≡ sub (now (s .entry)) (now (r .entry)) ⌝ }
 {
-    copy_coefficients(r, s0);
+    copy_coefficients(mask_coeffs, s0);
     copy_coefficients(s, s1);
-    sub_from(s1, r);
+    sub_from(s1, mask_coeffs);
 }
 
-// The shares of the four words of z, of which w is the first.
-fn split_words(z: &[u8], w: &[u64], z0: &mut [u64], z1: &mut [u64])
-    requires { ⌜ (length (now z) ≡ 32) × (length (now w) ≡ 4) × (length (now z0) ≡ 4) × (length (now z1) ≡ 4) ⌝ }
-    ensures { λ _. ⌜ now (z0 .exit) ≡ now (w .entry) ⌝ }
-    ensures { λ _. ⌜ now (z1 .exit) ≡ tab 4 (λ i. xor (laneOf (now (z .entry)) i) (getD (now (w .entry)) i 0)) ⌝ }
+// The shares of the four words of z.
+fn split_words(z: &[u8], mask_words: &[u64], z0: &mut [u64], z1: &mut [u64])
+    requires { ⌜ SharingInput 32 4 (now z) (now «mask_words») (now z0) (now z1) ⌝ }
+    ensures { λ _. ⌜
+        sharedList (now (z0 .exit)) (now (z1 .exit))
+        ≡ sharedList
+        (now («mask_words» .entry))
+        (tab 4 (λ i. xor (laneOf (now (z .entry)) i) (getD (now («mask_words» .entry)) i 0)))
+        ⌝ }
 {
     for i in 0..4 {
         let a = 8 * i;
         let e = a + 8;
-        z0[i] = w[i];
-        z1[i] = load(&z[a..e]) ^ w[i];
+        z0[i] = mask_words[i];
+        z1[i] = load(&z[a..e]) ^ mask_words[i];
     }
 }
 
-// The two shares and the public part, for the key's secret coefficients s.
+// The split key, for the key's secret coefficients s.
 fn write_split(
     dk: &[u8],
     s: &[u16],
-    coeffs: &[u16],
-    words: &[u64],
+    mask_coeffs: &[u16],
+    mask_words: &[u64],
     s0: &mut [u16],
     s1: &mut [u16],
     z0: &mut [u64],
@@ -61,36 +67,24 @@ fn write_split(
     public: &mut [u8],
 )
     requires { ⌜
-        (length (now s) ≡ 768)
-        × ImportSized
-        mlKem768
-        (now dk)
-        (now coeffs)
-        (now words)
-        (now s0)
-        (now s1)
-        (now z0)
-        (now z1)
-        (now public)
+        SplitInput mlKem768 (now dk) (now s) (now «mask_coeffs») (now «mask_words»)
+        (splitKey (now s0) (now s1) (now z0) (now z1) (now public))
         ⌝ }
-    ensures { λ _. ⌜ now (s0 .exit) ≡ now (coeffs .entry) ⌝ }
-    ensures { λ _. ⌜ now (s1 .exit) ≡ sub (now (s .entry)) (now (coeffs .entry)) ⌝ }
-    ensures { λ _. ⌜ now (z0 .exit) ≡ now (words .entry) ⌝ }
-    ensures { λ _. ⌜ now (z1 .exit) ≡ secondWords mlKem768 (now (dk .entry)) (now (words .entry)) ⌝ }
     ensures { λ _. ⌜
-        now (public .exit) ≡ publicPart mlKem768 (now (dk .entry)) ++ hashPart mlKem768 (now (dk .entry))
+        splitKey (now (s0 .exit)) (now (s1 .exit)) (now (z0 .exit)) (now (z1 .exit)) (now (public .exit))
+        ≡ split mlKem768 (now (dk .entry)) (now («mask_coeffs» .entry)) (now («mask_words» .entry))
         ⌝ }
 {
-    split_coefficients(s, coeffs, s0, s1);
-    split_words(&dk[2368..2400], words, z0, z1);
+    split_coefficients(s, mask_coeffs, s0, s1);
+    split_words(&dk[2368..2400], mask_words, z0, z1);
     copy_bytes(&dk[1152..2368], public);
 }
 
 // Import, row 1 passed.
 fn import_sized(
     dk: &[u8],
-    coeffs: &[u16],
-    words: &[u64],
+    mask_coeffs: &[u16],
+    mask_words: &[u64],
     s0: &mut [u16],
     s1: &mut [u16],
     z0: &mut [u64],
@@ -98,34 +92,14 @@ fn import_sized(
     public: &mut [u8],
 ) -> Answer
     requires { ⌜
-        ImportSized
-        mlKem768
-        (now dk)
-        (now coeffs)
-        (now words)
-        (now s0)
-        (now s1)
-        (now z0)
-        (now z1)
-        (now public)
+        ImportSized mlKem768 (now dk) (now «mask_coeffs») (now «mask_words»)
+        (splitKey (now s0) (now s1) (now z0) (now z1) (now public))
         ⌝ }
     ensures { λ r. ⌜
-        Imported
-        mlKem768
-        (now (dk .entry))
-        (now (coeffs .entry))
-        (now (words .entry))
-        (now (s0 .entry))
-        (now (s1 .entry))
-        (now (z0 .entry))
-        (now (z1 .entry))
-        (now (public .entry))
+        Imported mlKem768 (now (dk .entry)) (now («mask_coeffs» .entry)) (now («mask_words» .entry))
+        (splitKey (now (s0 .entry)) (now (s1 .entry)) (now (z0 .entry)) (now (z1 .entry)) (now (public .entry)))
         (number r)
-        (now (s0 .exit))
-        (now (s1 .exit))
-        (now (z0 .exit))
-        (now (z1 .exit))
-        (now (public .exit))
+        (splitKey (now (s0 .exit)) (now (s1 .exit)) (now (z0 .exit)) (now (z1 .exit)) (now (public .exit)))
         ⌝ }
 {
     let mut s = [0u16; 768];
@@ -140,17 +114,17 @@ fn import_sized(
     if !reduced(&s) {
         return Answer::SecretRange;
     }
-    if !reduced(coeffs) {
+    if !reduced(mask_coeffs) {
         return Answer::MaskRange;
     }
-    write_split(dk, &s, coeffs, words, s0, s1, z0, z1, public);
+    write_split(dk, &s, mask_coeffs, mask_words, s0, s1, z0, z1, public);
     Answer::Done
 }
 
 pub fn import(
     dk: &[u8],
-    coeffs: &[u16],
-    words: &[u64],
+    mask_coeffs: &[u16],
+    mask_words: &[u64],
     s0: &mut [u16],
     s1: &mut [u16],
     z0: &mut [u64],
@@ -158,28 +132,16 @@ pub fn import(
     public: &mut [u8],
 ) -> Answer
     ensures { λ r. ⌜
-        Imported
-        mlKem768
-        (now (dk .entry))
-        (now (coeffs .entry))
-        (now (words .entry))
-        (now (s0 .entry))
-        (now (s1 .entry))
-        (now (z0 .entry))
-        (now (z1 .entry))
-        (now (public .entry))
+        Imported mlKem768 (now (dk .entry)) (now («mask_coeffs» .entry)) (now («mask_words» .entry))
+        (splitKey (now (s0 .entry)) (now (s1 .entry)) (now (z0 .entry)) (now (z1 .entry)) (now (public .entry)))
         (number r)
-        (now (s0 .exit))
-        (now (s1 .exit))
-        (now (z0 .exit))
-        (now (z1 .exit))
-        (now (public .exit))
+        (splitKey (now (s0 .exit)) (now (s1 .exit)) (now (z0 .exit)) (now (z1 .exit)) (now (public .exit)))
         ⌝ }
 {
     let has = [
         dk.len(),
-        coeffs.len(),
-        words.len(),
+        mask_coeffs.len(),
+        mask_words.len(),
         s0.len(),
         s1.len(),
         z0.len(),
@@ -189,5 +151,5 @@ pub fn import(
     if !exact(&has, &[2400, 768, 4, 768, 768, 4, 4, 1216]) {
         return Answer::WrongLength;
     }
-    import_sized(dk, coeffs, words, s0, s1, z0, z1, public)
+    import_sized(dk, mask_coeffs, mask_words, s0, s1, z0, z1, public)
 }

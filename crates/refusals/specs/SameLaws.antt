@@ -2,13 +2,11 @@
 use mathlib.Core.Path.{_≡_, refl, sym, ap, ap₂, _∙_}
 use mathlib.Core.Bool.{Bool, true, false, _&&_}
 use mathlib.Core.List.{List, [], _∷_}
-use Prim.Native.Nat.{ℕ, _+_, _<_, _≤_}
-use native.Mathlib.Omega.{arith}
-use borrow.Author.Count.{below-more}
+use Prim.Native.Nat.{ℕ, _≤_}
 use borrow.Author.Tests.{eq-eqb, eqb-true}
 use lib.Dec.{eqb}
 use lib.ListN.{length, getD}
-use lib.Seq.{ext-getD}
+use Rattle.words.specs.Walk.{Walked, walked-equal, refuted}
 use Rattle.refusals.specs.Same.{same}
 
 -- ---- tests
@@ -20,11 +18,6 @@ and-left false b h = h
 pub and-right : (a b : Bool) → (a && b) ≡ true → b ≡ true
 and-right true b h = h
 and-right false b h = let z : _≡_ {A = Bool} false true = h in cc
-
--- a test that proves what fails is false
-pub refuted : {P : Type 0} (b : Bool) → (b ≡ true → P) → (P → ⊥) → b ≡ false
-refuted true f g = absurd (g (f refl))
-refuted false f g = refl
 
 -- ---- equal lists
 
@@ -42,20 +35,17 @@ same-true (x ∷ k) (y ∷ l) h =
     ap₂ (λ (a : ℕ) (b : List ℕ). a ∷ b) (eqb-true x y (and-left (eqb x y) (same k l) h))
     (same-true k l (and-right (eqb x y) (same k l) h))
 
-pub same-false : (k l : List ℕ) (i : ℕ) → (getD k i 0 ≡ getD l i 0 → ⊥) → same k l ≡ false
-same-false k l i g = refuted (same k l) (same-true k l) (λ e. g (ap (λ (m : List ℕ). getD m i 0) e))
+-- ---- a loop that compares place by place
 
--- ---- a loop that compares: the first i places agree
-pub record Agree (k l : List ℕ) (i : ℕ) : Type 0 where
-  pub within : i ≤ length k
-  pub at : (j : ℕ) → j < i → getD k j 0 ≡ getD l j 0
+-- where it stops, a place differs
+pub same-differ : (k l : List ℕ) (i : ℕ) → (getD k i 0 ≡ getD l i 0 → ⊥) → false ≡ same k l
+same-differ k l i g = sym (refuted (same k l) (same-true k l) (λ e. g (ap (λ (m : List ℕ). getD m i 0) e)))
 
-pub agree-start : {k l : List ℕ} → Agree k l 0
-agree-start = record { within = omega arith; at = λ j h. absurd (omega arith) }
+-- at its end, lists of one length are equal
+pub same-walked : (k l : List ℕ) {i : ℕ} → Walked (length k) (λ j. getD k j 0 ≡ getD l j 0) i → length k ≤ i
+    → length k ≡ length l → true ≡ same k l
+same-walked k l w h e = sym (ap (same k) (sym (walked-equal 0 w h e)) ∙ same-refl k)
 
-pub agree-turn : {k l : List ℕ} {i : ℕ} → Agree k l i → i < length k → getD k i 0 ≡ getD l i 0 → Agree k l (i + 1)
-agree-turn a h e = record { within = omega arith; at = below-more _ _ (a .at) e }
-
-pub agree-end : {k l : List ℕ} {i : ℕ} → Agree k l i → length k ≤ i → length k ≡ length l → true ≡ same k l
-agree-end {k} {l} a h e =
-    sym (ap (same k) (sym (ext-getD 0 k l e (λ j g. a .at j (omega arith)))) ∙ same-refl k)
+-- lists of different lengths need no loop
+pub same-lengths : (k l : List ℕ) → (length k ≡ length l → ⊥) → false ≡ same k l
+same-lengths k l g = sym (refuted (same k l) (same-true k l) (λ e. g (ap length e)))

@@ -6,10 +6,13 @@ use Prim.Native.Nat.{ℕ, _+_, _*_, _<_, _≤_}
 use native.Mathlib.Nat.{mul-le-mul-right}
 use native.Mathlib.Omega.{arith}
 use lib.ListN.{length, getD}
-use Rattle.words.specs.Tab.{tab}
-use Rattle.words.specs.Iterate.{iterate, Reached, reached-start, reached-turn, reached-end}
+use Rattle.words.specs.Residue.{q}
+use Rattle.words.specs.TabLaws.{length-tab}
+use Rattle.words.specs.Iterate.{iterate}
+use Rattle.words.specs.IterateLaws.{Reached, reached-start, reached-turn, reached-end}
 use Rattle.ring.specs.Transform.{zeta}
-use Rattle.ring.proofs.Powers.{root}
+use Rattle.ring.specs.Sizes.{LayerInput}
+use Rattle.ring.proofs.Powers.{root, root-below}
 
 -- f₀ has become f by j of the len pairs of one block
 pub record Paired (pair : ℕ → ℕ → ℕ → List ℕ → List ℕ) (z len start : ℕ) (f₀ : List ℕ) (j : ℕ)
@@ -30,28 +33,37 @@ module _ {pair : ℕ → ℕ → ℕ → List ℕ → List ℕ} {z len start : �
   paired-end p h = reached-end (p .reached) h
 
 -- f₀ has become f by b of the k blocks of one layer, block b with the table's entry number `entry b`
-pub record Layered (block : ℕ → ℕ → ℕ → List ℕ → List ℕ) (entry : ℕ → ℕ) (k len : ℕ) (f₀ : List ℕ) (b : ℕ)
-    (f : List ℕ) : Type 0 where
+pub record Layered (block : ℕ → ℕ → ℕ → List ℕ → List ℕ) (entry : ℕ → ℕ) (zetas : List ℕ) (k len : ℕ) (f₀ : List ℕ)
+    (b : ℕ) (f : List ℕ) : Type 0 where
+  pub input : LayerInput f₀ zetas k len
+  pub entries : length zetas ≡ 128
   pub long : length f ≡ length f₀
   pub reached : Reached k (λ b. block (zeta (entry b)) len (b * (2 * len))) f₀ b f
 
--- block b of k lies within n coefficients
-pub block-fits : (k len b : ℕ) {n : ℕ} → k * (2 * len) ≤ n → b < k → b * (2 * len) + 2 * len ≤ n
-block-fits k len b h l = omega (arith, mul-le-mul-right (2 * len) l)
+module _ {block : ℕ → ℕ → ℕ → List ℕ → List ℕ} {entry : ℕ → ℕ} {zetas : List ℕ} {k len : ℕ} where
+  pub layered-start : {f : List ℕ} → LayerInput f zetas k len → Layered block entry zetas k len f 0 f
+  layered-start i =
+      record { input = i; entries = ap length (i .table) ∙ length-tab 128 zeta; long = refl; reached = reached-start }
 
-module _ {block : ℕ → ℕ → ℕ → List ℕ → List ℕ} {entry : ℕ → ℕ} {k len : ℕ} where
-  pub layered-start : {f : List ℕ} → Layered block entry k len f 0 f
-  layered-start = record { long = refl; reached = reached-start }
+  module _ {f₀ f : List ℕ} {b : ℕ} (p : Layered block entry zetas k len f₀ b f) where
+    -- block b lies within f
+    pub layered-fits : b < k → b * (2 * len) + 2 * len ≤ length f
+    layered-fits h = omega (arith, mul-le-mul-right (2 * len) h, p .input .blocks, p .long)
 
-  pub layered-turn : {zetas f₀ f f′ : List ℕ} {b : ℕ} → zetas ≡ tab 128 zeta → Layered block entry k len f₀ b f → b < k
-      → entry b < 128 → length f′ ≡ length f → f′ ≡ block (getD zetas (entry b) 0) len (b * (2 * len)) f
-      → Layered block entry k len f₀ (b + 1) f′
-  layered-turn {f = f} {b = b} t p h g l e =
-      record {
-        long = l ∙ p .long;
-        reached = reached-turn (p .reached) h (e ∙ ap (λ (z : ℕ). block z len (b * (2 * len)) f) (root t (entry b) g));
-      }
+    -- and its root is below q
+    pub layered-root : entry b < 128 → getD zetas (entry b) 0 < q
+    layered-root g = root-below (p .input .table) (entry b) g
 
-  pub layered-end : {f₀ f : List ℕ} {b : ℕ} → Layered block entry k len f₀ b f → k ≤ b
-      → f ≡ iterate k (λ b. block (zeta (entry b)) len (b * (2 * len))) f₀
-  layered-end p h = reached-end (p .reached) h
+    pub layered-turn : {f′ : List ℕ} → b < k → entry b < 128 → length f′ ≡ length f
+        → f′ ≡ block (getD zetas (entry b) 0) len (b * (2 * len)) f → Layered block entry zetas k len f₀ (b + 1) f′
+    layered-turn h g l e =
+        let r = ap (λ (z : ℕ). block z len (b * (2 * len)) f) (root (p .input .table) (entry b) g) in
+        record {
+          input = p .input;
+          entries = p .entries;
+          long = l ∙ p .long;
+          reached = reached-turn (p .reached) h (e ∙ r);
+        }
+
+    pub layered-end : k ≤ b → f ≡ iterate k (λ b. block (zeta (entry b)) len (b * (2 * len))) f₀
+    layered-end h = reached-end (p .reached) h

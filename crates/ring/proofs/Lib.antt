@@ -1,4 +1,5 @@
 pub mod Powers
+pub mod Butterflies
 pub mod Layers
 pub mod Products
 pub mod Shoup

@@ -7,7 +7,8 @@ use native.Mathlib.Nat.{mod-lt}
 use native.Mathlib.Omega.{arith}
 use lib.Dec.{T, eqb, eqb→eq}
 use lib.ListN.{getD}
-use Rattle.words.specs.Tab.{tab, getD-tab}
+use Rattle.words.specs.Tab.{tab}
+use Rattle.words.specs.TabLaws.{getD-tab}
 use Rattle.words.specs.Residue.{q}
 use Rattle.words.specs.Table.{every}
 use Rattle.words.specs.TableLaws.{every-at, table-tab}

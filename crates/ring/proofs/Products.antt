@@ -1,15 +1,37 @@
--- A product is added to s pair by pair: the pairs done are those of the sum, and the others are still as they were.
+-- A product is added to s pair by pair: what the calls on one pair leave, and the loop over all of them, in which the
+-- pairs done are those of the sum and the others are still as they were.
 use mathlib.Core.Path.{_≡_, sym, ap, ap₂, _∙_}
 use mathlib.Core.List.{List}
 use Prim.Native.Nat.{ℕ, _+_, _*_, _%_, _<_, _≤_}
 use native.Mathlib.Omega.{arith}
-use lib.ListN.{length, getD}
+use lib.ListN.{length, getD, set}
 use Rattle.words.specs.Residue.{q}
 use Rattle.words.specs.Tab.{tab}
 use Rattle.words.specs.Fill.{Replaced, replaced-start, replaced-turn, replaced-end}
 use Rattle.ring.specs.Polynomial.{add}
-use Rattle.ring.specs.Transform.{multiplyNtts}
+use Rattle.ring.specs.Sum.{add-mul-mod}
+use Rattle.ring.specs.Transform.{gamma, multiplyNtts}
 use Rattle.ring.specs.MultiplyLaws.{addPair, getD-multiplyNtts-even, getD-multiplyNtts-odd}
+
+-- t is b1 γ, reduced before a1 multiplies it, which changes nothing modulo q; x and y are stored
+pub pair-calls : (s f g : List ℕ) (i : ℕ) {z t x y : ℕ} → z ≡ gamma i → t ≡ getD g (2 * i + 1) 0 * z % q
+    → x ≡ (getD s (2 * i) 0 + (getD f (2 * i) 0 * getD g (2 * i) 0 + getD f (2 * i + 1) 0 * t) % q) % q
+    → y
+    ≡ (getD s (2 * i + 1) 0 + (getD f (2 * i) 0 * getD g (2 * i + 1) 0 + getD f (2 * i + 1) 0 * getD g (2 * i) 0) % q)
+    % q
+    → set (set s (2 * i) x) (2 * i + 1) y ≡ addPair f g i s
+pair-calls s f g i ez et ex ey =
+    let u = getD f (2 * i) 0 * getD g (2 * i) 0 in
+    let a1 = getD f (2 * i + 1) 0 in
+    let b1 = getD g (2 * i + 1) 0 in
+    let regrouped : u + a1 * (b1 * gamma i) ≡ u + a1 * b1 * gamma i = omega arith in
+    ap₂ (λ (m n : ℕ). set (set s (2 * i) m) (2 * i + 1) n)
+    (ex
+    ∙ ap (λ (n : ℕ). (getD s (2 * i) 0 + n) % q)
+    (ap (λ (n : ℕ). (u + a1 * n) % q) (et ∙ ap (λ (c : ℕ). b1 * c % q) ez)
+    ∙ add-mul-mod u a1 (b1 * gamma i)
+    ∙ ap (λ (n : ℕ). n % q) regrouped))
+    ey
 
 -- coefficient k of s + f g
 abbrev sumAt : List ℕ → List ℕ → List ℕ → ℕ → ℕ

@@ -8,7 +8,8 @@ use native.Mathlib.Omega.{arith}
 use lib.ListN.{length, getD, set, length-set}
 use Rattle.words.specs.Residue.{q}
 use Rattle.words.specs.ResidueLaws.{mul-mod-mod}
-use Rattle.words.specs.Tab.{tab, length-tab, getD-tab, tab-of}
+use Rattle.words.specs.Tab.{tab}
+use Rattle.words.specs.TabLaws.{length-tab, getD-tab, tab-of}
 use Rattle.words.specs.Iterate.{iterate}
 use Rattle.words.specs.Bounded.{Below}
 use Rattle.words.specs.BoundedLaws.{below-set, below-tab}
@@ -60,10 +61,10 @@ module _ {h : ℕ → ℕ → ℕ} (c : Combination h) where
 
 -- ---- maps made of linear maps
 
-pub id-linear : {n : ℕ} → Linear n (λ f. f)
+id-linear : {n : ℕ} → Linear n (λ f. f)
 id-linear = record { long = λ f h. h; below = λ f e h. h; adds = λ f g h k. refl }
 
-pub comp-linear : {n : ℕ} (F G : List ℕ → List ℕ) → Linear n F → Linear n G → Linear n (λ f. F (G f))
+comp-linear : {n : ℕ} (F G : List ℕ → List ℕ) → Linear n F → Linear n G → Linear n (λ f. F (G f))
 comp-linear F G a b =
     record {
       long = λ f h. a .long (G f) (b .long f h);
@@ -71,7 +72,7 @@ comp-linear F G a b =
       adds = λ f g h k. ap F (b .adds f g h k) ∙ a .adds (G f) (G g) (b .long f h) (b .long g k);
     }
 
-pub iterate-linear : {n : ℕ} (m : ℕ) (step : ℕ → List ℕ → List ℕ) → ((i : ℕ) → Linear n (step i))
+iterate-linear : {n : ℕ} (m : ℕ) (step : ℕ → List ℕ → List ℕ) → ((i : ℕ) → Linear n (step i))
     → Linear n (iterate m step)
 unfolding iterate
 iterate-linear zero step h = id-linear
@@ -168,3 +169,8 @@ inverseNtt-linear =
     comp-linear (λ f. tab 256 (λ i. getD f i 0 * 3303 % q)) _ (scale-linear 256 3303)
     (layers-linear inverseButterfly (λ l. 2 ^ (6 - l)) (λ l. 2 ^ (l + 1)) (λ l b. 2 * 2 ^ (6 - l) - 1 - b)
     inverseButterfly-linear)
+
+-- whatever is transformed back, the result is a polynomial
+pub length-inverseNtt : (f : List ℕ) → length (inverseNtt f) ≡ 256
+unfolding inverseNtt
+length-inverseNtt f = length-tab 256 _

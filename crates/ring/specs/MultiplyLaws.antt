@@ -97,23 +97,30 @@ right0 a0 a1 γ = record { left = a0; right = a1 * γ; is = λ b0 b1. ap (λ (n 
 right1 : (a0 a1 : ℕ) → Combination (λ b0 b1. (a0 * b1 + a1 * b0) % q)
 right1 a0 a1 = record { left = a1; right = a0; is = λ b0 b1. ap (λ (n : ℕ). n % q) (omega arith) }
 
-pair-left : (f g h : List ℕ) (i : ℕ) → length f ≡ length g → pairOf (add f g) h i ≡ add (pairOf f h i) (pairOf g h i)
+-- h and k of pair i of l
+abbrev combined : (ℕ → ℕ → ℕ) → (ℕ → ℕ → ℕ) → ℕ → List ℕ → List ℕ
+combined h k i l =
+    h (getD l (2 * i) 0) (getD l (2 * i + 1) 0) ∷ k (getD l (2 * i) 0) (getD l (2 * i + 1) 0) ∷ []
+
+pair-add : {h k : ℕ → ℕ → ℕ} → Combination h → Combination k → (f g : List ℕ) (i : ℕ) → length f ≡ length g
+    → combined h k i (add f g) ≡ add (combined h k i f) (combined h k i g)
 unfolding add tab
+pair-add c d f g i e =
+    ap₂ (λ (x y : ℕ). x ∷ y ∷ [])
+    (combination-at c f g (2 * i) (2 * i + 1) e)
+    (combination-at d f g (2 * i) (2 * i + 1) e)
+
+pair-left : (f g h : List ℕ) (i : ℕ) → length f ≡ length g → pairOf (add f g) h i ≡ add (pairOf f h i) (pairOf g h i)
 pair-left f g h i e =
     let b0 = getD h (2 * i) 0 in
     let b1 = getD h (2 * i + 1) 0 in
-    ap₂ (λ (x y : ℕ). x ∷ y ∷ [])
-    (combination-at (left0 b0 b1 (gamma i)) f g (2 * i) (2 * i + 1) e)
-    (combination-at (left1 b0 b1) f g (2 * i) (2 * i + 1) e)
+    pair-add (left0 b0 b1 (gamma i)) (left1 b0 b1) f g i e
 
 pair-right : (f g h : List ℕ) (i : ℕ) → length g ≡ length h → pairOf f (add g h) i ≡ add (pairOf f g i) (pairOf f h i)
-unfolding add tab
 pair-right f g h i e =
     let a0 = getD f (2 * i) 0 in
     let a1 = getD f (2 * i + 1) 0 in
-    ap₂ (λ (x y : ℕ). x ∷ y ∷ [])
-    (combination-at (right0 a0 a1 (gamma i)) g h (2 * i) (2 * i + 1) e)
-    (combination-at (right1 a0 a1) g h (2 * i) (2 * i + 1) e)
+    pair-add (right0 a0 a1 (gamma i)) (right1 a0 a1) g h i e
 
 module _ (f g h : List ℕ) where
   pub multiplyNtts-add-left : length f ≡ length g

@@ -10,7 +10,8 @@ use lib.ListN.{List·getD-eq-default, List·getD-append}
 use lib.Seq.{getD-set-same, getD-set-other, getD-take, getD-drop, getD-append-add, ext-getD}
 use Rattle.words.specs.Residue.{q}
 use Rattle.words.specs.ResidueLaws.{mul-mod-mod, add-swap-mod}
-use Rattle.words.specs.Tab.{tab, length-tab, getD-tab, tab-cong, tab-add, part-tab}
+use Rattle.words.specs.Tab.{tab}
+use Rattle.words.specs.TabLaws.{length-tab, getD-tab, tab-cong, tab-add, part-tab}
 use Rattle.words.specs.Part.{length-part}
 use Rattle.words.specs.Bounded.{Below}
 use Rattle.words.specs.BoundedLaws.{below-tab}
@@ -66,7 +67,7 @@ pub getD-add-lt : (f g : List ℕ) (k : ℕ) → k < length f → getD (add f g)
 unfolding add
 getD-add-lt f g k h = getD-tab (length f) _ k 0 h
 
-pub getD-sub : (f g : List ℕ) (k : ℕ) → length f ≡ length g → getD (sub f g) k 0 ≡ minus (getD f k 0) (getD g k 0)
+getD-sub : (f g : List ℕ) (k : ℕ) → length f ≡ length g → getD (sub f g) k 0 ≡ minus (getD f k 0) (getD g k 0)
 unfolding sub
 getD-sub f g k e = getD-both minus refl f g k e
 

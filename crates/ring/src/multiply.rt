@@ -3,12 +3,12 @@ use crate::residue::product;
 use crate::residue::reduce;
 use crate::tables::ZETAS;
 ghost use mathlib.Core.Path.{_≡_};
-ghost use Prim.Native.Nat.{_+_, _*_, _%_, _<_};
-ghost use lib.ListN.{length};
+ghost use Prim.Native.Nat.{_+_, _*_, _%_};
 ghost use Rattle.words.specs.Residue.{q};
 ghost use Rattle.ring.specs.Polynomial.{add};
 ghost use Rattle.words.specs.Tab.{tab};
-ghost use Rattle.ring.specs.Transform.{zeta, gamma, multiplyNtts};
+ghost use Rattle.ring.specs.Transform.{gamma, multiplyNtts};
+ghost use Rattle.ring.specs.Sizes.{GammaInput, PairInput, ProductInput};
 ghost use Rattle.ring.specs.MultiplyLaws.{addPair};
 
 // s + u x + v y modulo q
@@ -20,10 +20,7 @@ fn combination(s: u16, u: u16, x: u16, v: u16, y: u16) -> u16
 
 // Algorithm 12, BaseCaseMultiply: c0 and c1 of pair i of f g are added to s.
 fn base_case_multiply(s: &mut [u16], f: &[u16], g: &[u16], i: usize, z: u16)
-    requires { ⌜ (2 * i + 1 < length (now s))
-        × (2 * i + 1 < length (now f))
-        × (2 * i + 1 < length (now g))
-        × (z ≡ gamma i) ⌝ }
+    requires { ⌜ PairInput (now s) (now f) (now g) i z ⌝ }
     ensures { λ _. ⌜ now (s .exit) ≡ addPair (now (f .entry)) (now (g .entry)) i (now (s .entry)) ⌝ }
 {
     let a0 = f[2 * i];
@@ -39,7 +36,7 @@ fn base_case_multiply(s: &mut [u16], f: &[u16], g: &[u16], i: usize, z: u16)
 // The constants of Algorithm 11, zeta^(2 BitRev7(i) + 1): pair 2 j has entry 64 + j of the roots' table, pair 2 j + 1
 // its negative.
 fn gammas_of(zetas: &[u16], gammas: &mut [u16])
-    requires { ⌜ (now zetas ≡ tab 128 zeta) × (length (now gammas) ≡ 128) ⌝ }
+    requires { ⌜ GammaInput (now zetas) (now gammas) ⌝ }
     ensures { λ _. ⌜ now (gammas .exit) ≡ tab 128 gamma ⌝ }
 {
     for j in 0..64 {
@@ -50,7 +47,7 @@ fn gammas_of(zetas: &[u16], gammas: &mut [u16])
 
 // Algorithm 11, MultiplyNTTs, added up: s becomes s + f g.
 pub fn multiply_add(s: &mut [u16], f: &[u16], g: &[u16])
-    requires { ⌜ (length (now s) ≡ 256) × (length (now f) ≡ 256) × (length (now g) ≡ 256) ⌝ }
+    requires { ⌜ ProductInput (now s) (now f) (now g) ⌝ }
     ensures { λ _. ⌜ now (s .exit) ≡ add (now (s .entry)) (multiplyNtts (now (f .entry)) (now (g .entry))) ⌝ }
 {
     let zetas = ZETAS;

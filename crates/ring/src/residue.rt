@@ -3,6 +3,7 @@ ghost use mathlib.Core.Path.{_≡_};
 ghost use Prim.Native.Nat.{_+_, _*_, _/_, _%_, _^_, _<_, _≤_};
 ghost use Rattle.words.specs.Residue.{q};
 ghost use Rattle.ring.specs.Polynomial.{minus};
+ghost use Rattle.ring.specs.Sizes.{Factor};
 
 // Barrett's quotient: 2^38 is 82570714 q + 38.
 pub fn quotient(x: u32) -> u32
@@ -73,7 +74,7 @@ pub fn shoup_quotient(z: u16) -> u16
 
 // z x modulo q by Shoup's way: w x / 2^16 is the quotient of z x or one less.
 pub fn multiple(z: u16, w: u16, x: u16) -> u16
-    requires { ⌜ (z < q) × (w ≡ z * 2 ^ 16 / q) ⌝ }
+    requires { ⌜ Factor z w ⌝ }
     ensures { λ r. ⌜ r ≡ z * x % q ⌝ }
 {
     let estimate = ((w as u32) * (x as u32)) >> 16;

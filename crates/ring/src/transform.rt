@@ -6,17 +6,18 @@ use crate::residue::remainder;
 use crate::residue::shoup_quotient;
 use crate::tables::ZETAS;
 ghost use mathlib.Core.Path.{_≡_};
-ghost use Prim.Native.Nat.{_+_, _-_, _*_, _/_, _%_, _^_, _<_, _≤_};
+ghost use Prim.Native.Nat.{_+_, _-_, _*_, _%_, _^_, _<_, _≤_};
 ghost use lib.ListN.{length, getD};
 ghost use Rattle.words.specs.Residue.{q};
 ghost use Rattle.words.specs.Iterate.{iterate};
 ghost use Rattle.words.specs.Tab.{tab};
+ghost use Rattle.ring.specs.Sizes.{Factor, LayerInput};
 ghost use Rattle.ring.specs.Transform.{zeta, butterfly, block, layer, ntt};
 ghost use Rattle.ring.specs.Transform.{inverseButterfly, inverseBlock, inverseLayer, inverseNtt};
 
 // Algorithm 9, lines 8 to 10; w is z's quotient for `multiple`
 fn butterfly_at(f: &mut [u16], z: u16, w: u16, len: usize, j: usize)
-    requires { ⌜ (j + len < length (now f)) × (z < q) × (w ≡ z * 2 ^ 16 / q) ⌝ }
+    requires { ⌜ (j + len < length (now f)) × Factor z w ⌝ }
     ensures { λ _. ⌜ now (f .exit) ≡ butterfly z len j (now (f .entry)) ⌝ }
 {
     let a = remainder(f[j]);
@@ -38,7 +39,7 @@ fn block_at(f: &mut [u16], z: u16, len: usize, start: usize)
 
 // lines 4 to 12: k blocks of 2 len coefficients, block b with entry k + b of the roots' table
 fn layer_at(f: &mut [u16], zetas: &[u16], k: usize, len: usize)
-    requires { ⌜ (k * (2 * len) ≤ length (now f)) × (k ≤ 64) × (len ≤ 128) × (now zetas ≡ tab 128 zeta) ⌝ }
+    requires { ⌜ LayerInput (now f) (now zetas) k len ⌝ }
     ensures { λ _. ⌜ now (f .exit) ≡ layer k len (now (f .entry)) ⌝ }
 {
     for b in 0..k {
@@ -71,7 +72,7 @@ pub fn ntt(f: &mut [u16])
 
 // Algorithm 10, lines 8 to 10
 fn inverse_butterfly_at(f: &mut [u16], z: u16, w: u16, len: usize, j: usize)
-    requires { ⌜ (j + len < length (now f)) × (z < q) × (w ≡ z * 2 ^ 16 / q) ⌝ }
+    requires { ⌜ (j + len < length (now f)) × Factor z w ⌝ }
     ensures { λ _. ⌜ now (f .exit) ≡ inverseButterfly z len j (now (f .entry)) ⌝ }
 {
     let a = remainder(f[j]);
@@ -93,7 +94,7 @@ fn inverse_block_at(f: &mut [u16], z: u16, len: usize, start: usize)
 
 // lines 4 to 12: block b with entry 2 k - 1 - b of the roots' table
 fn inverse_layer_at(f: &mut [u16], zetas: &[u16], k: usize, len: usize)
-    requires { ⌜ (k * (2 * len) ≤ length (now f)) × (k ≤ 64) × (len ≤ 128) × (now zetas ≡ tab 128 zeta) ⌝ }
+    requires { ⌜ LayerInput (now f) (now zetas) k len ⌝ }
     ensures { λ _. ⌜ now (f .exit) ≡ inverseLayer k len (now (f .entry)) ⌝ }
 {
     for b in 0..k {

@@ -1,5 +1,5 @@
 -- Stage 8 of the worksheet: the words of the planes with the ciphertext's, folded to the equal bit.
-use Prim.Native.Nat.{ℕ, _+_, _-_, _*_, _<_}
+use Prim.Native.Nat.{ℕ, _-_}
 use mathlib.Core.List.{List}
 use native.Mathlib.Omega.{arith}
 use lib.ListN.{getD}
@@ -7,13 +7,12 @@ use Rattle.worksheet.specs.declared.Shares.{Shares}
 use Rattle.worksheet.specs.Stage.{Stage, comap}
 use Rattle.worksheet.specs.Sharing.{none}
 use Rattle.worksheet.specs.Choice.{Kept, KeptList}
-use Rattle.masked_comparison.specs.Comparison.{allZeroEntries}
 use Rattle.masked_comparison.specs.ComparisonSilence.{compare-stage}
 use Rattle.kpke.specs.Parameters.{Parameters}
-use Rattle.stages.specs.Counts.{stage8Entries}
+use Rattle.stages.specs.EntryCounts.{stage8Entries}
 use Rattle.stages.specs.Fits.{Fits}
-use Rattle.stages.specs.PlaneWordsLaws.{below-ciphertextWords}
-use Rattle.stages.specs.Worksheet.{ciphertextWords, stage8, wordCount}
+use Rattle.stages.specs.PlanesLaws.{below-ciphertextPlanes}
+use Rattle.stages.specs.Worksheet.{ciphertextPlanes, stage8, wordCount}
 use Rattle.silence.specs.Recount.{stage-recount}
 
 pub stage8-stage : (p : Parameters) → Fits p → (c : List ℕ)
@@ -23,5 +22,5 @@ stage8-stage p f c =
     stage-recount (omega arith)
     (comap (KeptList (wordCount p)) (λ (w : List Shares) j. getD w j none) (λ w j. getD w j none) (λ e. e)
     (λ e a b r. record { at = λ j h. r .at none none j h })
-    (compare-stage (wordCount p) (λ j. getD (ciphertextWords p c) j 0) (omega (arith, f .dv))
-    (λ j. record { lt = below-ciphertextWords p c .at j })))
+    (compare-stage (wordCount p) (λ j. getD (ciphertextPlanes p c) j 0) (omega (arith, f .dv))
+    (λ j. record { lt = below-ciphertextPlanes p c .at j })))

@@ -19,7 +19,7 @@ use Rattle.masked_compression.specs.CompressionSilence.{coupled-maskedCompress,
 use Rattle.masked_sampler.specs.PolynomialSilence.{Anything}
 use Rattle.kpke.specs.Parameters.{Parameters}
 use Rattle.kpke.specs.KPke.{parts, dot, firstDecoded, noisyMessage}
-use Rattle.stages.specs.Counts.{polyEntries, compressPolyEntries, decryptEntries}
+use Rattle.stages.specs.EntryCounts.{compressPolyEntries, stage1Entries, stage2Entries, decryptEntries}
 use Rattle.stages.specs.Worksheet.{compressPoly, stage1, stage2, maskedDecrypt}
 
 -- ---- masked compression of a polynomial to depth d: each word of its planes can keep either share
@@ -44,7 +44,7 @@ coupled-compressPoly d c f f′ =
 abbrev message : List Shares → SharedList
 message m = unzip 4 (λ g. getD m g none)
 
-stage2-stage : Stage SameShare Anything (compressPolyEntries 1) stage2 stage2
+stage2-stage : Stage SameShare Anything stage2Entries stage2 stage2
 unfolding stage2
 stage2-stage = rearrange Anything message message (λ d j. true) (λ d x y r. tt) (compressPoly-stage 1)
 
@@ -57,12 +57,12 @@ module _ (p : Parameters) (c : List ℕ) where
   abbrev noisy1 : List ℕ → List ℕ
   noisy1 l = sub (replicate 256 0) (inverseNtt (dot (p .k) (λ i. parts 256 l i) (λ i. ntt (firstDecoded p c i))))
 
-  stage1-stage : Stage SameShare SameShare polyEntries (λ s. stage1 p s c) (λ s. stage1 p s c)
+  stage1-stage : Stage SameShare SameShare stage1Entries (λ s. stage1 p s c) (λ s. stage1 p s c)
   unfolding stage1
   stage1-stage =
       pass-stage SameShare 256 (λ s. noisy0 (s .s0)) (λ s. noisy1 (s .s1)) (λ s. noisy0 (s .s0)) (λ s. noisy1 (s .s1))
       (λ s s′ r. ap noisy0 (r .same)) (λ s s′ r. ap noisy1 (r .same))
 
-  pub decrypt-stage : Stage SameShare Anything (decryptEntries p) (λ s. maskedDecrypt p s c) (λ s. maskedDecrypt p s c)
+  pub decrypt-stage : Stage SameShare Anything decryptEntries (λ s. maskedDecrypt p s c) (λ s. maskedDecrypt p s c)
   unfolding maskedDecrypt decryptEntries
   decrypt-stage = andThen stage1-stage stage2-stage

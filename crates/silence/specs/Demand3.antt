@@ -20,13 +20,13 @@ use Rattle.worksheet.specs.Uses.{Uses, uses-recount, length-entries}
 use Rattle.worksheet.specs.Couple.{Like, SameAt, draw-c, ret-c, equal-hits, sameAt-right, sameAt-recount}
 use Rattle.worksheet.specs.CoupleLoops.{like-times}
 use Rattle.worksheet.specs.Matching.{identity}
-use Rattle.worksheet.specs.SharedList.{SharedList, sharedList}
+use Rattle.worksheet.specs.SharedList.{SharedList}
 use Rattle.kpke.specs.Parameters.{mlKem768}
 use Rattle.stages.specs.Fits.{fits768}
 use Rattle.mlkem.specs.MlKem.{publicPart, hashPart}
 use Rattle.kpke.specs.KPke.{matrixFull}
-use Rattle.mlkem.specs.Calls.{secondCoeffs, secondWords, rhoOf}
-use Rattle.mlkem.specs.SplitKey.{SplitKey, split}
+use Rattle.mlkem.specs.Calls.{rhoOf}
+use Rattle.mlkem.specs.SplitKey.{SplitKey, splitKey, secondCoeffs, secondWords, split}
 use Rattle.stages.specs.Counts768.{counts768}
 use Rattle.stages.specs.Worksheet.{worksheet}
 use Rattle.stages.specs.WorksheetUses.{uses-worksheet}
@@ -35,7 +35,7 @@ use Rattle.silence.specs.Claim.{Key, Ciphertext, gives, choices}
 use Rattle.silence.specs.WorksheetSilence.{worksheet-stage}
 use Rattle.silence.specs.SplitSilence.{coupled-firsts}
 
--- ---- a key's public part and hash, as import stores them
+-- ---- the public key and h, as import stores them
 
 abbrev stored : List ℕ → List ℕ
 stored dk = publicPart mlKem768 dk ++ hashPart mlKem768 dk
@@ -64,14 +64,9 @@ like-words : Like 0 (times 4 (λ j. mask word)) (times 4 (λ j. mask word))
 unfolding mask
 like-words = like-times 4 (λ j h. draw-c identity (λ x l. ret-c tt))
 
--- the split with the public part `public`
+-- the split with `public` for the public key and h
 abbrev splitWith : List ℕ → List ℕ → List ℕ → List ℕ → SplitKey
-splitWith dk a w public =
-    record {
-      s = sharedList a (secondCoeffs mlKem768 dk a);
-      z = sharedList w (secondWords mlKem768 dk w);
-      public = public;
-    }
+splitWith dk a w public = splitKey a (secondCoeffs mlKem768 dk a) w (secondWords mlKem768 dk w) public
 
 split-stored : (dk a w : List ℕ) {public : List ℕ} → stored dk ≡ public
     → split mlKem768 dk a w ≡ splitWith dk a w public

@@ -10,7 +10,7 @@ use Rattle.worksheet.specs.SharedList.{SharedList}
 use Rattle.worksheet.specs.Choice.{KeptList, SameShare}
 use Rattle.masked_sampler.specs.PolynomialSilence.{Anything}
 use Rattle.kpke.specs.Parameters.{Parameters}
-use Rattle.stages.specs.Counts.{stage5Entries, stage6Entries, stage7Entries, encryptEntries}
+use Rattle.stages.specs.EntryCounts.{stage5Entries, stage6Entries, stage7Entries, encryptEntries}
 use Rattle.stages.specs.Fits.{Fits}
 use Rattle.stages.specs.Worksheet.{stage4, stage5, stage6, stage7, maskedEncrypt, wordCount}
 use Rattle.silence.specs.NoiseSilence.{SamePolys, stage4-stage, stage5-stage}

@@ -8,7 +8,8 @@ use Rattle.worksheet.specs.Stage.{Stage, comap}
 use Rattle.worksheet.specs.SharedList.{SharedList}
 use Rattle.worksheet.specs.Choice.{KeptShared}
 use Rattle.masked_fips202.specs.MaskedSpongeSilence.{SharedBytes, maskedSha3-512Words-stage, maskedShake256Words-stage}
-use Rattle.masked_fips202.specs.MaskedWords.{maskedSha3-512Words, maskedShake256Words, sha3-512Entries, shake256Entries}
+use Rattle.masked_fips202.specs.MaskedWords.{maskedSha3-512Words, maskedShake256Words}
+use Rattle.masked_fips202.specs.EntryCounts.{sha3-512Entries, shake256Entries}
 use Rattle.masked_sampler.specs.PolynomialSilence.{Anything}
 use Rattle.stages.specs.Moves.{withPublic}
 use Rattle.stages.specs.MovesLaws.{length-withPublic, below-withPublic0, below-withPublic1}

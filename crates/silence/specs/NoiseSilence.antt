@@ -13,10 +13,9 @@ use Rattle.worksheet.specs.Turns.{Turns}
 use Rattle.worksheet.specs.Stage.{Stage, andThen, comap, times-stage}
 use Rattle.worksheet.specs.SharedList.{SharedList}
 use Rattle.worksheet.specs.Choice.{KeptShared, SameShare}
-use Rattle.masked_fips202.specs.MaskedWords.{sha3-512Entries}
 use Rattle.masked_sampler.specs.PolynomialSilence.{Anything, bitsToCoeffs-stage, samples-stage}
 use Rattle.kpke.specs.Parameters.{Parameters}
-use Rattle.stages.specs.Counts.{noiseEntries, stage5Entries}
+use Rattle.stages.specs.EntryCounts.{noiseEntries, stage3Entries, stage4Entries, stage5Entries}
 use Rattle.stages.specs.Fits.{Fits}
 use Rattle.stages.specs.Moves.{stringBit}
 use Rattle.stages.specs.Worksheet.{noisePoly, stage3, stage4, stage5}
@@ -30,11 +29,11 @@ SamePolys n c = Turns (λ j. SameShare c) n
 -- ---- stages 3 and 4
 
 pub stage3-stage : (h : List ℕ) → length h ≡ 32 → Below 256 h
-    → Stage Anything (KeptShared 8) (sha3-512Entries 64) (λ m. stage3 m h) (λ m. stage3 m h)
+    → Stage Anything (KeptShared 8) stage3Entries (λ m. stage3 m h) (λ m. stage3 m h)
 unfolding stage3
 stage3-stage h long bytes = sha3-512-stage 32 h long bytes
 
-pub stage4-stage : Stage Anything SameShare (256 * 4) stage4 stage4
+pub stage4-stage : Stage Anything SameShare stage4Entries stage4 stage4
 unfolding stage4
 stage4-stage = comap Anything stringBit stringBit (λ e. e) (λ e a b r. tt) (bitsToCoeffs-stage 256 1665)
 

@@ -21,7 +21,7 @@ use Rattle.worksheet.specs.Choice.{KeptList, SameShare, listShare}
 use Rattle.worksheet.specs.PassLaws.{pass-stage, coupled-pass}
 use Rattle.kpke.specs.Parameters.{Parameters}
 use Rattle.kpke.specs.VectorLaws.{dot-cong}
-use Rattle.stages.specs.Counts.{polyEntries, stage6Entries, stage7Entries, compressPolyEntries}
+use Rattle.stages.specs.EntryCounts.{polyEntries, stage6Entries, stage7Entries, compressPolyEntries}
 use Rattle.stages.specs.Moves.{nothing, shares0, shares1}
 use Rattle.stages.specs.Worksheet.{uShare, vShare, uvShare, compressPoly, stage6, stage7, wordCount}
 use Rattle.silence.specs.Pair.{pair-stage}

@@ -9,7 +9,7 @@ use native.Mathlib.Omega.{arith}
 use lib.ListN.{getD}
 use Rattle.words.specs.Bounded.{Below}
 use Rattle.words.specs.Residue.{q}
-use Rattle.words.specs.Tab.{tab-of, tab-cong}
+use Rattle.words.specs.TabLaws.{tab-of, tab-cong}
 use Rattle.worksheet.specs.declared.Shares.{Shares}
 use Rattle.worksheet.specs.Prog.{coeff, mask, times}
 use Rattle.worksheet.specs.Couple.{Coupled, ret-c, draw-c, coupled-weaken, coupled-recount}
@@ -24,7 +24,7 @@ use Rattle.worksheet.specs.Choice.{SameShare}
 use Rattle.kpke.specs.Parameters.{Parameters}
 use Rattle.mlkem.specs.MlKem.{secretPart}
 use Rattle.kpke.specs.KPke.{coefficients}
-use Rattle.mlkem.specs.Calls.{secondCoeffs}
+use Rattle.mlkem.specs.SplitKey.{secondCoeffs}
 
 -- ---- one coefficient X, whose first share is x
 

@@ -14,9 +14,8 @@ use lib.Seq.{take-at}
 use Rattle.words.specs.Bounded.{Below}
 use Rattle.words.specs.BoundedLaws.{below-tab}
 use Rattle.words.specs.Residue.{q}
-use Rattle.words.specs.Tab.{length-tab}
+use Rattle.words.specs.TabLaws.{length-tab}
 use Rattle.words.specs.Part.{length-part}
-use Rattle.worksheet.specs.Run.{run}
 use Rattle.worksheet.specs.Sum.{when}
 use Rattle.worksheet.specs.Count.{tally, strips}
 use Rattle.worksheet.specs.CountLaws.{hit-getD}
@@ -28,11 +27,10 @@ use Rattle.kpke.specs.Parameters.{mlKem768}
 use Rattle.kpke.specs.KPke.{matrixFull}
 use Rattle.mlkem.specs.MlKem.{publicPart, hashPart}
 use Rattle.mlkem.specs.ReducedLaws.{below-reduced}
-use Rattle.mlkem.specs.Calls.{secondCoeffs, secondWords, rhoOf}
-use Rattle.mlkem.specs.SplitKey.{split}
+use Rattle.mlkem.specs.Calls.{rhoOf}
+use Rattle.mlkem.specs.SplitKey.{secondCoeffs, secondWords, split}
 use Rattle.stages.specs.Counts768.{counts768}
-use Rattle.stages.specs.Worksheet.{worksheet}
-use Rattle.tracing.specs.Told as told
+use Rattle.tracing.specs.Trace as trace
 use Rattle.decapsulation.specs.Calls.{Input, sheet, imported, traceAnswer, traceValue}
 use Rattle.decapsulation.specs.Sized.{Sized}
 use Rattle.decapsulation.specs.AnswerLaws.{trace-rows, sheet-steps}
@@ -85,7 +83,7 @@ module _ {dk c : List ℕ} (key : Key dk) (ct : Ciphertext c) where
 
     -- the trace hands back the worksheet's entry
     handsBack-gives : handsBack g t v ≡ when full (gives dk c t v a w ws cs)
-    unfolding traceValue told.traceValue
+    unfolding traceValue trace.stepValue
     handsBack-gives =
         ap (λ (r : Answer). when (eqb (number r) 0) (when (eqb (getD (sheet mlKem768 g .entries) t 0) v) 1)) answered
         ∙ go full (decLt t 187794)
@@ -99,7 +97,7 @@ module _ {dk c : List ℕ} (key : Key dk) (ct : Ciphertext c) where
             rw (lt-ltb t 187794 h) (sym (hit-getD t v (sheet mlKem768 g .entries) (omega (arith, long))))
         go true (no h) = rw (le-ltb t 187794 (omega arith)) (sym (hit-past t v _ (omega (arith, long))))
 
-  pub traceChoices-choices : (t v : ℕ) → traceChoices dk c t v ≡ choices dk c t v
+  traceChoices-choices : (t v : ℕ) → traceChoices dk c t v ≡ choices dk c t v
   unfolding traceChoices choices
   traceChoices-choices t v =
       tally-below 768 q (omega arith) (λ a la ra.

@@ -1,5 +1,5 @@
 -- The ten stages of the worksheet as one: an entry asks for one share of the secret, and for nothing of z.
-use Prim.Native.Nat.{ℕ, _+_, _*_}
+use Prim.Native.Nat.{ℕ, _+_}
 use mathlib.Core.Path.{_≡_}
 use mathlib.Core.Bool.{Bool, true}
 use mathlib.Core.List.{List}
@@ -13,12 +13,12 @@ use Rattle.worksheet.specs.Stage.{Stage, Beside, andThen, andBeside, andAlso, m
 use Rattle.worksheet.specs.Sharing.{none}
 use Rattle.worksheet.specs.SharedList.{SharedList, sharedAt, unzip}
 use Rattle.worksheet.specs.Choice.{Kept, KeptList, KeptShared, SameShare}
-use Rattle.masked_fips202.specs.MaskedWords.{sha3-512Entries, shake256Entries}
 use Rattle.masked_sampler.specs.PolynomialSilence.{Anything}
 use Rattle.masked_comparison.specs.SelectionSilence.{Operands, selects-stage}
 use Rattle.kpke.specs.Parameters.{Parameters, ekBytes, ctBytes}
 use Rattle.mlkem.specs.SplitKey.{SplitKey}
-use Rattle.stages.specs.Counts.{decryptEntries, encryptEntries, stage8Entries, comparedEntries, steps}
+use Rattle.stages.specs.EntryCounts.{stage3Entries, stage8Entries, stage9Entries, stage10Entries}
+use Rattle.stages.specs.EntryCounts.{encryptEntries, comparedEntries, steps}
 use Rattle.stages.specs.Fits.{Fits}
 use Rattle.stages.specs.Moves.{coinsOf}
 use Rattle.stages.specs.Worksheet.{Compared, maskedDecrypt, maskedEncrypt, stage3, stage8, stage9, stage10, compared}
@@ -73,7 +73,7 @@ module _ (p : Parameters) (fits : Fits p) (public c : List ℕ) (h-long : length
       operands : SharedList × SharedList → SharedList × SharedList
       operands a = (a .1, coinsOf (a .0))
 
-  from3-stage : Stage Anything KeptCompared (sha3-512Entries 64 + (encryptEntries p + stage8Entries p)) from3 from3
+  from3-stage : Stage Anything KeptCompared (stage3Entries + (encryptEntries p + stage8Entries p)) from3 from3
   from3-stage = andAlso tt (stage3-stage h h-long h-bytes) from4-stage
 
   compared-stage : Stage SameShare KeptCompared (comparedEntries p) (λ s. maskedDecrypt p s c >>= from3)
@@ -83,16 +83,13 @@ module _ (p : Parameters) (fits : Fits p) (public c : List ℕ) (h-long : length
 
   -- ---- stages 9 and 10, beside z
 
-  abbrev Inputs : Type 0
-  Inputs = SharedList × SharedList
-
   abbrev from10 : SharedList × (Compared × SharedList) → Prog SharedList
   from10 a = stage10 (a .1 .0 .equal) (a .1 .0 .g) (a .0)
 
   abbrev from9 : Compared × SharedList → Prog SharedList
   from9 a = stage9 (a .1) c >>= λ r. from10 (r, a)
 
-  from10-stage : Stage (Beside (KeptShared 4) (Beside KeptCompared Anything)) Anything 48 from10 from10
+  from10-stage : Stage (Beside (KeptShared 4) (Beside KeptCompared Anything)) Anything stage10Entries from10 from10
   unfolding stage10
   from10-stage =
       comap (Beside (KeptShared 4) (Beside KeptCompared Anything)) operands operands
@@ -110,7 +107,7 @@ module _ (p : Parameters) (fits : Fits p) (public c : List ℕ) (h-long : length
       operands : SharedList × (Compared × SharedList) → Operands
       operands a = record { bit = a .1 .0 .equal; left = sharedAt (a .1 .0 .g); right = sharedAt (a .0) }
 
-  from9-stage : Stage (Beside KeptCompared Anything) Anything (shake256Entries (32 + ctBytes p) 4 + 48) from9 from9
+  from9-stage : Stage (Beside KeptCompared Anything) Anything (stage9Entries p + stage10Entries) from9 from9
   unfolding stage9
   from9-stage =
       andAlso ((true, λ j. true), tt)
@@ -118,12 +115,12 @@ module _ (p : Parameters) (fits : Fits p) (public c : List ℕ) (h-long : length
       (shake256-stage (ctBytes p) c c-long c-bytes 4))
       from10-stage
 
-  -- ---- the whole: the secret's shares and z's, with the public part
+  -- ---- the whole: the secret's shares and z's, with the public key and h
 
-  abbrev pub splitKey : SharedList × SharedList → SplitKey
-  splitKey a = record { s = a .0; z = a .1; public = public }
+  abbrev pub keyOf : SharedList × SharedList → SplitKey
+  keyOf a = record { s = a .0; z = a .1; public = public }
 
-  pub worksheet-stage : Stage (Beside SameShare Anything) Anything (steps p) (λ a. worksheet p (splitKey a) c)
-      (λ a. worksheet p (splitKey a) c)
+  pub worksheet-stage : Stage (Beside SameShare Anything) Anything (steps p) (λ a. worksheet p (keyOf a) c)
+      (λ a. worksheet p (keyOf a) c)
   unfolding worksheet compared steps
   worksheet-stage = andBeside tt compared-stage from9-stage

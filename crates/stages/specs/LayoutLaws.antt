@@ -7,7 +7,8 @@ use native.Mathlib.Omega.{arith}
 use lib.ListN.{length, take, drop}
 use lib.Seq.{length-take-le, take-at, drop-at}
 use Rattle.words.specs.Part.{part-take, part-append}
-use Rattle.words.specs.Tab.{tab, tab-cong}
+use Rattle.words.specs.Tab.{tab}
+use Rattle.words.specs.TabLaws.{tab-cong}
 use Rattle.worksheet.specs.SharedList.{SharedList, sharedList}
 use Rattle.kpke.specs.KPke.{parts}
 use Rattle.kpke.specs.VectorLaws.{part-fits}

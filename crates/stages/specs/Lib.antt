@@ -1,8 +1,9 @@
 pub mod Moves
 pub mod MovesLaws
 pub mod Worksheet
-pub mod PlaneWordsLaws
+pub mod PlanesLaws
 pub mod Counts
+pub mod EntryCounts
 pub mod Counts768
 pub mod WorksheetUses
 pub mod Layout

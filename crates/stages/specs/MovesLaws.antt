@@ -8,7 +8,7 @@ use Rattle.words.specs.Bounded.{Below}
 use Rattle.words.specs.BoundedLaws.{below-append, below-zeros}
 use Rattle.words.specs.LittleEndian.{wordsToBytes}
 use Rattle.words.specs.LittleEndianLaws.{length-wordsToBytes, below-wordsToBytes}
-use Rattle.words.specs.Tab.{length-tab}
+use Rattle.words.specs.TabLaws.{length-tab}
 use Rattle.worksheet.specs.SharedList.{SharedList}
 use Rattle.stages.specs.Moves.{four, withPublic}
 

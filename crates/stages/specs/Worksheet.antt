@@ -27,8 +27,8 @@ use Rattle.stages.specs.Moves.{nothing, shares0, shares1, stringBit, wit
 -- ---- parts common to several stages
 
 -- the words of the planes of 256 numbers of d bits, by group and plane from low
-unfoldable pub planeWords : ℕ → List ℕ → List ℕ
-planeWords d f = flatten (tab 4 (λ g. tab d (plane 64 (λ i. getD f (64 * g + i) 0))))
+unfoldable pub planesOf : ℕ → List ℕ → List ℕ
+planesOf d f = flatten (tab 4 (λ g. tab d (plane 64 (λ i. getD f (64 * g + i) 0))))
 
 -- masked compression of a polynomial to depth d: the words of its planes, by group and plane from low
 unfoldable pub compressPoly : ℕ → SharedList → Prog (List Shares)
@@ -119,17 +119,17 @@ module _ (p : Parameters) where
   -- ---- stage 8: the ciphertext's planes go into share 0; all words are folded to the equal bit
 
   -- the ciphertext's own, in stage 7's order
-  unfoldable pub ciphertextWords : List ℕ → List ℕ
-  ciphertextWords c =
-      flatten (tab (p .k) (λ i. planeWords (p .du) (byteDecode (p .du) (parts (32 * p .du) c i))))
-      ++ planeWords (p .dv) (byteDecode (p .dv) (drop (32 * p .du * p .k) c))
+  unfoldable pub ciphertextPlanes : List ℕ → List ℕ
+  ciphertextPlanes c =
+      flatten (tab (p .k) (λ i. planesOf (p .du) (byteDecode (p .du) (parts (32 * p .du) c i))))
+      ++ planesOf (p .dv) (byteDecode (p .dv) (drop (32 * p .du * p .k) c))
 
   abbrev pub wordCount : ℕ
   wordCount = p .k * (4 * p .du) + 4 * p .dv
 
   unfoldable pub stage8 : List ℕ → List Shares → Prog Shares
   stage8 c w = do
-    d ← addPublic wordCount (λ j. getD (ciphertextWords c) j 0) (λ j. getD w j none)
+    d ← addPublic wordCount (λ j. getD (ciphertextPlanes c) j 0) (λ j. getD w j none)
     allZero (wordCount - 1) (λ j. getD d j none)
 
   -- ---- the whole

@@ -11,7 +11,8 @@ use Rattle.worksheet.specs.Uses.{Uses, ret-u, enter-u, uses-recount, uses-bind,
 use Rattle.worksheet.specs.SharedList.{SharedList}
 use Rattle.worksheet.specs.Pass.{enterBoth}
 use Rattle.masked_fips202.specs.MaskedSpongeUses.{uses-maskedSha3-512Words, uses-maskedShake256Words}
-use Rattle.masked_fips202.specs.MaskedWords.{sha3-512Entries, sha3-512Masks, shake256Entries, shake256Masks}
+use Rattle.masked_fips202.specs.MaskedWords.{shake256MaskWords}
+use Rattle.masked_fips202.specs.EntryCounts.{shake256Entries}
 use Rattle.masked_compression.specs.CompressionLaws.{uses-maskedCompress}
 use Rattle.masked_sampler.specs.CoefficientLaws.{uses-bitToCoeff}
 use Rattle.masked_sampler.specs.SamplerLaws.{uses-sampler}
@@ -24,11 +25,17 @@ use Rattle.stages.specs.MovesLaws.{length-withPublic}
 use Rattle.stages.specs.Worksheet.{compressPoly, noisePoly, wordCount, stage1, stage2, stage3, stage4, stage5}
 use Rattle.stages.specs.Worksheet.{stage6, stage7, stage8, stage9, stage10, maskedDecrypt, maskedEncrypt}
 use Rattle.stages.specs.Worksheet.{compared, worksheet}
-use Rattle.stages.specs.Counts.{polyEntries, compressPolyEntries, compressPolyWords, noiseEntries, noiseWords}
-use Rattle.stages.specs.Counts.{noiseCoeffs, decryptEntries, decryptWords, stage5Entries, stage5Words}
-use Rattle.stages.specs.Counts.{stage5Coeffs, stage6Entries, stage7Entries, stage7Words, encryptEntries}
-use Rattle.stages.specs.Counts.{encryptWords, encryptCoeffs, stage8Entries, stage8Words, comparedEntries}
-use Rattle.stages.specs.Counts.{comparedWords, steps, stripWords, stripCoeffs}
+use Rattle.stages.specs.Counts.{compressPolyWords, noiseWords}
+use Rattle.stages.specs.EntryCounts.{stage1Entries, stage2Entries, stage3Entries, stage4Entries, stage5Entries}
+use Rattle.stages.specs.EntryCounts.{stage6Entries, stage7Entries, stage8Entries, stage10Entries}
+use Rattle.stages.specs.EntryCounts.{polyEntries, compressPolyEntries, noiseEntries, decryptEntries}
+use Rattle.stages.specs.EntryCounts.{encryptEntries, comparedEntries, steps}
+use Rattle.stages.specs.Counts.{noiseCoeffs, decryptWords, stage5Words}
+use Rattle.stages.specs.Counts.{stage5Coeffs, stage7Words}
+use Rattle.stages.specs.Counts.{encryptWords, encryptCoeffs, stage8Words}
+use Rattle.stages.specs.Counts.{comparedWords, stripWords, stripCoeffs}
+use Rattle.stages.specs.Counts.{stage2Words, stage3Words}
+use Rattle.stages.specs.Counts.{stage4Coeffs, stage10Words}
 
 -- ---- parts common to several stages
 
@@ -37,12 +44,12 @@ unfolding enterBoth entry
 uses-poly f g =
     uses-bind (uses-times 256 (λ i. enter-u ret-u)) (λ a. uses-map _ (uses-times 256 (λ i. enter-u ret-u)))
 
-pub uses-compressPoly : (d : ℕ) (f : SharedList)
+uses-compressPoly : (d : ℕ) (f : SharedList)
     → Uses (compressPolyEntries d) (compressPolyWords d) 0 (compressPoly d f)
 unfolding compressPoly compressPolyEntries compressPolyWords
 uses-compressPoly d f = uses-map _ (uses-times 4 (λ g. uses-maskedCompress d _))
 
-pub uses-noisePoly : (eta : ℕ) (coins : SharedList) (n : ℕ)
+uses-noisePoly : (eta : ℕ) (coins : SharedList) (n : ℕ)
     → Uses (noiseEntries eta) (noiseWords eta) (noiseCoeffs eta) (noisePoly eta coins n)
 unfolding noisePoly noiseEntries noiseWords noiseCoeffs
 uses-noisePoly eta coins n =
@@ -54,56 +61,56 @@ uses-noisePoly eta coins n =
 
 -- ---- the stages that are the same for every parameter set
 
-pub uses-stage2 : (w : SharedList) → Uses (compressPolyEntries 1) (compressPolyWords 1) 0 (stage2 w)
+uses-stage2 : (w : SharedList) → Uses stage2Entries stage2Words 0 (stage2 w)
 unfolding stage2
 uses-stage2 w = uses-map _ (uses-compressPoly 1 w)
 
-pub uses-stage3 : (m : SharedList) (h : List ℕ) → length h ≡ 32
-    → Uses (sha3-512Entries 64) (sha3-512Masks 64) 0 (stage3 m h)
+uses-stage3 : (m : SharedList) (h : List ℕ) → length h ≡ 32
+    → Uses stage3Entries stage3Words 0 (stage3 m h)
 unfolding stage3
 uses-stage3 m h e =
     rw (length-withPublic m h ∙ ap (λ (n : ℕ). 32 + n) e) at
     (uses-maskedSha3-512Words (withPublic m h .s0) (withPublic m h .s1))
 
-pub uses-stage4 : (m : SharedList) → Uses 1024 0 256 (stage4 m)
+uses-stage4 : (m : SharedList) → Uses stage4Entries 0 stage4Coeffs (stage4 m)
 unfolding stage4
 uses-stage4 m = uses-map _ (uses-times 256 (λ i. uses-bitToCoeff 1665 _))
 
-pub uses-stage9 : (z : SharedList) (c : List ℕ)
-    → Uses (shake256Entries (32 + length c) 4) (shake256Masks (32 + length c) 4) 0 (stage9 z c)
+uses-stage9 : (z : SharedList) (c : List ℕ)
+    → Uses (shake256Entries (32 + length c) 4) (shake256MaskWords (32 + length c) 4) 0 (stage9 z c)
 unfolding stage9
 uses-stage9 z c = rw (length-withPublic z c) at (uses-maskedShake256Words (withPublic z c .s0) (withPublic z c .s1) 4)
 
-pub uses-stage10 : (b : Shares) (g rejected : SharedList) → Uses 48 4 0 (stage10 b g rejected)
+uses-stage10 : (b : Shares) (g rejected : SharedList) → Uses stage10Entries stage10Words 0 (stage10 b g rejected)
 unfolding stage10
 uses-stage10 b g rejected = uses-map _ (uses-times 4 (λ j. uses-select _ _ _))
 
 module _ (p : Parameters) where
   -- ---- the others
 
-  pub uses-stage1 : (s : SharedList) (c : List ℕ) → Uses polyEntries 0 0 (stage1 p s c)
+  uses-stage1 : (s : SharedList) (c : List ℕ) → Uses stage1Entries 0 0 (stage1 p s c)
   unfolding stage1
   uses-stage1 s c = uses-poly _ _
 
-  pub uses-stage5 : (coins : SharedList) → Uses (stage5Entries p) (stage5Words p) (stage5Coeffs p) (stage5 p coins)
+  uses-stage5 : (coins : SharedList) → Uses (stage5Entries p) (stage5Words p) (stage5Coeffs p) (stage5 p coins)
   unfolding stage5 stage5Entries stage5Words stage5Coeffs
   uses-stage5 coins =
       uses-bind (uses-times (p .k) (λ i. uses-noisePoly (p .eta1) coins _)) (λ y.
       uses-map _ (uses-times (p .k + 1) (λ i. uses-noisePoly (p .eta2) coins _)))
 
-  pub uses-stage6 : (ek : List ℕ) (n : List SharedList) (mu : SharedList)
+  uses-stage6 : (ek : List ℕ) (n : List SharedList) (mu : SharedList)
       → Uses (stage6Entries p) 0 0 (stage6 p ek n mu)
   unfolding stage6 stage6Entries
   uses-stage6 ek n mu =
       uses-recount refl (mul-zero (p .k + 1)) (mul-zero (p .k + 1)) (uses-times (p .k + 1) (λ i. uses-poly _ _))
 
-  pub uses-stage7 : (r : List SharedList) → Uses (stage7Entries p) (stage7Words p) 0 (stage7 p r)
+  uses-stage7 : (r : List SharedList) → Uses (stage7Entries p) (stage7Words p) 0 (stage7 p r)
   unfolding stage7 stage7Entries stage7Words
   uses-stage7 r =
       uses-recount refl refl (omega arith)
       (uses-bind (uses-times (p .k) (λ i. uses-compressPoly (p .du) _)) (λ u. uses-map _ (uses-compressPoly (p .dv) _)))
 
-  pub uses-stage8 : (c : List ℕ) (w : List Shares) → Uses (stage8Entries p) (stage8Words p) 0 (stage8 p c w)
+  uses-stage8 : (c : List ℕ) (w : List Shares) → Uses (stage8Entries p) (stage8Words p) 0 (stage8 p c w)
   unfolding stage8 stage8Entries stage8Words
   uses-stage8 c w =
       uses-recount refl (zero-add (allZeroWords (wordCount p - 1))) refl
@@ -111,13 +118,13 @@ module _ (p : Parameters) where
 
   -- ---- the whole
 
-  pub uses-maskedDecrypt : (s : SharedList) (c : List ℕ)
-      → Uses (decryptEntries p) (decryptWords p) 0 (maskedDecrypt p s c)
+  uses-maskedDecrypt : (s : SharedList) (c : List ℕ)
+      → Uses decryptEntries decryptWords 0 (maskedDecrypt p s c)
   unfolding maskedDecrypt decryptEntries decryptWords
   uses-maskedDecrypt s c =
-      uses-recount refl (zero-add (compressPolyWords 1)) refl (uses-bind (uses-stage1 s c) uses-stage2)
+      uses-recount refl (zero-add stage2Words) refl (uses-bind (uses-stage1 s c) uses-stage2)
 
-  pub uses-maskedEncrypt : (ek : List ℕ) (m coins : SharedList)
+  uses-maskedEncrypt : (ek : List ℕ) (m coins : SharedList)
       → Uses (encryptEntries p) (encryptWords p) (encryptCoeffs p) (maskedEncrypt p ek m coins)
   unfolding maskedEncrypt encryptEntries encryptWords encryptCoeffs
   uses-maskedEncrypt ek m coins =
@@ -127,7 +134,7 @@ module _ (p : Parameters) where
       uses-bind (uses-stage6 ek n mu) uses-stage7)))
 
   module _ (key : SplitKey) (c : List ℕ) (h-long : length (hOf p key) ≡ 32) where
-    pub uses-compared : Uses (comparedEntries p) (comparedWords p) (encryptCoeffs p) (compared p key c)
+    uses-compared : Uses (comparedEntries p) (comparedWords p) (encryptCoeffs p) (compared p key c)
     unfolding compared comparedEntries comparedWords
     uses-compared =
         uses-recount refl refl (omega arith)

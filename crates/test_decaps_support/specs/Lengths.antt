@@ -5,16 +5,16 @@ use Prim.Native.Nat.{ℕ}
 use lib.ListN.{length}
 
 -- each part of a split key has one element more than it should, so that it can be lent too long as well as too short
-pub record LongerSplit (s0 s1 z0 z1 pub-h : List ℕ) : Type 0 where
+pub record LongerSplit (s0 s1 z0 z1 public : List ℕ) : Type 0 where
   pub s0-long : length s0 ≡ 769
   pub s1-long : length s1 ≡ 769
   pub z0-long : length z0 ≡ 5
   pub z1-long : length z1 ≡ 5
-  pub public-long : length pub-h ≡ 1217
+  pub public-long : length public ≡ 1217
 
 -- and so have ciphertext and strip
-pub record Longer (s0 s1 z0 z1 pub-h ct words coeffs : List ℕ) : Type 0 where
-  pub split : LongerSplit s0 s1 z0 z1 pub-h
+pub record Longer (s0 s1 z0 z1 public ct words coeffs : List ℕ) : Type 0 where
+  pub split : LongerSplit s0 s1 z0 z1 public
   pub ct-long : length ct ≡ 1089
   pub words-long : length words ≡ 11751
   pub coeffs-long : length coeffs ≡ 7425

@@ -57,14 +57,14 @@ fn make_split(
 ) -> Answer
     requires { ⌜ LongerSplit (now s0) (now s1) (now z0) (now z1) (now public) ⌝ }
 {
-    let mut coeffs = [0u16; 768];
-    let mut words = [0u64; 4];
-    masks::coefficients(kind, b's', &mut coeffs);
-    masks::words(kind, b'z', &mut words);
+    let mut mask_coeffs = [0u16; 768];
+    let mut mask_words = [0u64; 4];
+    masks::coefficients(kind, b's', &mut mask_coeffs);
+    masks::words(kind, b'z', &mut mask_words);
     mlkem::import(
         dk,
-        &coeffs,
-        &words,
+        &mask_coeffs,
+        &mask_words,
         &mut s0[0..768],
         &mut s1[0..768],
         &mut z0[0..4],

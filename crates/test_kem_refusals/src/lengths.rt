@@ -66,20 +66,20 @@ fn import_unchanged(s0: &[u16], s1: &[u16], z0: &[u64], z1: &[u64], public: &[u8
 
 fn import(
     dk: &[u8],
-    coeffs: &[u16],
-    words: &[u64],
+    mask_coeffs: &[u16],
+    mask_words: &[u64],
     s0: &mut [u16],
     s1: &mut [u16],
     z0: &mut [u64],
     z1: &mut [u64],
     public: &mut [u8],
 ) {
-    let answer = mlkem::import(dk, coeffs, words, s0, s1, z0, z1, public);
+    let answer = mlkem::import(dk, mask_coeffs, mask_words, s0, s1, z0, z1, public);
     print_refusal(answer, import_unchanged(s0, s1, z0, z1, public));
 }
 
 // With the lengths of the outputs.
-fn import_into(dk: &[u8], coeffs: &[u16], words: &[u64], lengths: Lengths) {
+fn import_into(dk: &[u8], mask_coeffs: &[u16], mask_words: &[u64], lengths: Lengths) {
     let mut s0 = [0xeeeeu16; 769];
     let mut s1 = [0xeeeeu16; 769];
     let mut z0 = [0xeeee_eeee_eeee_eeeeu64; 5];
@@ -92,8 +92,8 @@ fn import_into(dk: &[u8], coeffs: &[u16], words: &[u64], lengths: Lengths) {
     let e = length_at(lengths, 7, 1216);
     import(
         dk,
-        coeffs,
-        words,
+        mask_coeffs,
+        mask_words,
         &mut s0[..a],
         &mut s1[..b],
         &mut z0[..c],
@@ -105,12 +105,12 @@ fn import_into(dk: &[u8], coeffs: &[u16], words: &[u64], lengths: Lengths) {
 fn import_edge(lengths: Lengths) {
     print_lengths(b"import", lengths);
     let dk = [255u8; 2401];
-    let coeffs = [65535u16; 769];
-    let words = [0u64; 5];
+    let mask_coeffs = [65535u16; 769];
+    let mask_words = [0u64; 5];
     let a = length_at(lengths, 0, 2400);
     let b = length_at(lengths, 1, 768);
     let c = length_at(lengths, 2, 4);
-    import_into(&dk[..a], &coeffs[..b], &words[..c], lengths);
+    import_into(&dk[..a], &mask_coeffs[..b], &mask_words[..c], lengths);
 }
 
 enum Call {

@@ -7,10 +7,10 @@ use refusals::number;
 use test_support::answers::print_number;
 use test_support::bytes::unchanged;
 use test_support::hashes::print_hash;
+use test_support::import::fixed_coefficients;
+use test_support::import::fixed_words;
 use test_support::import::import;
 use test_support::import::import_masked;
-use test_support::import::mask_coefficients;
-use test_support::import::mask_words;
 use text::print;
 use text::print_decimal;
 
@@ -114,11 +114,11 @@ fn import_secret(dk: &[u8], i: usize, v: u16, out: &mut [u8]) -> u64
 fn import_mask(dk: &[u8], i: usize, v: u16, out: &mut [u8]) -> u64
     requires { ⌜ i < 768 ⌝ }
 {
-    let mut coeffs = [0u16; 768];
-    let words = mask_words();
-    mask_coefficients(&mut coeffs);
-    coeffs[i] = v;
-    import(dk, &coeffs, &words, out)
+    let mut mask_coeffs = [0u16; 768];
+    let mask_words = fixed_words();
+    fixed_coefficients(&mut mask_coeffs);
+    mask_coeffs[i] = v;
+    import(dk, &mask_coeffs, &mask_words, out)
 }
 
 fn answer_at(part: Part, dk: &[u8], i: usize, v: u16, out: &mut [u8]) -> u64

@@ -4,19 +4,19 @@ ghost use lib.ListN.{length};
 use crate::places::put_at;
 use kpke::copy::copy_bytes;
 use test_support::answers::print_number;
+use test_support::import::fixed_coefficients;
+use test_support::import::fixed_words;
 use test_support::import::import;
-use test_support::import::mask_coefficients;
-use test_support::import::mask_words;
 use text::print;
 use text::print_decimal;
 
-fn print_import(faults: u64, dk: &[u8], coeffs: &[u16]) {
-    let words = mask_words();
+fn print_import(faults: u64, dk: &[u8], mask_coeffs: &[u16]) {
+    let mask_words = fixed_words();
     let mut out = [0u8; 32];
     print(b"import, faults ");
     print_decimal(faults);
     print(b": ");
-    print_number(import(dk, coeffs, &words, &mut out));
+    print_number(import(dk, mask_coeffs, &mask_words, &mut out));
     print(b"\n");
 }
 
@@ -27,26 +27,26 @@ fn change_hash(key: &mut [u8])
 }
 
 // A mask, the secret part, the hash, the public key.
-fn import_faulty(key: &mut [u8], coeffs: &mut [u16])
-    requires { ⌜ (length (now key) ≡ 2400) × (length (now coeffs) ≡ 768) ⌝ }
+fn import_faulty(key: &mut [u8], mask_coeffs: &mut [u16])
+    requires { ⌜ (length (now key) ≡ 2400) × (length (now «mask_coeffs») ≡ 768) ⌝ }
 {
-    print_import(0, key, coeffs);
-    coeffs[100] = 3329;
-    print_import(1, key, coeffs);
+    print_import(0, key, mask_coeffs);
+    mask_coeffs[100] = 3329;
+    print_import(1, key, mask_coeffs);
     put_at(key, 0, 9, 3329);
-    print_import(2, key, coeffs);
+    print_import(2, key, mask_coeffs);
     change_hash(key);
-    print_import(3, key, coeffs);
+    print_import(3, key, mask_coeffs);
     put_at(key, 1152, 5, 3329);
-    print_import(4, key, coeffs);
+    print_import(4, key, mask_coeffs);
 }
 
 pub fn run(dk: &[u8])
     requires { ⌜ length (now dk) ≡ 2400 ⌝ }
 {
     let mut key = [0u8; 2400];
-    let mut coeffs = [0u16; 768];
+    let mut mask_coeffs = [0u16; 768];
     copy_bytes(dk, &mut key);
-    mask_coefficients(&mut coeffs);
-    import_faulty(&mut key, &mut coeffs);
+    fixed_coefficients(&mut mask_coeffs);
+    import_faulty(&mut key, &mut mask_coeffs);
 }

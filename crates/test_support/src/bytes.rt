@@ -23,6 +23,21 @@ pub fn set_coefficients(v: u16, out: &mut [u16]) {
     }
 }
 
+// Past its end a string is zero.
+fn byte_at(bytes: &[u8], i: usize) -> u8 {
+    if i < bytes.len() {
+        return bytes[i];
+    }
+    0
+}
+
+// a becomes a xor b.
+pub fn xor_into(a: &mut [u8], b: &[u8]) {
+    for i in 0..a.len() {
+        a[i] = a[i] ^ byte_at(b, i);
+    }
+}
+
 // ---- a buffer holds 238 in each byte before a call that must be refused
 
 pub fn unchanged(bytes: &[u8]) -> bool {

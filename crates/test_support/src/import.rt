@@ -10,13 +10,13 @@ fn mask(i: usize) -> u16 {
 }
 
 // 3328, 1299, 2599, ..
-pub fn mask_coefficients(f: &mut [u16]) {
+pub fn fixed_coefficients(f: &mut [u16]) {
     for i in 0..f.len() {
         f[i] = mask(i);
     }
 }
 
-pub fn mask_words() -> [u64; 4]
+pub fn fixed_words() -> [u64; 4]
     ensures { λ r. ⌜ 4 ≡ length r ⌝ }
 {
     [
@@ -28,7 +28,7 @@ pub fn mask_words() -> [u64; 4]
 }
 
 // The number of the answer.
-fn import_into(dk: &[u8], coeffs: &[u16], words: &[u64], split: &mut [u8]) -> u64
+fn import_into(dk: &[u8], mask_coeffs: &[u16], mask_words: &[u64], split: &mut [u8]) -> u64
     requires { ⌜ length (now split) ≡ 4352 ⌝ }
 {
     let mut s0 = [0xeeeeu16; 768];
@@ -38,8 +38,8 @@ fn import_into(dk: &[u8], coeffs: &[u16], words: &[u64], split: &mut [u8]) -> u6
     let mut public = [0xeeu8; 1216];
     let n = number(mlkem::import(
         dk,
-        coeffs,
-        words,
+        mask_coeffs,
+        mask_words,
         &mut s0,
         &mut s1,
         &mut z0,
@@ -52,9 +52,9 @@ fn import_into(dk: &[u8], coeffs: &[u16], words: &[u64], split: &mut [u8]) -> u6
 
 // The number of the answer, or 99 where a refused call changed a buffer. Where the call is carried out, out is SHA3-256
 // of the split key.
-pub fn import(dk: &[u8], coeffs: &[u16], words: &[u64], out: &mut [u8]) -> u64 {
+pub fn import(dk: &[u8], mask_coeffs: &[u16], mask_words: &[u64], out: &mut [u8]) -> u64 {
     let mut split = [0u8; 4352];
-    let n = import_into(dk, coeffs, words, &mut split);
+    let n = import_into(dk, mask_coeffs, mask_words, &mut split);
     if n == 0 {
         fips202::sha3_256(&split, out);
         return 0;
@@ -66,8 +66,8 @@ pub fn import(dk: &[u8], coeffs: &[u16], words: &[u64], out: &mut [u8]) -> u64 {
 }
 
 pub fn import_masked(dk: &[u8], out: &mut [u8]) -> u64 {
-    let mut coeffs = [0u16; 768];
-    let words = mask_words();
-    mask_coefficients(&mut coeffs);
-    import(dk, &coeffs, &words, out)
+    let mut mask_coeffs = [0u16; 768];
+    let mask_words = fixed_words();
+    fixed_coefficients(&mut mask_coeffs);
+    import(dk, &mask_coeffs, &mask_words, out)
 }

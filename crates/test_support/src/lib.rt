@@ -4,5 +4,6 @@ pub mod bytes; // buffers, filled and tested
 pub mod edges; // lengths of lent buffers
 pub mod hashes; // hashes, printed
 pub mod import; // import under fixed masks
+pub mod masked_hashes; // the masked hashes on shares of a message
 pub mod masks; // masks of a kind
 pub mod turn; // keys, a ciphertext and a secret

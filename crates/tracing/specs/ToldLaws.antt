@@ -18,7 +18,8 @@ use Rattle.refusals.specs.declared.Answer.{Answer}
 use Rattle.refusals.specs.declared.Answer.the-variants.{Done, NoSuchStep}
 use Rattle.refusals.specs.Refusals.{number, Row, row, answer, after}
 use Rattle.refusals.specs.RefusalLaws.{number-done, after-refused}
-use Rattle.tracing.specs.Told.{toldAnswer, toldValue, traceAnswer, traceValue, leftOf}
+use Rattle.tracing.specs.Told.{toldAnswer, toldValue, leftOf}
+use Rattle.tracing.specs.Trace.{stepAnswer, stepValue}
 
 -- ---- rows, and more behind them
 
@@ -63,8 +64,8 @@ module _ (rows : List Row) (n : ℕ) where
   unfolding toldAnswer
   told-none = ap (λ (b : Bool). answer (rows ++ row (not b) NoSuchStep ∷ [])) (leb·zero n) ∙ answer-idle rows NoSuchStep
 
-  pub told-step : (t : ℕ) → toldAnswer rows n (t + 1) ≡ traceAnswer rows n t
-  unfolding toldAnswer traceAnswer
+  pub told-step : (t : ℕ) → toldAnswer rows n (t + 1) ≡ stepAnswer rows n t
+  unfolding toldAnswer stepAnswer
   told-step t = rw (add-one t)
 
   -- as the code goes: a row refuses
@@ -74,7 +75,7 @@ module _ (rows : List Row) (n : ℕ) where
 
   module _ (refusing : Refusing rows) (passed : answer rows ≡ Done) where
     -- none does
-    pub told-passed : (left : ℕ) → toldAnswer rows n left ≡ cond (leb left n) Done NoSuchStep
+    told-passed : (left : ℕ) → toldAnswer rows n left ≡ cond (leb left n) Done NoSuchStep
     unfolding toldAnswer answer
     told-passed left = answer-passed rows _ refusing passed ∙ go (leb left n)
       where
@@ -88,13 +89,13 @@ module _ (rows : List Row) (n : ℕ) where
     pub told-over : (left : ℕ) → n < left → toldAnswer rows n left ≡ NoSuchStep
     told-over left h = told-passed left ∙ rw (lt-leb left n h)
 
-    pub trace-passed : (t : ℕ) → traceAnswer rows n t ≡ cond (ltb t n) Done NoSuchStep
+    pub trace-passed : (t : ℕ) → stepAnswer rows n t ≡ cond (ltb t n) Done NoSuchStep
     trace-passed t = sym (told-step t) ∙ told-passed (t + 1) ∙ rw (add-one t)
 
 -- ---- what the recorder keeps is the trace's entry
 
-pub told-entry : (entries : List ℕ) (t : ℕ) → toldValue (t + 1) entries ≡ traceValue entries t
-unfolding toldValue traceValue
+told-entry : (entries : List ℕ) (t : ℕ) → toldValue (t + 1) entries ≡ stepValue entries t
+unfolding toldValue stepValue
 told-entry entries t = rw (add-one t) (noted entries t 0)
 
 pub ran-value : {A : Type 0} {p : Prog A} {left : ℕ} {ws cs ws′ cs′ : List ℕ} {a : A} {r : Recorder}
@@ -111,37 +112,37 @@ record Refused (a b : Answer) : Type 0 where
 
 module _ (rows : List Row) (n m t : ℕ) (refusing : Refusing rows) (steps : answer rows ≡ Done → n ≡ m) where
   -- a step past the end is told as one past it
-  past : m ≤ t → Refused (toldAnswer rows n (m + 1)) (traceAnswer rows n t)
+  past : m ≤ t → Refused (toldAnswer rows n (m + 1)) (stepAnswer rows n t)
   past h = go (decLt 0 (number (answer rows)))
     where
-      go : Dec (0 < number (answer rows)) → Refused (toldAnswer rows n (m + 1)) (traceAnswer rows n t)
+      go : Dec (0 < number (answer rows)) → Refused (toldAnswer rows n (m + 1)) (stepAnswer rows n t)
       go (yes r) =
-          let e : traceAnswer rows n t ≡ answer rows = sym (told-step rows n t) ∙ told-refused rows n (t + 1) refl r in
+          let e : stepAnswer rows n t ≡ answer rows = sym (told-step rows n t) ∙ told-refused rows n (t + 1) refl r in
           record { same = told-refused rows n (m + 1) refl r ∙ sym e; refusal = rw e r }
       go (no r) =
           let d = number-done (answer rows) (omega arith) in
           let w = steps d in
-          let e : traceAnswer rows n t ≡ NoSuchStep =
+          let e : stepAnswer rows n t ≡ NoSuchStep =
           sym (told-step rows n t) ∙ told-over rows n refusing d (t + 1) (omega arith) in
           record { same = told-over rows n refusing d (m + 1) (omega arith) ∙ sym e; refusal = rw e (omega arith) }
 
-  pub left-answer : toldAnswer rows n (leftOf t m) ≡ traceAnswer rows n t
+  pub left-answer : toldAnswer rows n (leftOf t m) ≡ stepAnswer rows n t
   left-answer = go (decLt t m)
     where
-      go : Dec (t < m) → toldAnswer rows n (leftOf t m) ≡ traceAnswer rows n t
+      go : Dec (t < m) → toldAnswer rows n (leftOf t m) ≡ stepAnswer rows n t
       go (yes h) = rw (lt-ltb t m h) (told-step rows n t)
       go (no h) = rw (le-ltb t m (omega arith)) (past (omega arith) .same)
 
   pub left-value : (entries : List ℕ) (v : ℕ)
-      → after (number (traceAnswer rows n t)) (toldValue (leftOf t m) entries) v
-      ≡ after (number (traceAnswer rows n t)) (traceValue entries t) v
+      → after (number (stepAnswer rows n t)) (toldValue (leftOf t m) entries) v
+      ≡ after (number (stepAnswer rows n t)) (stepValue entries t) v
   left-value entries v = go (decLt t m)
     where
       a : ℕ
-      a = number (traceAnswer rows n t)
+      a = number (stepAnswer rows n t)
 
-      go : Dec (t < m) → after a (toldValue (leftOf t m) entries) v ≡ after a (traceValue entries t) v
+      go : Dec (t < m) → after a (toldValue (leftOf t m) entries) v ≡ after a (stepValue entries t) v
       go (yes h) = rw (lt-ltb t m h) (ap (λ (x : ℕ). after a x v) (told-entry entries t))
       go (no h) =
           let r : a ≡ 0 → ⊥ = λ e. omega (arith, past (omega arith) .refusal) in
-          after-refused a (toldValue (leftOf t m) entries) v r ∙ sym (after-refused a (traceValue entries t) v r)
+          after-refused a (toldValue (leftOf t m) entries) v r ∙ sym (after-refused a (stepValue entries t) v r)

@@ -4,9 +4,11 @@ use mathlib.Core.List.{List, [], _∷_, _++_, map}
 use Prim.Native.Nat.{ℕ, zero, suc, _+_, _<_}
 use native.Mathlib.Decide.{decLt}
 use native.Mathlib.Omega.{arith}
-use lib.ListN.{length, getD, take, drop, set, replicate, List·getD-eq-default, length-take}
+use lib.ListN.{length, getD, take, drop, set, replicate, List·getD-eq-default}
 use lib.Seq.{getD-take, getD-drop}
-use Rattle.words.specs.Tab.{tab, length-tab, getD-tab}
+use Rattle.words.specs.Tab.{tab}
+use Rattle.words.specs.TabLaws.{length-tab, getD-tab}
+use Rattle.words.specs.Part.{getD-take-past}
 use Rattle.words.specs.Bounded.{Below}
 
 module _ {b : ℕ} where
@@ -46,7 +48,7 @@ module _ {b : ℕ} where
     where
       go : (k : ℕ) → Dec (k < n) → getD (take n l) k 0 < b
       go k (yes p) = rw (getD-take n l k 0 p) (h .at k)
-      go k (no p) = rw (List·getD-eq-default (take n l) 0 {n = k} (omega (arith, length-take n l))) (below-positive h)
+      go k (no p) = rw (getD-take-past n l k 0 (omega arith)) (below-positive h)
 
   pub below-tab : (n : ℕ) {f : ℕ → ℕ} → 0 < b → ((i : ℕ) → i < n → f i < b) → Below b (tab n f)
   below-tab n {f} p h = record { at = λ k. go k (decLt k n) }
@@ -60,8 +62,6 @@ module _ {b : ℕ} where
   below-set (x ∷ l) zero h g = below-cons h (below-tail g)
   below-set (x ∷ l) (suc i) h g = below-cons (below-head g) (below-set l i h (below-tail g))
 
-  -- g takes numbers below a to numbers below b
-  pub below-map : {a : ℕ} (g : ℕ → ℕ) → 0 < b → ((x : ℕ) → x < a → g x < b) → (l : List ℕ) → Below a l
-      → Below b (map g l)
-  below-map g p h [] k = below-nil p
-  below-map g p h (x ∷ l) k = below-cons (h x (k .at 0)) (below-map g p h l (record { at = λ i. k .at (suc i) }))
+  pub below-map : (g : ℕ → ℕ) → 0 < b → ((x : ℕ) → g x < b) → (l : List ℕ) → Below b (map g l)
+  below-map g p h [] = below-nil p
+  below-map g p h (x ∷ l) = below-cons (h x) (below-map g p h l)

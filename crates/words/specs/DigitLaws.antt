@@ -9,7 +9,8 @@ use lib.ListN.{getD, List·getD-map}
 use lib.Arith.{half-le}
 use lib.Pow.{shr-shr, field, mod-mod-pow}
 use lib.Bits.{differ}
-use Rattle.words.specs.Word.{Bits, xor, and, low}
+use Rattle.words.specs.Word.{xor, and, low}
+use Rattle.words.specs.Bits.{Bits}
 use Rattle.words.specs.WordLaws.{xor-shift, and-shift, low-xor, bits-mono}
 use Rattle.words.specs.Formula.{Formula, at, _⊕_, _⊗_, onWords, onBits, xor-odd, and-odd}
 use Rattle.words.specs.Digit.{digit}
@@ -54,7 +55,7 @@ pub xor-digit : (k x y : ℕ) → xor (digit k x) (digit k y) ≡ digit k (xor x
 unfolding digit low
 xor-digit k x y = sym (low-xor 1 (x / 2 ^ k) (y / 2 ^ k)) ∙ ap (λ (z : ℕ). z % 2) (sym (xor-shift k x y))
 
-pub digit-formula : (k : ℕ) (e : Formula) (ρ : List ℕ) → digit k (onWords e ρ) ≡ onBits e (map (digit k) ρ)
+digit-formula : (k : ℕ) (e : Formula) (ρ : List ℕ) → digit k (onWords e ρ) ≡ onBits e (map (digit k) ρ)
 digit-formula k (at i) ρ =
     sym (List·getD-map (digit k) ρ i 0) ∙ ap (λ (d : ℕ). getD (map (digit k) ρ) i d) (digit-zero k)
 digit-formula k (e ⊕ f) ρ =
@@ -71,7 +72,7 @@ up-to (suc n) x y h g e =
     (sym (digit-low x) ∙ e 0 ∙ digit-low y)
     ∙ div-add-mod' y 2
 
-pub ext-digit : (x y : ℕ) → ((k : ℕ) → digit k x ≡ digit k y) → x ≡ y
+ext-digit : (x y : ℕ) → ((k : ℕ) → digit k x ≡ digit k y) → x ≡ y
 ext-digit x y e = up-to (max x y) x y (omega arith) (omega arith) e
 
 -- of words of n bits the n lowest

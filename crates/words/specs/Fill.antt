@@ -15,7 +15,9 @@ use native.Mathlib.Omega.{arith}
 use lib.ListN.{length, getD, take, drop, set, replicate, length-set, length-append, length-drop, length-replicate}
 use lib.ListN.{getD-replicate}
 use lib.Seq.{take-suc-set, take-all, take-at, getD-take, getD-set-other}
-use Rattle.words.specs.Tab.{tab, length-tab, getD-tab, tab-add, tab-of, tab-getD}
+use Rattle.words.specs.Tab.{tab}
+use Rattle.words.specs.TabLaws.{length-tab, getD-tab, tab-add, tab-of, tab-getD}
+use Rattle.words.specs.Bounded.{Below}
 
 module _ {A : Type 0} where
   -- the first i of the n elements of l are in place
@@ -118,3 +120,8 @@ module _ {A : Type 0} where
   pub mapped-end : {g : A → A} {d : A} {l₀ : List A} {i : ℕ} {l : List A} → Mapped g d l₀ i l → length l₀ ≤ i
       → l ≡ map g l₀
   mapped-end {g} {d} {l₀} a h = replaced-end (a .replaced) h ∙ tab-getD g d l₀
+
+-- where all elements of l₀ are below b, so is the one that comes next
+pub mapped-below : {b : ℕ} {g : ℕ → ℕ} {l₀ : List ℕ} {i : ℕ} {l : List ℕ} → Mapped g 0 l₀ i l → Below b l₀
+    → getD l i 0 < b
+mapped-below {i = i} a h = rw (a .replaced .rest i (omega arith)) (h .at i)

@@ -1,9 +1,12 @@
 pub mod Word
+pub mod Bits
 pub mod Formula
 pub mod WordLaws
 pub mod Rotation
 pub mod Tab
+pub mod TabLaws
 pub mod Iterate
+pub mod IterateLaws
 pub mod Part
 pub mod Fill
 pub mod Overwrite

@@ -4,9 +4,10 @@ use mathlib.Core.List.{List, [], _∷_, _++_, append-nil, append-assoc}
 use Prim.Native.Nat.{ℕ, zero, suc, _+_, _-_, _*_, _/_, _%_, _^_, _<_, _≤_}
 use native.Mathlib.Nat.{mul-zero, mul-suc, zero-mul, zero-div}
 use native.Mathlib.Omega.{arith}
-use lib.ListN.{length, getD, take, drop, length-append}
-use lib.Seq.{take-append-add, drop-append-add, take-nil, drop-nil, take-add, take-all}
-use Rattle.words.specs.Tab.{tab, tab-of}
+use lib.ListN.{length, getD, take, drop, length-append, take-append-drop}
+use lib.Seq.{length-take-le, take-at, drop-at, take-add, take-all}
+use Rattle.words.specs.Tab.{tab}
+use Rattle.words.specs.TabLaws.{tab-of}
 use Rattle.words.specs.Bounded.{Below}
 use Rattle.words.specs.BoundedLaws.{below-nil, below-append, below-take, below-drop}
 use Rattle.words.specs.Part.{length-part}
@@ -27,7 +28,7 @@ module _ (n : ℕ) where
   below-wordsToBytes [] = below-nil (omega arith)
   below-wordsToBytes (w ∷ l) = below-append (digits 256 n w) (below-digits 256 n w (omega arith)) (below-wordsToBytes l)
 
-  pub wordsToBytes-append : (l m : List ℕ) → wordsToBytes n (l ++ m) ≡ wordsToBytes n l ++ wordsToBytes n m
+  wordsToBytes-append : (l m : List ℕ) → wordsToBytes n (l ++ m) ≡ wordsToBytes n l ++ wordsToBytes n m
   unfolding wordsToBytes
   wordsToBytes-append [] m = refl
   wordsToBytes-append (w ∷ l) m =
@@ -57,25 +58,19 @@ module _ (n : ℕ) where
       positive zero {i} h = absurd (omega (arith, subst (λ (z : ℕ). i < z) (zero-mul (length l)) h))
       positive (suc k) h = omega arith
 
-  pub take-wordsToBytes : (m : ℕ) (l : List ℕ) → take (n * m) (wordsToBytes n l) ≡ wordsToBytes n (take m l)
-  unfolding wordsToBytes
-  take-wordsToBytes zero l = ap (λ (k : ℕ). take k (wordsToBytes n l)) (mul-zero n)
-  take-wordsToBytes (suc m) [] = take-nil (n * suc m)
-  take-wordsToBytes (suc m) (w ∷ l) =
-      let e : n * suc m ≡ length (digits 256 n w) + n * m = omega (arith, length-digits 256 n w, mul-suc n m) in
-      ap (λ (k : ℕ). take k (digits 256 n w ++ wordsToBytes n l)) e
-      ∙ take-append-add (digits 256 n w) (wordsToBytes n l) (n * m)
-      ∙ ap (λ (k : List ℕ). digits 256 n w ++ k) (take-wordsToBytes m l)
+  -- the bytes of the first m words, and those of the others
+  module _ (m : ℕ) (l : List ℕ) (h : m ≤ length l) where
+    split : wordsToBytes n l ≡ wordsToBytes n (take m l) ++ wordsToBytes n (drop m l)
+    split = ap (wordsToBytes n) (sym (take-append-drop m l)) ∙ wordsToBytes-append (take m l) (drop m l)
 
-  pub drop-wordsToBytes : (m : ℕ) (l : List ℕ) → drop (n * m) (wordsToBytes n l) ≡ wordsToBytes n (drop m l)
-  unfolding wordsToBytes
-  drop-wordsToBytes zero l = ap (λ (k : ℕ). drop k (wordsToBytes n l)) (mul-zero n)
-  drop-wordsToBytes (suc m) [] = drop-nil (n * suc m)
-  drop-wordsToBytes (suc m) (w ∷ l) =
-      let e : n * suc m ≡ length (digits 256 n w) + n * m = omega (arith, length-digits 256 n w, mul-suc n m) in
-      ap (λ (k : ℕ). drop k (digits 256 n w ++ wordsToBytes n l)) e
-      ∙ drop-append-add (digits 256 n w) (wordsToBytes n l) (n * m)
-      ∙ drop-wordsToBytes m l
+    long : length (wordsToBytes n (take m l)) ≡ n * m
+    long = length-wordsToBytes (take m l) ∙ ap (λ (k : ℕ). n * k) (length-take-le m l h)
+
+    pub take-wordsToBytes : take (n * m) (wordsToBytes n l) ≡ wordsToBytes n (take m l)
+    take-wordsToBytes = ap (take (n * m)) split ∙ take-at (wordsToBytes n (take m l)) _ (n * m) long
+
+    pub drop-wordsToBytes : drop (n * m) (wordsToBytes n l) ≡ wordsToBytes n (drop m l)
+    drop-wordsToBytes = ap (drop (n * m)) split ∙ drop-at (wordsToBytes n (take m l)) _ (n * m) long
 
   -- the words that bytes hold, as bytes again
   module _ (b : List ℕ) (h : Below 256 b) where

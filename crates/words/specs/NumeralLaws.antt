@@ -12,7 +12,8 @@ use native.Mathlib.Omega.{arith}
 use lib.Arith.{digits-div, digits-mod, digits-lt, mod-mul}
 use lib.ListN.{length, getD, replicate, length-append, length-replicate, List·getD-append}
 use lib.Seq.{getD-append-add}
-use Rattle.words.specs.Tab.{tab, tab-of}
+use Rattle.words.specs.Tab.{tab}
+use Rattle.words.specs.TabLaws.{tab-of}
 use Rattle.words.specs.Bounded.{Below}
 use Rattle.words.specs.BoundedLaws.{below-positive, below-nil, below-cons, below-head, below-tail, below-append}
 use Rattle.words.specs.BoundedLaws.{below-zeros}
@@ -69,7 +70,7 @@ value-digits b (suc n) x h =
     ∙ (let e = mod-mul x (one-le-pow n b h) h in omega arith)
     ∙ ap (λ (m : ℕ). x % m) (sym (pow-suc b n))
 
-pub value-snoc : (b : ℕ) (l : List ℕ) (x : ℕ) → value b (l ++ x ∷ []) ≡ value b l + x * b ^ length l
+value-snoc : (b : ℕ) (l : List ℕ) (x : ℕ) → value b (l ++ x ∷ []) ≡ value b l + x * b ^ length l
 unfolding value
 value-snoc b [] x = rw pow-zero (omega arith)
 value-snoc b (y ∷ l) x = rw (value-snoc b l x, pow-suc b (length l)) (omega arith)
@@ -81,7 +82,7 @@ value-lt b (x ∷ l) h =
     rw (pow-suc b (length l))
     (let e = digits-lt (value-lt b l (below-tail h)) (below-head h) in omega arith)
 
-pub getD-digits : (b n x i : ℕ) → i < n → getD (digits b n x) i 0 ≡ x / b ^ i % b
+getD-digits : (b n x i : ℕ) → i < n → getD (digits b n x) i 0 ≡ x / b ^ i % b
 unfolding digits
 getD-digits b zero x i h = absurd (omega arith)
 getD-digits b (suc n) x zero h = rw (pow-zero, div-one)

@@ -3,7 +3,7 @@ use mathlib.Core.Path.{_≡_, refl}
 use mathlib.Core.List.{List, [], _∷_, _++_}
 use Prim.Native.Nat.{ℕ, zero, suc, _+_, _-_, _≤_}
 use native.Mathlib.Omega.{arith}
-use lib.ListN.{length, take, drop, length-drop}
+use lib.ListN.{length, getD, take, drop, length-take, length-drop, List·getD-eq-default}
 use lib.Seq.{length-take-le, take-all, take-take, take-append-le, drop-append-le}
 
 module _ {A : Type 0} where
@@ -24,3 +24,7 @@ module _ {A : Type 0} where
   -- all elements from a on
   pub part-rest : (a : ℕ) (l : List A) → take (length l - a) (drop a l) ≡ drop a l
   part-rest a l = take-all (length l - a) (drop a l) (omega (arith, length-drop a l))
+
+  -- past the first n elements there are none
+  pub getD-take-past : (n : ℕ) (l : List A) (x : ℕ) (d : A) → n ≤ x → getD (take n l) x d ≡ d
+  getD-take-past n l x d h = List·getD-eq-default (take n l) d {n = x} (omega (arith, length-take n l))

@@ -4,8 +4,9 @@ use mathlib.Core.List.{List, [], _∷_}
 use Prim.Native.Nat.{ℕ, zero, suc, _<_}
 use native.Mathlib.Omega.{arith}
 use lib.ListN.{getD}
-use Rattle.words.specs.Word.{Bits}
-use Rattle.words.specs.Tab.{tab, length-tab, getD-tab, tab-cong}
+use Rattle.words.specs.Bits.{Bits}
+use Rattle.words.specs.Tab.{tab}
+use Rattle.words.specs.TabLaws.{length-tab, getD-tab, tab-cong}
 use Rattle.words.specs.Bounded.{Below}
 use Rattle.words.specs.BoundedLaws.{below-head, below-tail, below-tab}
 use Rattle.words.specs.Numeral.{value}
@@ -20,7 +21,7 @@ unfolding plane
 plane-cong n j k v w e = ap (value 2) (tab-cong n e)
 
 -- the digits of a number given by its bits
-pub digit-value : (l : List ℕ) → Below 2 l → (i : ℕ) → digit i (value 2 l) ≡ getD l i 0
+digit-value : (l : List ℕ) → Below 2 l → (i : ℕ) → digit i (value 2 l) ≡ getD l i 0
 unfolding value
 digit-value [] h i = digit-zero i
 digit-value (x ∷ l) h zero = digit-low _ ∙ value-head (value 2 l) (below-head h)

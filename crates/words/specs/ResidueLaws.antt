@@ -5,7 +5,7 @@ use native.Mathlib.Nat.{add-mod, mod-add-mod, mod-eq-of-lt, mul-comm, mul-add-mo
 use native.Mathlib.Nat.{add-mod-right}
 use native.Mathlib.Omega.{arith}
 
-pub mod-mul-mod : (a b m : ℕ) → a % m * b % m ≡ a * b % m
+mod-mul-mod : (a b m : ℕ) → a % m * b % m ≡ a * b % m
 mod-mul-mod a b m =
     sym (mul-add-mod-self-right (a / m * b) m (a % m * b))
     ∙ ap (λ (n : ℕ). n % m) (omega (arith, ap (λ (n : ℕ). n * b) (div-add-mod' a m)))
@@ -20,7 +20,7 @@ add-swap-mod a b c d m =
     sym (add-mod (a + b) (c + d) m) ∙ ap (λ (n : ℕ). n % m) (omega arith) ∙ add-mod (a + c) (b + d) m
 
 -- what is added and taken away again
-pub add-sub-mod : (x c m : ℕ) → x < m → c ≤ m → ((x + c) % m + (m - c)) % m ≡ x
+add-sub-mod : (x c m : ℕ) → x < m → c ≤ m → ((x + c) % m + (m - c)) % m ≡ x
 add-sub-mod x c m h g =
     mod-add-mod (x + c) m (m - c) ∙ ap (λ (n : ℕ). n % m) (omega arith) ∙ add-mod-right x m ∙ mod-eq-of-lt h
 

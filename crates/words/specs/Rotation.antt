@@ -7,7 +7,8 @@ use native.Mathlib.Omega.{arith}
 use lib.Arith.{digits-lt}
 use lib.Pow.{mod-pow-add, shl-shr, shr-lt, pow-add, pow-pos, high, low, split}
 use lib.Bits.{bitOr, or-shifted, or-self, xor-block, xor-mod, xor-shr}
-use Rattle.words.specs.Word.{Bits, xor, rotl}
+use Rattle.words.specs.Word.{xor, rotl}
+use Rattle.words.specs.Bits.{Bits}
 use Rattle.words.specs.WordLaws.{zero-bits, xor-same, xor-zero}
 
 -- the two parts of x, of j and k bits, exchanged

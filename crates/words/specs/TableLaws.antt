@@ -7,7 +7,8 @@ use native.Mathlib.Decide.{decLt}
 use native.Mathlib.Omega.{arith}
 use lib.Dec.{T, eqb, eqb→eq}
 use lib.ListN.{length, getD}
-use Rattle.words.specs.Tab.{tab, tab-of}
+use Rattle.words.specs.Tab.{tab}
+use Rattle.words.specs.TabLaws.{tab-of}
 use Rattle.words.specs.Table.{every}
 
 left : (a b : Bool) → T (a && b) → T a
@@ -31,7 +32,7 @@ every-true zero p h = refl
 every-true (suc n) p h = rw (every-true n p (λ i l. h i (omega arith)), h n (omega arith))
 
 -- entry k of the table passes the test f k
-pub table-at : (f : ℕ → ℕ → Bool) (xs : List ℕ) → T (every (length xs) (λ k. f k (getD xs k 0))) → (k : ℕ)
+table-at : (f : ℕ → ℕ → Bool) (xs : List ℕ) → T (every (length xs) (λ k. f k (getD xs k 0))) → (k : ℕ)
     → k < length xs → T (f k (getD xs k 0))
 table-at f xs t k h = every-at (length xs) (λ k. f k (getD xs k 0)) t k h
 

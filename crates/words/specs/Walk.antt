@@ -5,7 +5,7 @@
 --     before the loop  walked-start
 --     a turn           walked-turn INVARIANT (omega arith) (c .if1 .left)
 --     after the loop   walked-equal 0 INVARIANT (omega arith) LENGTHS says a ≡ b; where the test is another,
---                      walked-below or walked-every or, for any P, walked-end
+--                      walked-below or walked-every
 --     inside it        refuted or every-false says that the test of the whole is false
 use mathlib.Core.Path.{_≡_, refl}
 use mathlib.Core.Bool.{Bool, true, false, _&&_}
@@ -32,7 +32,7 @@ module _ {n : ℕ} {P : ℕ → Type 0} where
   pub walked-turn : {i : ℕ} → Walked n P i → i < n → P i → Walked n P (i + 1)
   walked-turn {i} w h p = record { within = omega arith; passed = below-more P i (w .passed) p }
 
-  pub walked-end : {i : ℕ} → Walked n P i → n ≤ i → (k : ℕ) → k < n → P k
+  walked-end : {i : ℕ} → Walked n P i → n ≤ i → (k : ℕ) → k < n → P k
   walked-end w h k g = w .passed k (omega arith)
 
 -- ---- what the whole walk says

@@ -1,11 +1,7 @@
--- Words as numbers: exclusive or, and, complement, rotation. They are shut, so that proofs go by their laws and not by
+-- Words as numbers: exclusive or, and, ones, complement, low bits, rotation. They are shut, so that proofs go by their laws and not by
 -- their text.
-use Prim.Native.Nat.{ℕ, _+_, _-_, _*_, _/_, _%_, _^_, _<_}
+use Prim.Native.Nat.{ℕ, _+_, _-_, _*_, _/_, _%_, _^_}
 use lib.Bits.{bitXor, bitAnd}
-
--- x has n bits
-pub record Bits (n x : ℕ) : Type 0 where
-  pub lt : x < 2 ^ n
 
 unfoldable pub xor : ℕ → ℕ → ℕ
 xor x y = bitXor x y
@@ -20,10 +16,6 @@ ones n = 2 ^ n - 1
 -- the n bits of x, each inverted
 unfoldable pub complement : ℕ → ℕ → ℕ
 complement n x = xor x (ones n)
-
--- x or y, words of n bits, by De Morgan's law
-unfoldable pub or : ℕ → ℕ → ℕ → ℕ
-or n x y = complement n (and (complement n x) (complement n y))
 
 -- the n bits of x, rotated left by k places
 unfoldable pub rotl : ℕ → ℕ → ℕ → ℕ

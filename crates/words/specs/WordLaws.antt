@@ -7,7 +7,8 @@ use native.Mathlib.Omega.{arith}
 use lib.Pow.{pow-pos, pow-mono, ones-lt, shr-lt}
 use lib.Bits.{bitXor, bitAnd, xor-lt, and-lt, xor-self, xor-zero-r, xor-zero-l, xor-add-and, and-mask, xor-mod, xor-shr}
 use lib.Bits.{and-shr}
-use Rattle.words.specs.Word.{Bits, xor, and, ones, complement, or, low}
+use Rattle.words.specs.Word.{xor, and, ones, complement, low}
+use Rattle.words.specs.Bits.{Bits, or}
 use Rattle.words.specs.Formula.{boole, at, _⊕_, _⊗_}
 
 -- ---- identities
@@ -61,7 +62,7 @@ and-bits {n} {x} {y} a b = record { lt = and-lt n x y (a .lt) (b .lt) }
 pub zero-bits : {n : ℕ} → Bits n 0
 zero-bits {n} = record { lt = pow-pos n }
 
-pub ones-bits : {n : ℕ} → Bits n (ones n)
+ones-bits : {n : ℕ} → Bits n (ones n)
 unfolding ones
 ones-bits {n} = record { lt = ones-lt n }
 

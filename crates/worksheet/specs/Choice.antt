@@ -4,8 +4,8 @@ use mathlib.Core.Path.{_≡_, ap}
 use mathlib.Core.Bool.{Bool, true, false}
 use mathlib.Core.List.{List}
 use lib.ListN.{getD}
-use Rattle.words.specs.Word.{Bits}
-use Rattle.words.specs.Tab.{tab-cong}
+use Rattle.words.specs.Bits.{Bits}
+use Rattle.words.specs.TabLaws.{tab-cong}
 use Rattle.worksheet.specs.declared.Shares.{Shares}
 use Rattle.worksheet.specs.Prog.{Prog}
 use Rattle.worksheet.specs.Couple.{Coupled, coupled-weaken}
@@ -28,7 +28,7 @@ pub both-bits : {n : ℕ} {z z′ : Shares} → Bits n (z .s0) → Bits n (z .s1
     → Both n z z′
 both-bits a b a′ b′ = record { left = sharing-joined a b; right = sharing-joined a′ b′ }
 
-pub apart-both : {n d X X′ : ℕ} {z z′ : Shares} → Apart n d X X′ z z′ → Both n z z′
+apart-both : {n d X X′ : ℕ} {z z′ : Shares} → Apart n d X X′ z z′ → Both n z z′
 apart-both a = both-bits (a .left .bits0) (a .left .bits1) (a .right .bits0) (a .right .bits1)
 
 pub chosen : {n : ℕ} (q : Bool) {X X′ : ℕ} {z z′ : Shares} → Apart n (keep q X X′) X X′ z z′ → Kept n q z z′

@@ -26,7 +26,7 @@ abbrev pub coeffKeep : ℕ → Bool → ℕ → ℕ → ℕ
 coeffKeep m false X X′ = 0
 coeffKeep m true X X′ = (X′ + (m - X)) % m
 
-pub coeffSharing-lt : {m X : ℕ} {z : Shares} → CoeffSharing m X z → X < m
+coeffSharing-lt : {m X : ℕ} {z : Shares} → CoeffSharing m X z → X < m
 coeffSharing-lt {m} {z = z} s = subst (λ (x : ℕ). x < m) (s .sums) (mod-lt (z .s0 + z .s1) (omega (arith, s .lt0)))
 
 pub coeffApart-cong : {m d e X X′ : ℕ} {z z′ : Shares} → d ≡ e → CoeffApart m d X X′ z z′ → CoeffApart m e X X′ z z′

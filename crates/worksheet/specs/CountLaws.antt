@@ -39,7 +39,7 @@ unfolding tally
 tally-cong [] h = h []
 tally-cong (b ∷ bs) h = sum-cong b (λ x lt. tally-cong bs (λ xs. h (x ∷ xs)))
 
-tally-zero : (bs : List ℕ) → tally bs (λ xs. 0) ≡ 0
+pub tally-zero : (bs : List ℕ) → tally bs (λ xs. 0) ≡ 0
 unfolding tally
 tally-zero [] = refl
 tally-zero (b ∷ bs) = sum-cong b (λ x lt. tally-zero bs) ∙ sum-zero b

@@ -38,7 +38,7 @@ Silent n p p′ = (i : ℕ) → i < n → SameAt i p p′
 -- ---- equal counts
 
 module _ {A B : Type 0} where
-  pub equal-total : {R : A → B → Type 0} {n : ℕ} {p : Prog A} {p′ : Prog B} → Coupled R n p p′ → total p ≡ total p′
+  equal-total : {R : A → B → Type 0} {n : ℕ} {p : Prog A} {p′ : Prog B} → Coupled R n p p′ → total p ≡ total p′
   unfolding total
   equal-total (ret-c r) = refl
   equal-total (draw-c {m = m} {k′ = k′} π h) =

@@ -1,6 +1,6 @@
 -- Lists put one behind the other, described element by element: of one run, and of two runs beside each other.
 use Prim.Native.Nat.{ℕ, zero, suc, _+_, _-_, _*_, _<_}
-use mathlib.Core.Path.{_≡_, refl, sym, ap, _∙_}
+use mathlib.Core.Path.{_≡_, refl, ap, _∙_}
 use mathlib.Core.List.{List, [], _∷_, _++_, flatten}
 use native.Mathlib.Decide.{decLt}
 use native.Mathlib.Nat.{zero-add, zero-mul, suc-mul, add-comm}
@@ -18,10 +18,6 @@ getD-behind xs ys d {m} j e h =
 
 -- ---- of one run
 
-each-tail : {A : Type 0} {Q : ℕ → A → Type 0} {n : ℕ} {x : A} {xs : List A} → Each Q (suc n) (x ∷ xs)
-    → Each (λ j. Q (suc j)) n xs
-each-tail r = record { long = omega (arith, r .long); at = λ d j h. r .at d (suc j) (omega arith) }
-
 module _ {A : Type 0} where
   pub each-append : {Q : ℕ → A → Type 0} {m n : ℕ} {xs ys : List A} → Each Q m xs → Each (λ j. Q (m + j)) n ys
       → Each Q (m + n) (xs ++ ys)
@@ -33,34 +29,6 @@ module _ {A : Type 0} where
       go d j h (no p) =
           let e : m + (j - m) ≡ j = omega arith in
           rw (getD-behind xs ys d j (r .long) p) (rw e at (s .at d (j - m) (omega arith)))
-
-  -- n lists of d elements
-  pub each-flatten : {Q : ℕ → A → Type 0} (n d : ℕ) {l : List (List A)} → Each (λ i. Each (λ j. Q (i * d + j)) d) n l
-      → Each Q (n * d) (flatten l)
-  unfolding flatten
-  each-flatten zero d {l = []} r = rw (zero-mul d) (record { long = refl; at = λ x j h. absurd (omega arith) })
-  each-flatten zero d {l = x ∷ l} r = absurd (omega (arith, r .long))
-  each-flatten (suc n) d {l = []} r = absurd (omega (arith, r .long))
-  each-flatten {Q} (suc n) d {l = x ∷ l} r =
-      rw (suc-mul n d ∙ add-comm (n * d) d)
-      (each-append (shift (r .at x 0 (omega arith))) (each-flatten n d (next (each-tail r))))
-    where
-      shift : Each (λ j. Q (0 * d + j)) d x → Each Q d x
-      shift s = simp (zero-mul, zero-add) at s
-
-      next : Each (λ i. Each (λ j. Q (suc i * d + j)) d) n l → Each (λ i. Each (λ j. Q (d + (i * d + j))) d) n l
-      next s =
-          record {
-            long = s .long;
-            at = λ y i h.
-                let t = s .at y i h in
-                record {
-                  long = t .long;
-                  at =
-                      λ z j g. let e : suc i * d + j ≡ d + (i * d + j) = omega (arith, suc-mul i d) in rw e at
-                      (t .at z j g);
-                };
-          }
 
 -- ---- of two runs
 

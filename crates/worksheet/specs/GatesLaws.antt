@@ -4,17 +4,18 @@ use Rattle.worksheet.specs.declared.Shares.{Shares}
 use Rattle.worksheet.specs.Prog.{_>>=_, entry}
 use Rattle.worksheet.specs.Uses.{Uses, ret-u, enter-u, uses-bind}
 use Rattle.worksheet.specs.MaskedAndLaws.{uses-maskedAnd}
-use Rattle.worksheet.specs.Gates.{maskedNot, maskedOr, maskedXor}
+use Rattle.worksheet.specs.Gates.{maskedNot, maskedXor, maskedOr}
+use Rattle.worksheet.specs.EntryCounts.{xorEntries, orEntries}
 
 pub uses-maskedNot : (w : ℕ) (u : Shares) → Uses 1 0 0 (maskedNot w u)
 unfolding maskedNot entry _>>=_
 uses-maskedNot w u = enter-u ret-u
 
-pub uses-maskedXor : (u v : Shares) → Uses 2 0 0 (maskedXor u v)
+pub uses-maskedXor : (u v : Shares) → Uses xorEntries 0 0 (maskedXor u v)
 unfolding maskedXor entry _>>=_
 uses-maskedXor u v = enter-u (enter-u ret-u)
 
-pub uses-maskedOr : (w : ℕ) (u v : Shares) → Uses 11 1 0 (maskedOr w u v)
+pub uses-maskedOr : (w : ℕ) (u v : Shares) → Uses orEntries 1 0 (maskedOr w u v)
 unfolding maskedOr
 uses-maskedOr w u v =
     uses-bind (uses-maskedNot w u) (λ a.

@@ -1,6 +1,7 @@
 -- What the gates make of sharings: shares of the same width, and the words that they stand for.
 use Prim.Native.Nat.{ℕ}
-use Rattle.words.specs.Word.{xor, and, or, complement}
+use Rattle.words.specs.Word.{xor, and, complement}
+use Rattle.words.specs.Bits.{or}
 use Rattle.words.specs.WordLaws.{low-bits}
 use Rattle.worksheet.specs.declared.Shares.{Shares}
 use Rattle.worksheet.specs.Prog.{_>>=_, mask, maskLow, entry}

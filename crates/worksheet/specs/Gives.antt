@@ -27,11 +27,6 @@ gives-weaken h (ret-g {a = a} r) = ret-g (h a r)
 gives-weaken h (draw-g k) = draw-g (λ x lt. gives-weaken h (k x lt))
 gives-weaken h (enter-g g) = enter-g (gives-weaken h g)
 
-pub gives-and : {A : Type 0} {P Q : A → Type 0} {p : Prog A} → Gives P p → Gives Q p → Gives (λ a. P a × Q a) p
-gives-and (ret-g r) (ret-g s) = ret-g (r, s)
-gives-and (draw-g k) (draw-g l) = draw-g (λ x lt. gives-and (k x lt) (l x lt))
-gives-and (enter-g g) (enter-g h) = enter-g (gives-and g h)
-
 -- P j holds of the state before turn j
 pub gives-loop : {S : Type 0} (P : ℕ → S → Type 0) (n : ℕ) {f : ℕ → S → Prog S} {s : S}
     → ((j : ℕ) → j < n → (t : S) → P j t → Gives (P (suc j)) (f j t)) → P 0 s → Gives (P n) (loop n f s)

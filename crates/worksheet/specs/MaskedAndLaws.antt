@@ -2,16 +2,15 @@
 use Prim.Native.Nat.{ℕ}
 use mathlib.Core.Path.{_≡_}
 use mathlib.Core.List.{[], _∷_}
-use Rattle.words.specs.Word.{xor, and, low}
+use Rattle.words.specs.Word.{xor, and}
 use Rattle.words.specs.Formula.{boole, at, _⊕_, _⊗_}
 use Rattle.worksheet.specs.declared.Shares.{Shares}
 use Rattle.worksheet.specs.Prog.{_>>=_, mask, maskLow, entry}
 use Rattle.worksheet.specs.Uses.{Uses, ret-u, word-u, enter-u}
-use Rattle.worksheet.specs.Gives.{Gives, ret-g, draw-g, enter-g}
-use Rattle.worksheet.specs.Sharing.{joined}
 use Rattle.worksheet.specs.MaskedAnd.{maskedAnd}
+use Rattle.worksheet.specs.EntryCounts.{andEntries}
 
-pub uses-maskedAnd : (w : ℕ) (u v : Shares) → Uses 8 1 0 (maskedAnd w u v)
+pub uses-maskedAnd : (w : ℕ) (u v : Shares) → Uses andEntries 1 0 (maskedAnd w u v)
 unfolding maskedAnd maskLow mask entry _>>=_
 uses-maskedAnd w u v = word-u (λ x. enter-u (enter-u (enter-u (enter-u (enter-u (enter-u (enter-u (enter-u ret-u))))))))
 
@@ -21,10 +20,3 @@ pub joined-and : (u₀ u₁ v₀ v₁ r : ℕ)
 joined-and u₀ u₁ v₀ v₁ r =
     boole (at 0 ⊗ at 2 ⊕ (at 0 ⊗ at 3 ⊕ at 4) ⊕ (at 1 ⊗ at 3 ⊕ (at 1 ⊗ at 2 ⊕ at 4))) ((at 0 ⊕ at 1) ⊗ (at 2 ⊕ at 3))
     (u₀ ∷ u₁ ∷ v₀ ∷ v₁ ∷ r ∷ []) tt
-
-pub gives-maskedAnd : (w : ℕ) (u v : Shares) → Gives (λ z. joined z ≡ and (joined u) (joined v)) (maskedAnd w u v)
-unfolding maskedAnd maskLow mask entry _>>=_
-gives-maskedAnd w u v =
-    draw-g (λ x h.
-    enter-g (enter-g (enter-g (enter-g (enter-g (enter-g (enter-g (enter-g
-    (ret-g (joined-and (u .s0) (u .s1) (v .s0) (v .s1) (low w x)))))))))))

@@ -7,7 +7,8 @@ use mathlib.Core.List.{List, [], _∷_}
 use native.Mathlib.Omega.{arith}
 use lib.Dec.{ltb}
 use lib.ListN.{getD}
-use Rattle.words.specs.Word.{Bits, xor, and}
+use Rattle.words.specs.Word.{xor, and}
+use Rattle.words.specs.Bits.{Bits}
 use Rattle.words.specs.WordLaws.{xor-bits, and-bits, zero-bits}
 use Rattle.words.specs.Formula.{boole, at, _⊕_}
 use Rattle.worksheet.specs.declared.Shares.{Shares}
@@ -18,6 +19,7 @@ use Rattle.worksheet.specs.Straight.{coupled-enterAll, sameAt-enterAll}
 use Rattle.worksheet.specs.Sharing.{shares}
 use Rattle.worksheet.specs.SharingLaws.{share, Sharing, Apart}
 use Rattle.worksheet.specs.MaskedAnd.{maskedAnd}
+use Rattle.worksheet.specs.EntryCounts.{andEntries}
 use Rattle.worksheet.specs.MaskedAndLaws.{joined-and}
 
 -- its entries and its result with the mask r
@@ -31,7 +33,7 @@ entries r u v =
 abbrev result : ℕ → Shares → Shares → Shares
 result r u v = shares (getD (entries r u v) 3 0) (getD (entries r u v) 7 0)
 
-pub like-maskedAnd : (w : ℕ) (u v u′ v′ : Shares) → Like 8 (maskedAnd w u v) (maskedAnd w u′ v′)
+pub like-maskedAnd : (w : ℕ) (u v u′ v′ : Shares) → Like andEntries (maskedAnd w u v) (maskedAnd w u′ v′)
 unfolding maskedAnd maskLow mask entry _>>=_ identity
 like-maskedAnd w u v u′ v′ = draw-c identity (λ x h. coupled-enterAll (entries _ u v) (entries _ u′ v′) refl (ret-c tt))
 
@@ -58,20 +60,23 @@ apart-two a b a′ b′ d r =
     boole (at 2 ⊕ (at 3 ⊕ (at 4 ⊕ (((at 0 ⊕ at 1) ⊕ (at 2 ⊕ at 3)) ⊕ at 5)))) ((at 0 ⊕ (at 1 ⊕ at 4)) ⊕ at 5)
     (a ∷ b ∷ a′ ∷ b′ ∷ r ∷ d ∷ []) tt
 
+-- the choice b for an entry, and behind it the choices f
+abbrev pub behind : Bool → (ℕ → Bool) → ℕ → Bool
+behind b f zero = b
+behind b f (suc i) = f i
+
 -- the share of u that entry i reads, and the share of v
 abbrev pub readsLeft : ℕ → Bool
 readsLeft i = ltb 3 i
 
 abbrev pub readsRight : ℕ → Bool
-readsRight zero = true
-readsRight (suc zero) = true
-readsRight (suc (suc i)) = ltb 3 i
+readsRight = behind true (behind true (ltb 3))
 
 module _ {n X Y X′ Y′ : ℕ} {u v u′ v′ : Shares} (h : n ≤ 64)
     (su : Sharing n X u) (sv : Sharing n Y v) (su′ : Sharing n X′ u′) (sv′ : Sharing n Y′ v′) where
   -- the result is fresh
   pub coupled-maskedAnd : {d : ℕ} → Bits n d
-      → Coupled (Apart n d (and X Y) (and X′ Y′)) 8 (maskedAnd n u v) (maskedAnd n u′ v′)
+      → Coupled (Apart n d (and X Y) (and X′ Y′)) andEntries (maskedAnd n u v) (maskedAnd n u′ v′)
   unfolding maskedAnd entry _>>=_
   coupled-maskedAnd {d} w =
       let a = and-bits (su .bits0) (sv .bits0) in
@@ -89,7 +94,7 @@ module _ {n X Y X′ Y′ : ℕ} {u v u′ v′ : Shares} (h : n ≤ 64)
       })))
 
   -- entry i, by a mask matched with its sum with c
-  by-mask : {c : ℕ} → Bits n c → (i : ℕ) → i < 8
+  by-mask : {c : ℕ} → Bits n c → (i : ℕ) → i < andEntries
       → ((r : ℕ) → getD (entries r u v) i 0 ≡ getD (entries (xor r c) u′ v′) i 0)
       → SameAt i (maskedAnd n u v) (maskedAnd n u′ v′)
   unfolding maskedAnd entry _>>=_
@@ -97,7 +102,7 @@ module _ {n X Y X′ Y′ : ℕ} {u v u′ v′ : Shares} (h : n ≤ 64)
       sameAt-maskLow h w _ _ (λ r b. sameAt-enterAll (entries r u v) (entries _ u′ v′) i refl k (e r) (ret-c tt))
 
   -- every entry, where the two shares that it reads are equal (entries 1, 3, 5 and 7 don't need that)
-  pub sameAt-maskedAnd : (i : ℕ) → i < 8 → share (readsLeft i) u ≡ share (readsLeft i) u′
+  pub sameAt-maskedAnd : (i : ℕ) → i < andEntries → share (readsLeft i) u ≡ share (readsLeft i) u′
       → share (readsRight i) v ≡ share (readsRight i) v′ → SameAt i (maskedAnd n u v) (maskedAnd n u′ v′)
   sameAt-maskedAnd zero k p q = by-mask zero-bits 0 k (λ r. ap₂ and p q)
   sameAt-maskedAnd (suc zero) k p q =

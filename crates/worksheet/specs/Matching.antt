@@ -2,7 +2,8 @@
 use Prim.Native.Nat.{ℕ, _+_, _-_, _%_, _<_, _≤_}
 use mathlib.Core.Path.{_≡_, refl, ap, _∙_}
 use native.Mathlib.Omega.{arith}
-use Rattle.words.specs.Word.{Bits, xor, low}
+use Rattle.words.specs.Word.{xor, low}
+use Rattle.words.specs.Bits.{Bits}
 use Rattle.words.specs.WordLaws.{xor-bits, bits-mono, low-bits, low-xor, low-of-bits, xor-xor-cancel}
 use Rattle.worksheet.specs.Prog.{word, coeff, bound, Prog, _>>=_, mask, maskLow}
 use Rattle.worksheet.specs.SumLaws.{Perm}

@@ -6,7 +6,8 @@ use mathlib.Core.List.{List}
 use native.Mathlib.Omega.{arith}
 use lib.ListN.{length, getD}
 use lib.Seq.{ext-getD}
-use Rattle.words.specs.Tab.{tab, tab-of, tab-cong}
+use Rattle.words.specs.Tab.{tab}
+use Rattle.words.specs.TabLaws.{tab-of, tab-cong}
 use Rattle.worksheet.specs.Prog.{entry}
 use Rattle.worksheet.specs.Gives.{Gives, ret-g, enter-g, gives-bind, gives-weaken, gives-times}
 use Rattle.worksheet.specs.Couple.{Coupled, ret-c, enter-c, Like, Silent, SameAt, here, coupled-weaken}
@@ -41,7 +42,7 @@ module _ (n : ℕ) (f f′ : ℕ → ℕ) where
   abbrev Outcome : ℕ → ℕ → ℕ → Type 0
   Outcome i y y′ = (y ≡ f i) × (y′ ≡ f′ i)
 
-  pub coupled-entries : Coupled (Outcomes n f f′) (n * 1) (entries n f) (entries n f′)
+  coupled-entries : Coupled (Outcomes n f f′) (n * 1) (entries n f) (entries n f′)
   unfolding entry
   coupled-entries =
       coupled-weaken

@@ -1,19 +1,19 @@
 -- Contracts of recorded code: what a program does, beside what the code hands back.
 use Prim.Native.Nat.{ℕ, _+_, _-_}
-use mathlib.Core.Path.{_≡_, refl, sym, ap, ap₂, _∙_}
+use mathlib.Core.Path.{_≡_, refl, ap, ap₂, _∙_}
 use mathlib.Core.List.{List}
 use native.Mathlib.Nat.{add-zero}
-use native.Mathlib.Numerals.{add-one}
 use native.Mathlib.Omega.{arith}
 use lib.ListN.{getD, take, drop, length, length-drop}
 use lib.Seq.{getD-drop, drop-drop, take-all}
-use Rattle.words.specs.Word.{low, Bits}
+use Rattle.words.specs.Word.{low}
+use Rattle.words.specs.Bits.{Bits}
 use Rattle.words.specs.WordLaws.{low-of-bits}
 use Rattle.worksheet.specs.declared.Recorder.{Recorder}
 use Rattle.worksheet.specs.Prog.{Mask, word, coeff, Prog, ret, _>>=_, mask, maskLow, entry}
 use Rattle.worksheet.specs.Run.{Run, run}
 use Rattle.worksheet.specs.RunLaws.{run-bind}
-use Rattle.worksheet.specs.Recording.{note, noteAll, noteAll-append, noted}
+use Rattle.worksheet.specs.Recording.{note, noteAll, noteAll-append}
 
 -- p, run on the strips ws and cs, gives a and leaves ws′ and cs′; its entries take the recorder from r to r′
 pub record Ran {A : Type 0} (p : Prog A) (r : Recorder) (ws cs : List ℕ) (a : A) (r′ : Recorder)
@@ -89,7 +89,7 @@ pub next-word : {A : Type 0} {p : Prog A} {r r′ : Recorder} {a : A} (ws : List
     → MakesWith word p (getD ws i 0) r a r′ → Ran p r (drop i ws) cs a r′ (drop (i + 1) ws) cs
 next-word ws i {cs} m = rw (drop-drop 1 i ws) at (m (drop i ws) cs (getD-next ws i))
 
-pub next-low : {A : Type 0} (n : ℕ) {p : Prog A} {r r′ : Recorder} {a : A} (ws : List ℕ) (i : ℕ) {cs : List ℕ}
+next-low : {A : Type 0} (n : ℕ) {p : Prog A} {r r′ : Recorder} {a : A} (ws : List ℕ) (i : ℕ) {cs : List ℕ}
     → MakesWithLow n p (low n (getD ws i 0)) r a r′ → Ran p r (drop i ws) cs a r′ (drop (i + 1) ws) cs
 next-low n ws i {cs} m = rw (drop-drop 1 i ws) at (m (drop i ws) cs (ap (low n) (getD-next ws i)))
 
@@ -116,9 +116,3 @@ pub part-coeffs : {A : Type 0} {p : Prog A} {r r′ : Recorder} {a : A} (cs : Li
     → Ran p r ws (take (length cs - i) (drop i cs)) a r′ ws′ (drop n (take (length cs - i) (drop i cs)))
     → Ran p r ws (drop i cs) a r′ ws′ (drop (i + n) cs)
 part-coeffs cs i n h = rw (part cs i, drop-drop n i cs) at h
-
--- a recorder that is set to entry t ends with entry t
-pub traced : {A : Type 0} {p : Prog A} (t : ℕ) {ws cs ws′ cs′ : List ℕ} {a : A} {r′ : Recorder}
-    → Ran p (record { left = t + 1; value = 0 }) ws cs a r′ ws′ cs′ → r′ .value ≡ getD (run p ws cs .entries) t 0
-traced {p = p} t {ws = ws} {cs = cs} h =
-    ap (λ (r : Recorder). r .value) (sym (h .seen)) ∙ rw (add-one t) (noted (run p ws cs .entries) t 0)

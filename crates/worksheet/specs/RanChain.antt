@@ -4,7 +4,8 @@ use mathlib.Core.List.{List, [], _∷_, _++_}
 use Prim.Native.Nat.{ℕ, zero, suc, _+_}
 use native.Mathlib.Numerals.{add-one}
 use native.Mathlib.Omega.{arith}
-use Rattle.words.specs.Tab.{tab, getD-tab}
+use Rattle.words.specs.Tab.{tab}
+use Rattle.words.specs.TabLaws.{getD-tab}
 use Rattle.worksheet.specs.declared.Recorder.{Recorder}
 use Rattle.worksheet.specs.Prog.{Prog, loop, chain}
 use Rattle.worksheet.specs.Run.{Run, run}

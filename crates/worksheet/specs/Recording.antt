@@ -43,7 +43,7 @@ note-more (suc zero) w v h g = absurd (g refl)
 note-more (suc (suc l)) w v h g = rw sub-one
 
 -- at `left` = 0 the value stays
-pub noted-none : (vs : List ℕ) (v : ℕ) → noteAll (record { left = 0; value = v }) vs .value ≡ v
+noted-none : (vs : List ℕ) (v : ℕ) → noteAll (record { left = 0; value = v }) vs .value ≡ v
 unfolding noteAll note
 noted-none [] v = refl
 noted-none (x ∷ vs) v = noted-none vs v

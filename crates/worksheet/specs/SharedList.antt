@@ -21,10 +21,6 @@ sharedAt s i = shares (getD (s .s0) i 0) (getD (s .s1) i 0)
 unfoldable pub unzip : ℕ → (ℕ → Shares) → SharedList
 unzip n f = sharedList (tab n (λ i. f i .s0)) (tab n (λ i. f i .s1))
 
--- two lists as n sharings
-unfoldable pub zip : ℕ → SharedList → List Shares
-zip n s = tab n (sharedAt s)
-
 -- the list of words that two shares of it stand for
 unfoldable pub joinedList : SharedList → List ℕ
 joinedList s = tab (length (s .s0)) (λ i. joined (sharedAt s i))

@@ -6,10 +6,12 @@ use native.Mathlib.Numerals.{add-one}
 use native.Mathlib.Omega.{arith}
 use lib.ListN.{length, getD, set}
 use lib.Seq.{getD-set-same, getD-set-other}
-use Rattle.words.specs.Tab.{tab, length-tab, getD-tab, tab-of, tab-cong}
+use Rattle.words.specs.Tab.{tab}
+use Rattle.words.specs.TabLaws.{length-tab, getD-tab, tab-of, tab-cong}
 use Rattle.worksheet.specs.declared.Shares.{Shares}
 use Rattle.worksheet.specs.Sharing.{shares, joined}
-use Rattle.worksheet.specs.SharedList.{SharedList, joinedList, sharedAt, sharedList, unzip, zip}
+use Rattle.worksheet.specs.SharedList.{SharedList, joinedList, sharedAt, sharedList, unzip}
+use Rattle.worksheet.specs.Zip.{zip}
 
 pub getD-zip : (n : ℕ) (s : SharedList) (i : ℕ) (d : Shares) → i < n → getD (zip n s) i d ≡ sharedAt s i
 unfolding zip

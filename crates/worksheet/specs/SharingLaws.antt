@@ -3,7 +3,8 @@ use Prim.Native.Nat.{ℕ}
 use mathlib.Core.Path.{_≡_, refl, sym, ap, ap₂, _∙_, subst}
 use mathlib.Core.Bool.{Bool, true, false}
 use mathlib.Core.List.{[], _∷_}
-use Rattle.words.specs.Word.{Bits, xor, complement}
+use Rattle.words.specs.Word.{xor, complement}
+use Rattle.words.specs.Bits.{Bits}
 use Rattle.words.specs.WordLaws.{xor-bits, complement-bits, zero-bits, xor-same, xor-zero, xor-cancel, xor-right-comm}
 use Rattle.words.specs.WordLaws.{xor-swap, complement-xor}
 use Rattle.words.specs.Formula.{boole, at, _⊕_}
@@ -47,7 +48,7 @@ pub apart-cong : {n d e X X′ : ℕ} {z z′ : Shares} → d ≡ e → Apart n 
 apart-cong e a = rw e at a
 
 -- their shares 1 differ by d, X and X′ together
-pub apart-share1 : {n d X X′ : ℕ} {z z′ : Shares} → Apart n d X X′ z z′ → z′ .s1 ≡ xor (z .s1) (xor d (xor X X′))
+apart-share1 : {n d X X′ : ℕ} {z z′ : Shares} → Apart n d X X′ z z′ → z′ .s1 ≡ xor (z .s1) (xor d (xor X X′))
 apart-share1 {n} {d} {X} {X′} {z} {z′} a =
     sym (xor-cancel (z′ .s0) (z′ .s1))
     ∙ ap₂ xor (a .by) (a .right .joins)

@@ -62,7 +62,7 @@ abbrev pub beside : {A C G : Type 0} → (A → Prog C) → A × G → Prog (C �
 beside f a = f (a .0) >>= λ c. ret (c, a .1)
 
 module _ {A B C D G H E F K : Type 0} {R : E → A → B → Type 0} {S : F → C → D → Type 0} {Q : K → G → H → Type 0} where
-  pub frame : (k : K) {m : ℕ} {f : A → Prog C} {f′ : B → Prog D}
+  frame : (k : K) {m : ℕ} {f : A → Prog C} {f′ : B → Prog D}
       → Stage R S m f f′ → Stage (Beside R Q) (Beside S Q) m (beside f) (beside f′)
   frame k s =
       record {

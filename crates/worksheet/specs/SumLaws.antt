@@ -19,7 +19,7 @@ unfolding sum
 sum-zero zero = refl
 sum-zero (suc n) = rw (sum-zero n)
 
-pub sum-add : (n : ℕ) (f g : ℕ → ℕ) → sum n (λ x. f x + g x) ≡ sum n f + sum n g
+sum-add : (n : ℕ) (f g : ℕ → ℕ) → sum n (λ x. f x + g x) ≡ sum n f + sum n g
 unfolding sum
 sum-add zero f g = refl
 sum-add (suc n) f g = omega (arith, sum-add n f g)
@@ -36,7 +36,7 @@ sum-pick-above zero a f h = refl
 sum-pick-above (suc n) a f h = rw (ne-eqb n a (λ e. omega (arith, e)), sum-pick-above n a f (omega arith))
 
 -- a sum of which only the term at a counts
-pub sum-pick : (n a : ℕ) (f : ℕ → ℕ) → a < n → sum n (λ x. when (eqb x a) (f x)) ≡ f a
+sum-pick : (n a : ℕ) (f : ℕ → ℕ) → a < n → sum n (λ x. when (eqb x a) (f x)) ≡ f a
 unfolding sum
 sum-pick zero a f h = absurd (omega arith)
 sum-pick (suc n) a f h = go (eqb n a) refl (sum-pick n a f)

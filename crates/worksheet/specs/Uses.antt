@@ -1,11 +1,9 @@
 -- How much a program does: the same on all strips.
 use Prim.Native.Nat.{ℕ, zero, suc, _+_, _*_}
-use mathlib.Core.Path.{_≡_, refl, ap, _∙_}
+use mathlib.Core.Path.{_≡_, refl, ap}
 use mathlib.Core.List.{List, []}
 use native.Mathlib.Nat.{zero-add, suc-add, add-zero, zero-mul, suc-mul}
-use native.Mathlib.Numerals.{one-add}
 use lib.ListN.{length, getD, drop}
-use lib.Seq.{drop-drop}
 use Rattle.worksheet.specs.Prog.{word, coeff, Prog, ret, draw, enter, _>>=_, loop, times, chain}
 use Rattle.worksheet.specs.Run.{run}
 
@@ -58,19 +56,3 @@ length-entries ret-u ws cs = refl
 length-entries (word-u k) ws cs = length-entries (k (getD ws 0 0)) (drop 1 ws) cs
 length-entries (coeff-u k) ws cs = length-entries (k (getD cs 0 0)) ws (drop 1 cs)
 length-entries (enter-u u) ws cs = ap suc (length-entries u ws cs)
-
-pub words-left : {A : Type 0} {e w c : ℕ} {p : Prog A} → Uses e w c p → (ws cs : List ℕ)
-    → run p ws cs .words ≡ drop w ws
-unfolding run
-words-left ret-u ws cs = refl
-words-left (word-u {w = w} k) ws cs = words-left (k (getD ws 0 0)) (drop 1 ws) cs ∙ drop-drop w 1 ws ∙ rw (one-add w)
-words-left (coeff-u k) ws cs = words-left (k (getD cs 0 0)) ws (drop 1 cs)
-words-left (enter-u u) ws cs = words-left u ws cs
-
-pub coeffs-left : {A : Type 0} {e w c : ℕ} {p : Prog A} → Uses e w c p → (ws cs : List ℕ)
-    → run p ws cs .coeffs ≡ drop c cs
-unfolding run
-coeffs-left ret-u ws cs = refl
-coeffs-left (word-u k) ws cs = coeffs-left (k (getD ws 0 0)) (drop 1 ws) cs
-coeffs-left (coeff-u {c = c} k) ws cs = coeffs-left (k (getD cs 0 0)) ws (drop 1 cs) ∙ drop-drop c 1 cs ∙ rw (one-add c)
-coeffs-left (enter-u u) ws cs = coeffs-left u ws cs

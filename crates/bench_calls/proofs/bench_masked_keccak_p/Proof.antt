@@ -1,4 +1,5 @@
--- With 600 masks the call is the permutation's, whose value is the definition's; with fewer nothing is promised.
+-- With a permutation's masks the call is the permutation, whose value is the definition's; with fewer nothing is
+-- promised.
 use mathlib.Core.Path.{sym}
 use mathlib.Core.List.{[]}
 use borrow.Author.Needs.{needs}

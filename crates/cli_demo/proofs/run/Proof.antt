@@ -10,11 +10,12 @@ unpack-requires : tie.Need-unpack-requires
 unpack-requires c κs =
     let coefficients = c .before .before .before in
     let words = coefficients .before in
-    let start = words .before .before in (
-      simp (length-take, length-drop) (omega (arith, start .pre)),
-      sym (words .words .ensures),
-      sym (coefficients .coefficients .ensures),
-    )
+    let start = words .before .before in
+    record {
+      bytes = simp (length-take, length-drop) (omega (arith, start .pre));
+      words = sym (words .words .ensures);
+      coeffs = sym (coefficients .coefficients .ensures);
+    }
 
 pub run-spec : {M : Type 1} → statement M
 run-spec =

@@ -2,7 +2,8 @@
 use mathlib.Core.Path.{_≡_, refl}
 use Prim.Native.Nat.{_-_, _*_}
 use borrow.Author.Needs.{needs}
-use Rattle.words.specs.Iterate.{iterate, Reached, reached-start, reached-turn, reached-end}
+use Rattle.words.specs.Iterate.{iterate}
+use Rattle.words.specs.IterateLaws.{Reached, reached-start, reached-turn, reached-end}
 use Rattle.keccak.specs.KeccakP.{register, round, keccak-p}
 use Rattle.keccak.proofs.permute.Statement.{statement}
 use Rattle.keccak.proofs.permute.Tie as tie
@@ -22,7 +23,7 @@ loop-again : tie.Need-loop-again Inv-loop μ-loop
 loop-again c =
     let k = c .before .round-constant in
     let turn = c .before .before in
-    (reached-turn (turn .before .loop .inv .0) (turn .loop-test .taken) (c .round .ensures), k .ensures .1)
+    (reached-turn (turn .before .loop .inv .0) (turn .loop-test .taken) (c .round .ensures), k .ensures .next)
 
 returns : tie.Need-returns Inv-loop μ-loop
 unfolding keccak-p
@@ -35,8 +36,8 @@ permute-spec =
     Inv-loop
     μ-loop
     loop-holds
-    (λ c κs. (c .loop-test .taken, c .before .loop .inv .1))
-    (λ c κs. c .round-constant .ensures .0)
+    (λ c κs. record { inside = c .loop-test .taken; clocked = c .before .loop .inv .1 })
+    (λ c κs. c .round-constant .ensures .is)
     (λ c. search needs)
     (λ c. search needs)
     loop-again

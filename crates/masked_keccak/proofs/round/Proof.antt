@@ -24,7 +24,7 @@ returns c cs =
     (bind _ (pass-makes (start .args .b .lanes) (q .pass2 .ensures) (rec1 .enter-lanes2 .ensures) _ _)
     (bind _ (o .chi .ensures cs)
     (iota-ran (start .args .i) (z .s0 .lanes) (z .s1 .lanes) (search (needs, states .0 .1 .1 .0))
-    (search (needs, states .1 .0 .1 .1 .0)) (start .pre .1) (e .enter-xor .ensures))))
+    (search (needs, states .1 .0 .1 .1 .0)) (start .pre .constant) (e .enter-xor .ensures))))
 
 pub round-spec : {M : Type 1} → statement M
 round-spec =

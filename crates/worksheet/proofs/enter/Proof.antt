@@ -1,4 +1,4 @@
--- One entry of v takes the recorder where note takes it, and hands back v.
+-- The definition notes its one entry as the code's call of note does, and draws nothing.
 use Rattle.worksheet.specs.Ran.{enters}
 use Rattle.worksheet.proofs.enter.Statement.{statement}
 use Rattle.worksheet.proofs.enter.Tie as tie

@@ -4,7 +4,8 @@ use mathlib.Core.Path.{_≡_, refl, sym, ap, _∙_}
 use mathlib.Core.List.{List}
 use borrow.Author.Needs.{needs}
 use lib.ListN.{getD, length}
-use Rattle.words.specs.Tab.{tab, tab-of}
+use Rattle.words.specs.Tab.{tab}
+use Rattle.words.specs.TabLaws.{tab-of}
 use Rattle.words.specs.Numeral.{value}
 use Rattle.buffers.proofs.little_endian.coefficient.Statement.{statement}
 use Rattle.buffers.proofs.little_endian.coefficient.Tie as tie

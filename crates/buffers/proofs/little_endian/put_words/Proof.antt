@@ -17,21 +17,6 @@ Inv-loop w out₀ i₀ i-end out i = (i-end ≡ 8 * length w) × Filled (8 * len
 abbrev μ-loop : tie.MeasureT-loop
 μ-loop w out₀ i₀ i-end out i = 8 * length w - i
 
--- ---- places
-
-abbrev start : tie.After-slice-known Inv-loop μ-loop → tie.Start Inv-loop μ-loop
-start c = c .before .before
-
--- where a byte is cut out of its element
-abbrev cut : tie.After-byte Inv-loop μ-loop → tie.At-loop Inv-loop μ-loop
-cut c = c .before .before .before
-
--- ---- facts
-
-loop-again : tie.Need-loop-again Inv-loop μ-loop
-loop-again c =
-    let head = cut c .loop in (head .inv .0, filled-turn (head .inv .1) (omega arith) (c .byte .ensures))
-
 returns : tie.Need-returns Inv-loop μ-loop
 returns c = filled-end (c .before .loop .inv .1) (omega arith) ∙ sym (wordsToBytes-tab 8 _)
 
@@ -41,13 +26,13 @@ put-words-spec =
     (tie.spec
     Inv-loop
     μ-loop
-    (λ c. (start c .pre, filled-start (start c .pre)))
-    (λ c. search needs)
-    (λ c. search needs)
+    (λ c. (omega arith, filled-start (omega arith)))
+    (λ c. omega arith)
+    (λ c. omega arith)
     (λ c κs. search needs)
-    (λ c. search needs)
-    (λ c. search needs)
-    (λ c. search needs)
-    loop-again
-    (λ c. search needs)
+    (λ c. omega arith)
+    (λ c. omega arith)
+    (λ c. omega arith)
+    (λ c. (omega arith, filled-turn (c .before .before .before .loop .inv .1) (omega arith) (c .byte .ensures)))
+    (λ c. omega arith)
     returns)

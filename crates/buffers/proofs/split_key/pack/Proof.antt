@@ -39,11 +39,10 @@ returns c =
     let one = first (cut (second c)) in
     let s = start (known (lent one)) in
     let a = s .args in
-    let p = s .pre in
     let z = wordsToBytes 8 (a .z0 .now) ++ wordsToBytes 8 (a .z1 .now) in
     two-parts (a .out .now) 3072
-    (length-bytes-two 2 (a .s0 .now) (a .s1 .now) ∙ omega (arith, p .0))
-    (omega (arith, length-append z (a .public .now), length-bytes-two 8 (a .z0 .now) (a .z1 .now), p .0, p .1))
+    (length-bytes-two 2 (a .s0 .now) (a .s1 .now) ∙ omega (arith, s .pre))
+    (omega (arith, length-append z (a .public .now), length-bytes-two 8 (a .z0 .now) (a .z1 .now), s .pre))
     (one .pack-coefficients .ensures)
     (second c .pack-rest .ensures)
 
@@ -51,13 +50,13 @@ pub pack-spec : {M : Type 1} → statement M
 pack-spec =
     tie.close
     (tie.spec
-    (λ c. search needs)
-    (λ c. search needs)
-    (λ c. search needs)
+    (λ c. omega arith)
+    (λ c. omega arith)
+    (λ c. omega arith)
     (λ c κs. search needs)
-    (λ c. search needs)
-    (λ c. search needs)
-    (λ c. search needs)
+    (λ c. omega arith)
+    (λ c. omega arith)
+    (λ c. omega arith)
     (λ c κs. search needs)
-    (λ c. search needs)
+    (λ c. omega arith)
     returns)

@@ -51,7 +51,7 @@ copy-bytes-requires : tie.Need-copy-bytes-requires
 copy-bytes-requires c κs =
     let s0 = s0-read (s1-lent (s1-read (z0-lent (z0-read (z1-lent (z1-read (public-lent c))))))) in
     let s = start (known (s0-lent s0)) in
-    omega (arith, length-part 3136 1216 (s .args .b .now) (omega (arith, s .pre)), s .pre .1)
+    omega (arith, length-part 3136 1216 (s .args .b .now) (omega (arith, s .pre)), s .pre)
 
 returns : tie.Need-returns
 returns c =
@@ -61,12 +61,11 @@ returns c =
     let s0 = s0-read (s1-lent s1) in
     let s = start (known (s0-lent s0)) in
     let b = s .args .b .now in
-    let p = s .pre .1 in
     record {
-      secret0 = numbers-sized 2 (take 1536 b) (s0 .get-coefficients .ensures) (p .s0-long);
-      secret1 = numbers-sized 2 (take 1536 (drop 1536 b)) (s1 .get-coefficients2 .ensures) (p .s1-long);
-      reject0 = numbers-sized 8 (take 32 (drop 3072 b)) (z0 .get-words .ensures) (p .z0-long);
-      reject1 = numbers-sized 8 (take 32 (drop 3104 b)) (z1 .get-words2 .ensures) (p .z1-long);
+      secret0 = numbers-sized 2 (take 1536 b) (s0 .get-coefficients .ensures) (omega (arith, s .pre));
+      secret1 = numbers-sized 2 (take 1536 (drop 1536 b)) (s1 .get-coefficients2 .ensures) (omega (arith, s .pre));
+      reject0 = numbers-sized 8 (take 32 (drop 3072 b)) (z0 .get-words .ensures) (omega (arith, s .pre));
+      reject1 = numbers-sized 8 (take 32 (drop 3104 b)) (z1 .get-words2 .ensures) (omega (arith, s .pre));
       public = public-read c .copy-bytes .ensures;
     }
 
@@ -74,29 +73,29 @@ pub unpack-spec : {M : Type 1} → statement M
 unpack-spec =
     tie.close
     (tie.spec
-    (λ c. search needs)
-    (λ c. search needs)
-    (λ c. search needs)
+    (λ c. omega arith)
+    (λ c. omega arith)
+    (λ c. omega arith)
     (λ c κs. search needs)
-    (λ c. search needs)
-    (λ c. search needs)
-    (λ c. search needs)
+    (λ c. omega arith)
+    (λ c. omega arith)
+    (λ c. omega arith)
     (λ c κs. search needs)
-    (λ c. search needs)
-    (λ c. search needs)
-    (λ c. search needs)
+    (λ c. omega arith)
+    (λ c. omega arith)
+    (λ c. omega arith)
     (λ c κs. search needs)
-    (λ c. search needs)
-    (λ c. search needs)
-    (λ c. search needs)
+    (λ c. omega arith)
+    (λ c. omega arith)
+    (λ c. omega arith)
     (λ c κs. search needs)
-    (λ c. search needs)
-    (λ c. search needs)
-    (λ c. search needs)
+    (λ c. omega arith)
+    (λ c. omega arith)
+    (λ c. omega arith)
     copy-bytes-requires
-    (λ c. search needs)
-    (λ c. search needs)
-    (λ c. search needs)
-    (λ c. search needs)
-    (λ c. search needs)
+    (λ c. omega arith)
+    (λ c. omega arith)
+    (λ c. omega arith)
+    (λ c. omega arith)
+    (λ c. omega arith)
     returns)

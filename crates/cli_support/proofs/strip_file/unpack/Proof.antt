@@ -1,4 +1,5 @@
--- The words are read from the first 94,000 bytes and the coefficients from all the rest.
+-- 11,750 words are 94,000 bytes and 7,424 coefficients the rest, so that each call reads its own part into its own
+-- buffer.
 use borrow.Author.Needs.{needs}
 use mathlib.Core.Path.{ap, _∙_}
 use lib.ListN.{take, drop}
@@ -32,10 +33,12 @@ returns c =
     let words = words-read (coeffs-lent coeffs) in
     let s = start (words-lent words) in
     let b = s .args .b .now in
-    let p = s .pre in (
-      numbers-sized 8 (take 94000 b) (words .get-words .ensures) (p .1),
-      numbers-sized 2 (drop 94000 b) (coeffs .get-coefficients .ensures ∙ ap (numbers 2 _) (part-rest 94000 b)) (p .2),
-    )
+    let p = s .pre in
+    let rest = coeffs .get-coefficients .ensures ∙ ap (numbers 2 _) (part-rest 94000 b) in
+    record {
+      words = numbers-sized 8 (take 94000 b) (words .get-words .ensures) (p .words);
+      coeffs = numbers-sized 2 (drop 94000 b) rest (p .coeffs);
+    }
 
 pub unpack-spec : {M : Type 1} → statement M
 unpack-spec =

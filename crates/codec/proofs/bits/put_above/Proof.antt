@@ -12,14 +12,14 @@ add-result c =
     let n = c .args .n in
     omega (
       arith,
-      shl-exact 12 n 32 (c .pre .2) (omega arith),
-      shl-lt 12 n (c .pre .2),
+      shl-exact 12 n 32 (c .pre .upper) (omega arith),
+      shl-lt 12 n (c .pre .upper),
       pow-mono {i = n} {j = 16} (omega arith),
       pow-mono {i = 12 + n} {j = 28} (omega arith),
     )
 
 returns : tie.Need-returns
-returns c = ap (λ (m : ℕ). c .args .acc + m) (shl-exact 12 (c .args .n) 32 (c .pre .2) (omega arith))
+returns c = ap (λ (m : ℕ). c .args .acc + m) (shl-exact 12 (c .args .n) 32 (c .pre .upper) (omega arith))
 
 pub put-above-spec : {M : Type 1} → statement M
 put-above-spec = tie.close (tie.spec (λ c. search needs) add-result returns)

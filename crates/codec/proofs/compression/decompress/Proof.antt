@@ -23,17 +23,17 @@ is c =
 cast-result : tie.Need-cast-result
 cast-result c =
     let s = start c in
-    omega (arith, is c, decompress-lt (s .args .d) (s .args .y) (s .pre .0) (s .pre .1))
+    omega (arith, is c, decompress-lt (s .args .d) (s .args .y) (s .pre .most) (s .pre .below))
 
 pub decompress-spec : {M : Type 1} → statement M
 decompress-spec =
     tie.close
     (tie.spec
     (λ c κs. search needs)
-    (λ c. search needs)
+    (λ c. omega arith)
     (λ c κs. search needs)
-    (λ c. omega (arith, pow-mono {i = c .before .before .args .d} {j = 11} (c .before .before .pre .0)))
-    (λ c. search needs)
+    (λ c. omega (arith, pow-mono {i = c .before .before .args .d} {j = 11} (c .before .before .pre .most)))
+    (λ c. omega arith)
     (λ c κs. search needs)
     cast-result
     is)

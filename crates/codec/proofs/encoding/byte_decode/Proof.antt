@@ -53,7 +53,11 @@ more c = repacked-more (packed (reading c)) (omega (arith, bits (reading c))) (c
 put-above-requires : tie.Need-put-above-requires Inv-loop μ-loop
 put-above-requires c κs =
     let head = reading (c .before .before) in
-    (omega arith, packed head .room, omega (arith, c .before .shared-slice-known2 .given (head .loop .i)))
+    record {
+      places = omega arith;
+      lower = packed head .room;
+      upper = omega (arith, c .before .shared-slice-known2 .given (head .loop .i));
+    }
 
 loop-again : tie.Need-loop-again Inv-loop μ-loop
 loop-again c =

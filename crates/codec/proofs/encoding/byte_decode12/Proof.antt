@@ -1,4 +1,4 @@
--- ByteDecode_12 is the decoding of 12 bits each, and then every number modulo q.
+-- The definition decodes 12 bits each and takes every number modulo q: the two calls are these two steps.
 use mathlib.Core.Path.{ap, _∙_}
 use mathlib.Core.List.{map}
 use Prim.Native.Nat.{_%_}

@@ -44,7 +44,7 @@ packed c = c .loop .inv .4
 
 -- both strings have the same number of bits
 bits : (c : tie.Start Inv-loop μ-loop) → c .args .d * length (c .args .f .now) ≡ c .args .d * 256
-bits c = ap (λ (m : ℕ). c .args .d * m) (c .pre .0)
+bits c = ap (λ (m : ℕ). c .args .d * m) (c .pre .polynomial)
 
 -- ---- facts
 
@@ -57,8 +57,12 @@ put-above-requires : tie.Need-put-above-requires Inv-loop μ-loop
 put-above-requires c κs =
     let head = reading (c .before .before) in
     let s = start head in
-    let x-lt = s .pre .4 .at (head .loop .i) in
-    (omega arith, packed head .room, omega (arith, x-lt, pow-mono {i = s .args .d} {j = 12} (s .pre .3)))
+    let x-lt = s .pre .below .at (head .loop .i) in
+    record {
+      places = omega arith;
+      lower = packed head .room;
+      upper = omega (arith, x-lt, pow-mono {i = s .args .d} {j = 12} (s .pre .most));
+    }
 
 loop-again : tie.Need-loop-again Inv-loop μ-loop
 loop-again c =
@@ -69,7 +73,7 @@ loop-again c =
       omega arith,
       omega arith,
       rw (c .put-above .ensures, c .before .wide16 .ensures)
-          (repacked-load (packed head) h (start head .pre .4 .at (head .loop .i))),
+          (repacked-load (packed head) h (start head .pre .below .at (head .loop .i))),
     )
 
 loop-again-2 : tie.Need-loop-again-2 Inv-loop μ-loop
@@ -87,7 +91,7 @@ returns : tie.Need-returns Inv-loop μ-loop
 unfolding byteEncode
 returns c =
     let s = start (c .before) in
-    repacked-end (packed (c .before)) (omega (arith, bits s)) (s .pre .2) (omega arith) (omega arith)
+    repacked-end (packed (c .before)) (omega (arith, bits s)) (s .pre .some) (omega arith) (omega arith)
     ∙ ap (λ (m : ℕ). numbersOf 8 m (bitsOf (s .args .d) (s .args .f .now))) (omega arith)
 
 pub byte-encode-spec : {M : Type 1} → statement M

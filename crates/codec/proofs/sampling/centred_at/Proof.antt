@@ -41,7 +41,7 @@ cast-weight : tie.Need-cast-weight
 cast-weight c =
     let s = start (lower c) in
     let eta = s .args .eta in
-    omega (arith, upper c, upper-lt (s .args .v) eta (s .pre .1), pow-mono {i = eta} {j = 3} (s .pre .0))
+    omega (arith, upper c, upper-lt (s .args .v) eta (s .pre .below), pow-mono {i = eta} {j = 3} (s .pre .most))
 
 returns : tie.Need-returns
 unfolding centred
@@ -53,13 +53,13 @@ returns c =
     let eta = s .args .eta in
     c .difference .ensures
     ∙ ap₂ minus
-    (counted .weight .ensures .0
+    (counted .weight .ensures .count
     ∙ ap (λ (n : ℕ). sum (digits 2 3 n))
     (counted .before .low .ensures ∙ ap (λ (n : ℕ). n % 2 ^ eta) (counted .before .before .wide16 .ensures))
-    ∙ sum-digits eta (v % 2 ^ eta) (s .pre .0) (mod-lt v (pow-pos eta)))
-    (c .before .weight2 .ensures .0
+    ∙ sum-digits eta (v % 2 ^ eta) (s .pre .most) (mod-lt v (pow-pos eta)))
+    (c .before .weight2 .ensures .count
     ∙ ap (λ (n : ℕ). sum (digits 2 3 n)) (upper halved)
-    ∙ sum-digits eta (v / 2 ^ eta) (s .pre .0) (upper-lt v eta (s .pre .1)))
+    ∙ sum-digits eta (v / 2 ^ eta) (s .pre .most) (upper-lt v eta (s .pre .below)))
 
 pub centred-at-spec : {M : Type 1} → statement M
 centred-at-spec =

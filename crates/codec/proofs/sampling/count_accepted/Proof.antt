@@ -42,8 +42,8 @@ loop-again c =
     let at = head (reading1 counted) in
     let s = start at .args .stream .now in
     let i = at .loop .i in
-    let one = counted .accepts .ensures .0 ∙ ap (λ (x : ℕ). length (kept x)) (counted .before .d1-of .ensures) in
-    let two = c .accepts2 .ensures .0 ∙ ap (λ (x : ℕ). length (kept x)) (c .before .d2-of .ensures) in (
+    let one = counted .accepts .ensures .count ∙ ap (λ (x : ℕ). length (kept x)) (counted .before .d1-of .ensures) in
+    let two = c .accepts2 .ensures .count ∙ ap (λ (x : ℕ). length (kept x)) (c .before .d2-of .ensures) in (
       omega arith,
       omega arith,
       omega (

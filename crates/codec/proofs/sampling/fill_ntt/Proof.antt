@@ -1,14 +1,14 @@
 -- Turn by turn f's front holds what the definition has accepted so far, as far as there is room; all places are taken
 -- exactly where 256 are accepted.
-use mathlib.Core.Path.{_≡_, sym, ap₂, _∙_, subst}
-use mathlib.Core.List.{List, _++_}
+use mathlib.Core.Path.{_≡_, sym, ap, ap₂, _∙_}
+use mathlib.Core.List.{_++_}
 use Prim.Native.Nat.{ℕ, _≤_, _-_}
 use native.Mathlib.Omega.{arith}
 use borrow.Author.Tests.{leb-true}
 use lib.ListN.{length}
 use Rattle.codec.specs.Sample.{kept, accepted, sampleNtt}
 use Rattle.codec.specs.SampleLaws.{accepted-turn}
-use Rattle.codec.specs.Collect.{Collected, collected-start, collected-end, collected-taken}
+use Rattle.codec.specs.Collect.{Collected, collected-start, collected-as, collected-end, collected-taken}
 use Rattle.codec.proofs.sampling.fill_ntt.Statement.{statement}
 use Rattle.codec.proofs.sampling.fill_ntt.Tie as tie
 
@@ -61,8 +61,7 @@ loop-again c =
     ∙ sym (accepted-turn i s) in (
       omega arith,
       omega arith,
-      subst (λ (m : List ℕ). Collected m (second .keep2 .last .0) (second .keep2 .result)) e
-          (second .keep2 .ensures _ (first .keep .ensures l (at .loop .inv .2))),
+      collected-as e (second .keep2 .ensures _ (first .keep .ensures l (at .loop .inv .2))),
     )
 
 returns : tie.Need-returns Inv-loop μ-loop
@@ -71,10 +70,11 @@ returns c =
     let at = c .before in
     let s = start at .args .stream .now in
     let e : at .loop .i ≡ 280 = omega arith in
-    let all = subst (λ (i : ℕ). Collected (accepted i s) (at .loop .f) (at .loop .k)) e (at .loop .inv .2) in (
-      collected-taken all,
-      λ t. collected-end all (leb-true 256 (length (accepted 280 s)) (sym (collected-taken all) ∙ t)),
-    )
+    let all = collected-as (ap (λ (i : ℕ). accepted i s) e) (at .loop .inv .2) in
+    record {
+      answer = collected-taken all;
+      holds = λ t. collected-end all (leb-true 256 (length (accepted 280 s)) (sym (collected-taken all) ∙ t));
+    }
 
 pub fill-ntt-spec : {M : Type 1} → statement M
 fill-ntt-spec =

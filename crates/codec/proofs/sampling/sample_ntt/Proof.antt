@@ -7,7 +7,8 @@ use native.Mathlib.Omega.{arith}
 use borrow.Author.Needs.{needs}
 use borrow.Author.Tests.{le-leb, lt-leb}
 use lib.ListN.{length}
-use Rattle.codec.specs.Sample.{accepted, full, answerOf, sampleNtt}
+use Rattle.codec.specs.Sample.{accepted, full, sampleNtt}
+use Rattle.codec.specs.SampleAnswer.{answerOf}
 use Rattle.codec.proofs.sampling.sample_ntt.Statement.{statement}
 use Rattle.codec.proofs.sampling.sample_ntt.Tie as tie
 
@@ -42,7 +43,7 @@ returns-2 c =
     let s = start count .args .stream .now in
     let enough : full s ≡ true =
     le-leb 256 (length (accepted 280 s)) (omega (arith, count .count-accepted .ensures)) in
-    (sym (ap answerOf enough), fill .1 (fill .0 ∙ enough) ∙ sym (ap (stored count) enough))
+    (sym (ap answerOf enough), fill .holds (fill .answer ∙ enough) ∙ sym (ap (stored count) enough))
 
 pub sample-ntt-spec : {M : Type 1} → statement M
 sample-ntt-spec =
@@ -51,5 +52,5 @@ sample-ntt-spec =
     (λ c κs. search needs)
     returns
     (λ c κs. search needs)
-    (λ c. search needs)
+    (λ c. omega arith)
     returns-2)

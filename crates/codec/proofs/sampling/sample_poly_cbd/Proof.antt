@@ -25,7 +25,7 @@ start c = entered (decoded c) .before
 centre-all-requires : tie.Need-centre-all-requires
 centre-all-requires c κs =
     let s = start c in (
-      s .pre .3,
+      s .pre .most,
       rw (decoded c .byte-decode .ensures) (below-byteDecode (2 * s .args .eta) (s .args .bytes .now) (omega arith)),
     )
 
@@ -35,14 +35,14 @@ returns c =
     let s = start (centred-all .before) in
     centred-all .centre-all .ensures
     ∙ ap (map (centred (s .args .eta))) (decoded (centred-all .before) .byte-decode .ensures)
-    ∙ sym (samplePolyCbd-byteDecode (s .args .eta) (s .args .bytes .now) (s .pre .0))
+    ∙ sym (samplePolyCbd-byteDecode (s .args .eta) (s .args .bytes .now) (s .pre .bytes))
 
 pub sample-poly-cbd-spec : {M : Type 1} → statement M
 sample-poly-cbd-spec =
     tie.close
     (tie.spec
-    (λ c. search needs)
+    (λ c. omega arith)
     (λ c κs. search needs)
     centre-all-requires
-    (λ c. search needs)
+    (λ c. omega arith)
     returns)

@@ -1,4 +1,4 @@
--- Three digits of v to the base 2, added up, are what the definition sums.
+-- v % 2, v / 2 % 2 and v / 4 % 2 are the three lowest digits of v to the base 2, each at most 1.
 use native.Mathlib.Omega.{arith}
 use borrow.Author.Needs.{needs}
 use Rattle.words.specs.Numeral.{digits}
@@ -8,7 +8,7 @@ use Rattle.codec.proofs.sampling.weight.Tie as tie
 
 returns : tie.Need-returns
 unfolding sum digits
-returns c = (omega arith, omega arith)
+returns c = record { count = omega arith; most = omega arith }
 
 pub weight-spec : {M : Type 1} → statement M
 weight-spec = tie.close (tie.spec (λ c. search needs) (λ c. search needs) returns)

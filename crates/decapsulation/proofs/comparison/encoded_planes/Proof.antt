@@ -1,6 +1,7 @@
--- The planes are those of the decoded numbers.
+-- The bytes are decoded first, and planes depend on the numbers alone.
 use mathlib.Core.Path.{ap, _∙_}
-use Rattle.stages.specs.Worksheet.{planeWords}
+use Rattle.stages.specs.Worksheet.{planesOf}
+use native.Mathlib.Omega.{arith}
 use borrow.Author.Needs.{needs}
 use Rattle.decapsulation.proofs.comparison.encoded_planes.Statement.{statement}
 use Rattle.decapsulation.proofs.comparison.encoded_planes.Tie as tie
@@ -22,15 +23,15 @@ start c = lent c .before .before
 returns : tie.Need-returns
 returns c =
     let w = c .before .before in
-    w .group-planes .ensures ∙ ap (planeWords (start (decoded w) .args .d)) (decoded w .byte-decode .ensures)
+    w .group-planes .ensures ∙ ap (planesOf (start (decoded w) .args .d)) (decoded w .byte-decode .ensures)
 
 pub encoded-planes-spec : {M : Type 1} → statement M
 encoded-planes-spec =
     tie.close
     (tie.spec
-    (λ c. search needs)
+    (λ c. omega arith)
     (λ c κs. search needs)
-    (λ c. search needs)
+    (λ c. omega arith)
     (λ c κs. search needs)
-    (λ c. search needs)
+    (λ c. omega arith)
     returns)

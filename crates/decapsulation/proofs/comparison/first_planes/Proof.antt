@@ -1,24 +1,22 @@
 -- Turn i writes the planes of polynomial i behind those of the polynomials before it.
-use mathlib.Core.Path.{ap, _∙_}
-use mathlib.Core.List.{List}
-use Prim.Native.Nat.{ℕ, _+_, _-_, _*_, _≤_}
+use mathlib.Core.Path.{sym, _∙_}
+use Prim.Native.Nat.{_+_, _-_, _*_, _≤_}
 use native.Mathlib.Omega.{arith}
 use lib.ListN.{length}
 use Rattle.codec.specs.Bytes.{byteDecode}
 use Rattle.kpke.specs.KPke.{parts}
 use Rattle.kpke.specs.VectorLaws.{part-fits}
-use Rattle.kpke.proofs.Concatenated.{Concatenated, part-span, length-span}
-use Rattle.kpke.proofs.Concatenated.{concatenated-start, concatenated-fits, concatenated-turn, concatenated-end}
-use Rattle.stages.specs.Worksheet.{planeWords}
-use Rattle.decapsulation.proofs.Compared.{concat-flatten}
-use borrow.Author.Needs.{needs}
+use Rattle.kpke.proofs.Concatenated.{Concatenated, length-span}
+use Rattle.kpke.proofs.Concatenated.{concatenated-start, concatenated-fits, concatenated-read, concatenated-end}
+use Rattle.stages.specs.Worksheet.{planesOf}
+use Rattle.meaning.specs.FlattenLaws.{flatten-tab}
 use Rattle.decapsulation.proofs.comparison.first_planes.Statement.{statement}
 use Rattle.decapsulation.proofs.comparison.first_planes.Tie as tie
 
 -- i polynomials read, and the planes of each written
 abbrev Inv-loop : tie.InvT-loop
 Inv-loop c d k out₀ n m i₀ out i =
-    Concatenated (4 * d) k (λ i. planeWords d (byteDecode d (parts (32 * d) c i))) out₀ i out
+    Concatenated (4 * d) k (λ i. planesOf d (byteDecode d (parts (32 * d) c i))) out₀ i out
 
 abbrev μ-loop : tie.MeasureT-loop
 μ-loop c d k out₀ n m i₀ out i = k - i
@@ -52,27 +50,29 @@ write-fits c = concatenated-fits (c .before .loop .inv) (omega arith)
 encoded-planes-requires : tie.Need-encoded-planes-requires Inv-loop μ-loop
 encoded-planes-requires c κs =
     let l = head c .loop in
-    let a = start (head c) .args in (
-      length-span (32 * a .d * l .i) (32 * a .d) (a .c .now) (read-fits (turn (c .before))),
-      length-span (4 * a .d * l .i) (4 * a .d) (l .out) (write-fits (turn (c .before))),
-      omega arith,
-      omega arith,
-    )
+    let s = start (head c) in
+    let a = s .args in
+    let t = turn (c .before) in
+    record {
+      bytes = omega (arith, length-span (32 * a .d * l .i) (32 * a .d) (a .c .now) (read-fits t));
+      some = s .pre .some;
+      most = s .pre .most;
+      out = length-span (4 * a .d * l .i) (4 * a .d) (l .out) (write-fits t);
+    }
 
 loop-again : tie.Need-loop-again Inv-loop μ-loop
 loop-again c =
     let w = c .before .before in
-    let l = head (w .before) .loop in
-    let a = start (head (w .before)) .args in
-    concatenated-turn (l .inv) (omega arith) (w .encoded-planes .kept .1 .1 .0)
-    (w .encoded-planes .ensures
-    ∙ ap (λ (b : List ℕ). planeWords (a .d) (byteDecode (a .d) b))
-    (part-span (32 * a .d * l .i) (32 * a .d) (a .c .now)))
+    let h = head (w .before) in
+    let a = start h .args in
+    concatenated-read (λ b. planesOf (a .d) (byteDecode (a .d) b)) (32 * a .d) (a .c .now) (h .loop .inv)
+    (omega arith)
+    (w .encoded-planes .kept .1 .1 .0) (w .encoded-planes .ensures)
 
 returns : tie.Need-returns Inv-loop μ-loop
 returns c =
     let a = start (c .before) .args in
-    concatenated-end (c .before .loop .inv) (omega arith) ∙ concat-flatten (a .k) _
+    concatenated-end (c .before .loop .inv) (omega arith) ∙ sym (flatten-tab (a .k) _)
 
 pub first-planes-spec : {M : Type 1} → statement M
 first-planes-spec =
@@ -80,23 +80,23 @@ first-planes-spec =
     (tie.spec
     Inv-loop
     μ-loop
-    (λ c. search needs)
-    (λ c. search needs)
+    (λ c. omega arith)
+    (λ c. omega arith)
     (λ c. concatenated-start (omega arith))
     (λ c. omega (arith, read-fits c))
     (λ c. omega (arith, read-fits c))
     (λ c. omega (arith, write-fits c))
     (λ c. omega (arith, write-fits c))
-    (λ c. search needs)
-    (λ c. search needs)
+    (λ c. omega arith)
+    (λ c. omega arith)
     (λ c. omega (arith, read-fits c))
     (λ c. omega (arith, write-fits (turn c)))
-    (λ c. search needs)
-    (λ c. search needs)
+    (λ c. omega arith)
+    (λ c. omega arith)
     (λ c. omega (arith, write-fits (turn c)))
     encoded-planes-requires
     (λ c. omega (arith, start (head (c .before .before .before)) .fits .k))
     (λ c. omega arith)
     loop-again
-    (λ c. search needs)
+    (λ c. omega arith)
     returns)

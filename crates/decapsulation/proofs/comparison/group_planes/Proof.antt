@@ -1,5 +1,5 @@
 -- Turn g writes the planes of group g behind those of the groups before it.
-use mathlib.Core.Path.{_∙_}
+use mathlib.Core.Path.{sym, _∙_}
 use Prim.Native.Nat.{_-_, _+_, _*_}
 use native.Mathlib.Omega.{arith}
 use lib.ListN.{getD}
@@ -7,9 +7,9 @@ use Rattle.words.specs.Plane.{plane}
 use Rattle.words.specs.Tab.{tab}
 use Rattle.kpke.proofs.Concatenated.{Concatenated, length-span}
 use Rattle.kpke.proofs.Concatenated.{concatenated-start, concatenated-fits, concatenated-turn, concatenated-end}
-use Rattle.stages.specs.Worksheet.{planeWords}
-use Rattle.decapsulation.proofs.Compared.{group-planes, concat-flatten}
-use borrow.Author.Needs.{needs}
+use Rattle.stages.specs.Worksheet.{planesOf}
+use Rattle.meaning.specs.FlattenLaws.{flatten-tab}
+use Rattle.decapsulation.proofs.Compared.{group-planes}
 use Rattle.decapsulation.proofs.comparison.group_planes.Statement.{statement}
 use Rattle.decapsulation.proofs.comparison.group_planes.Tie as tie
 
@@ -33,11 +33,12 @@ head c = c .before .before .before
 coefficient-planes-requires : tie.Need-coefficient-planes-requires Inv-loop μ-loop
 coefficient-planes-requires c κs =
     let l = head c .loop in
-    let a = start (head c) .args in (
-      length-span (64 * l .g) 64 (a .f .now) (omega arith),
-      length-span (a .d * l .g) (a .d) (l .out) (concatenated-fits (l .inv) (omega arith)),
-      omega arith,
-    )
+    let a = start (head c) .args in
+    record {
+      numbers = length-span (64 * l .g) 64 (a .f .now) (omega arith);
+      planes = length-span (a .d * l .g) (a .d) (l .out) (concatenated-fits (l .inv) (omega arith));
+      depth = omega arith;
+    }
 
 loop-again : tie.Need-loop-again Inv-loop μ-loop
 loop-again c =
@@ -48,8 +49,8 @@ loop-again c =
     (w .coefficient-planes .ensures ∙ group-planes (a .d) (l .g) (a .f .now))
 
 returns : tie.Need-returns Inv-loop μ-loop
-unfolding planeWords
-returns c = concatenated-end (c .before .loop .inv) (omega arith) ∙ concat-flatten 4 _
+unfolding planesOf
+returns c = concatenated-end (c .before .loop .inv) (omega arith) ∙ sym (flatten-tab 4 _)
 
 pub group-planes-spec : {M : Type 1} → statement M
 group-planes-spec =
@@ -58,21 +59,21 @@ group-planes-spec =
     Inv-loop
     μ-loop
     (λ c. concatenated-start (omega arith))
-    (λ c. search needs)
-    (λ c. search needs)
+    (λ c. omega arith)
+    (λ c. omega arith)
     (λ c. omega (arith, concatenated-fits (c .before .loop .inv) (omega arith)))
     (λ c. omega (arith, concatenated-fits (c .before .loop .inv) (omega arith)))
-    (λ c. search needs)
-    (λ c. search needs)
-    (λ c. search needs)
-    (λ c. search needs)
+    (λ c. omega arith)
+    (λ c. omega arith)
+    (λ c. omega arith)
+    (λ c. omega arith)
     (λ c. omega (arith, concatenated-fits (c .before .before .loop .inv) (omega arith)))
-    (λ c. search needs)
-    (λ c. search needs)
+    (λ c. omega arith)
+    (λ c. omega arith)
     (λ c. omega (arith, concatenated-fits (c .before .before .loop .inv) (omega arith)))
     coefficient-planes-requires
-    (λ c. search needs)
+    (λ c. omega arith)
     (λ c. omega arith)
     loop-again
-    (λ c. search needs)
+    (λ c. omega arith)
     returns)

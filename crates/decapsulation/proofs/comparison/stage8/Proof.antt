@@ -1,5 +1,6 @@
 -- The ciphertext's words go into share 0, and the fold draws the whole strip: the two runs follow each other.
-use mathlib.Core.List.{[]}
+use mathlib.Core.List.{List, []}
+use Prim.Native.Nat.{ℕ}
 use native.Mathlib.Omega.{arith}
 use Rattle.kpke.specs.Parameters.{mlKem768}
 use Rattle.decapsulation.proofs.Compared.{stage8-ran, bit-shares}
@@ -30,6 +31,10 @@ first c = c .before .before .before
 abbrev start : tie.After-shared-slice-known3 → tie.Start
 start c = first c .before
 
+-- share 0 once the words are added
+abbrev differences : tie.After-add-public → List ℕ
+differences c = c .add-public .last .1 .1 .0
+
 returns : tie.Need-returns
 returns c =
     let l = lent c in
@@ -37,25 +42,30 @@ returns c =
     let m = made o in
     let s = strip m in
     let a = start s .args in
-    let v = o .add-public .last .1 .1 .0 in (
-      stage8-ran mlKem768 (a .c .now) (a .w0 .now) (a .w1 .now) v 141 (omega arith)
-          (m .ciphertext-planes .ensures) (m .ciphertext-planes .kept .1 .0) (o .add-public .ensures (a .w1 .now))
-          (c .all-zero .ensures),
-      bit-shares 135 v (a .w1 .now) (a .ws .now)
-          (record { at = λ j. l .slice-known2 .given j .fits })
-          (record { at = λ j. s .before .shared-slice-known2 .given j .fits })
-          (record { at = λ j. s .shared-slice-known3 .given j .fits })
-          (c .all-zero .ensures []),
-    )
+    let v = differences o in
+    let bit =
+    bit-shares 135 v (a .planes1 .now) (a .ws .now)
+    (record { at = λ j. l .slice-known2 .given j .fits })
+    (record { at = λ j. s .before .shared-slice-known2 .given j .fits })
+    (record { at = λ j. s .shared-slice-known3 .given j .fits })
+    (c .all-zero .ensures []) in
+    record {
+      ran =
+          stage8-ran mlKem768 (a .c .now) (a .planes0 .now) (a .planes1 .now) v 141 (omega arith)
+          (m .ciphertext-planes .ensures) (m .ciphertext-planes .kept .1 .0) (o .add-public .ensures (a .planes1 .now))
+          (c .all-zero .ensures);
+      bit0 = bit .0;
+      bit1 = bit .1;
+    }
 
 pub stage8-spec : {M : Type 1} → statement M
 stage8-spec =
     tie.close
     (tie.spec
-    (λ c. search needs)
+    (λ c. omega arith)
     (λ c κs. search needs)
-    (λ c. search needs)
+    (λ c. omega arith)
     (λ c κs. search needs)
     (λ c κs. search needs)
-    (λ c. search needs)
+    (λ c. omega arith)
     returns)

@@ -68,11 +68,11 @@ pub decapsulate-spec : {M : Type 1} → statement M
 decapsulate-spec =
     tie.close
     (tie.spec
-    (λ c. search needs)
-    (λ c. search needs)
+    (λ c. omega arith)
+    (λ c. omega arith)
     (λ c κs. search needs)
     returns
     decapsulate-sized-requires
-    (λ c. search needs)
-    (λ c. search needs)
+    (λ c. omega arith)
+    (λ c. omega arith)
     (λ c. ran (c .before .before) .decapsulate-sized .ensures))

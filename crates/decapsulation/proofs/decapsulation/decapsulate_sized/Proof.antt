@@ -75,7 +75,8 @@ full-by : (c : tie.After-expand)
     → matrixFull 3 (drop 1152 (take 1184 (origin c .args .public .now))) ≡ c .expand .result
 full-by c =
     let s = origin c in
-    ap (matrixFull 3) (sym (rho-part (s .args .public .now) (s .pre .input .key .public))) ∙ sym (c .expand .ensures .0)
+    ap (matrixFull 3) (sym (rho-part (s .args .public .now) (s .pre .input .key .public)))
+    ∙ sym (c .expand .ensures .answer)
 
 entries : (s : tie.Start) → length (sheet mlKem768 (lent s) .entries) ≡ 187794
 entries s = sheet-steps mlKem768 (lent s) (s .pre .input) ∙ counts768 .steps
@@ -128,7 +129,7 @@ run-requires c κs =
       range = reduced-below (s .args .coeffs .now) (masks-pass (shares (expanding x)));
       matrix =
           expanded-public (s .args .public .now) _ (x .expand .result) (s .pre .input .key .public)
-          (x .expand .ensures .0) (not-false _ (inside c .before .if3 .left)) (x .expand .ensures .1);
+          (x .expand .ensures .answer) (not-false _ (inside c .before .if3 .left)) (x .expand .ensures .holds);
       out = s .pre .out;
     }
 
@@ -148,15 +149,15 @@ decapsulate-sized-spec =
     returns
     (λ c κs. search needs)
     returns-2
-    (λ c. search needs)
-    (λ c. search needs)
-    (λ c. search needs)
-    (λ c. search needs)
+    (λ c. omega arith)
+    (λ c. omega arith)
+    (λ c. omega arith)
+    (λ c. omega arith)
     (λ c κs. search needs)
     returns-3
     returns-4
-    (λ c. search needs)
+    (λ c. omega arith)
     run-requires
-    (λ c. search needs)
-    (λ c. search needs)
+    (λ c. omega arith)
+    (λ c. omega arith)
     returns-5)

@@ -1,7 +1,9 @@
 -- SHA3-512 of m' and h: the arrays hold the two shares of its input, and for 64 bytes it draws 625 words.
 use native.Mathlib.Omega.{arith}
+use Rattle.masked_fips202.specs.MaskedWords.{maskedSha3-512Words, sha3-512MaskWords}
 use Rattle.stages.specs.Counts768.{counts768}
-use Rattle.decapsulation.proofs.Hashed.{long-input, stage3-ran}
+use Rattle.stages.specs.Worksheet.{stage3}
+use Rattle.masked_kpke.proofs.SharedInput.{hash-masks, hash-ran}
 use borrow.Author.Needs.{needs}
 use Rattle.decapsulation.proofs.hashing.stage3.Statement.{statement}
 use Rattle.decapsulation.proofs.hashing.stage3.Tie as tie
@@ -32,29 +34,30 @@ start c = strings (lent c) .before .before
 masked-sha3-512-words-requires : tie.Need-masked-sha3-512-words-requires
 masked-sha3-512-words-requires c κs =
     let p = public (zeros (arrays c)) in
-    let s = start p in
-    let l = long-input (s .pre .0) (p .with-public .ensures) in
-    (omega arith, rw (l, counts768 .stage3Words) (s .pre .1), omega arith, omega arith)
+    let g = start p .pre in
+    let m = hash-masks g maskedSha3-512Words sha3-512MaskWords (counts768 .stage3Words) (p .with-public .ensures) in
+    record { inputs = omega arith; masks = rw m (g .words); long0 = omega arith; long1 = omega arith }
 
 returns : tie.Need-returns
+unfolding stage3
 returns c cs =
     let h = hashed (c .before .before) in
     let z = zeros (arrays (h .before)) in
     let p = public z in
-    let s = start p in
-    stage3-ran (s .pre .0) (p .with-public .ensures) (z .with-zeros .ensures) (h .masked-sha3-512-words .ensures cs)
+    hash-ran (start p .pre) maskedSha3-512Words sha3-512MaskWords (counts768 .stage3Words) (p .with-public .ensures)
+    (z .with-zeros .ensures) (h .masked-sha3-512-words .ensures cs)
 
 pub stage3-spec : {M : Type 1} → statement M
 stage3-spec =
     tie.close
     (tie.spec
-    (λ c. search needs)
+    (λ c. omega arith)
     (λ c κs. search needs)
-    (λ c. search needs)
+    (λ c. omega arith)
     (λ c κs. search needs)
-    (λ c. search needs)
-    (λ c. search needs)
+    (λ c. omega arith)
+    (λ c. omega arith)
     masked-sha3-512-words-requires
-    (λ c. search needs)
-    (λ c. search needs)
+    (λ c. omega arith)
+    (λ c. omega arith)
     returns)

@@ -1,11 +1,21 @@
 -- SHAKE256 of z and the ciphertext: the arrays hold the two shares of its input, and for 1,120 bytes it draws 5,425
 -- words.
+use mathlib.Core.List.{List}
+use Prim.Native.Nat.{ℕ}
 use native.Mathlib.Omega.{arith}
+use Rattle.worksheet.specs.Prog.{Prog}
+use Rattle.worksheet.specs.SharedList.{SharedList}
+use Rattle.masked_fips202.specs.MaskedWords.{maskedShake256Words, shake256MaskWords}
 use Rattle.stages.specs.Counts768.{counts768}
-use Rattle.decapsulation.proofs.Hashed.{long-input, stage9-ran}
+use Rattle.stages.specs.Worksheet.{stage9}
+use Rattle.masked_kpke.proofs.SharedInput.{hash-masks, hash-ran}
 use borrow.Author.Needs.{needs}
 use Rattle.decapsulation.proofs.hashing.stage9.Statement.{statement}
 use Rattle.decapsulation.proofs.hashing.stage9.Tie as tie
+
+-- the hash
+abbrev words4 : List ℕ → List ℕ → Prog SharedList
+words4 b0 b1 = maskedShake256Words b0 b1 4
 
 -- ---- places: the hash, the arrays that it is lent, and the start
 
@@ -33,30 +43,36 @@ start c = strings (lent c) .before .before
 masked-shake256-words-requires : tie.Need-masked-shake256-words-requires
 masked-shake256-words-requires c κs =
     let p = public (zeros (arrays c)) in
-    let s = start p in
-    let l = long-input (s .pre .0) (p .with-public .ensures) in
-    (omega arith, omega arith, omega arith, rw (l, s .pre .0 .out0, counts768 .stage9Words) (s .pre .1))
+    let g = start p .pre in
+    let m = hash-masks g words4 (λ k. shake256MaskWords k 4) (counts768 .stage9Words) (p .with-public .ensures) in
+    record {
+      inputs = omega arith;
+      outputs = omega arith;
+      block = omega arith;
+      masks = rw (g .out .long0, m) (g .words);
+    }
 
 returns : tie.Need-returns
+unfolding stage9
 returns c cs =
     let h = hashed (c .before .before) in
     let z = zeros (arrays (h .before)) in
     let p = public z in
-    let s = start p in
-    stage9-ran (s .pre .0) (s .pre .0 .out0) (p .with-public .ensures) (z .with-zeros .ensures)
-    (h .masked-shake256-words .ensures cs)
+    let g = start p .pre in
+    hash-ran g words4 (λ k. shake256MaskWords k 4) (counts768 .stage9Words) (p .with-public .ensures)
+    (z .with-zeros .ensures) (rw (g .out .long0) at (h .masked-shake256-words .ensures cs))
 
 pub stage9-spec : {M : Type 1} → statement M
 stage9-spec =
     tie.close
     (tie.spec
-    (λ c. search needs)
+    (λ c. omega arith)
     (λ c κs. search needs)
-    (λ c. search needs)
+    (λ c. omega arith)
     (λ c κs. search needs)
-    (λ c. search needs)
-    (λ c. search needs)
+    (λ c. omega arith)
+    (λ c. omega arith)
     masked-shake256-words-requires
-    (λ c. search needs)
-    (λ c. search needs)
+    (λ c. omega arith)
+    (λ c. omega arith)
     returns)

@@ -1,15 +1,18 @@
 -- Turn j stores the selected word j of both shares, with mask word j.
-use Prim.Native.Nat.{ℕ, _-_, _≤_}
-use mathlib.Core.Path.{_≡_}
-use mathlib.Core.List.{List}
+use Prim.Native.Nat.{_-_}
+use mathlib.Core.Path.{refl}
 use native.Mathlib.Omega.{arith}
-use lib.ListN.{length, length-set, drop}
-use Rattle.worksheet.specs.Prog.{times}
-use Rattle.worksheet.specs.Ran.{Ran, bind, over, next-bits}
+use Rattle.worksheet.specs.Prog.{word, times}
+use Rattle.worksheet.specs.Ran.{Draws, bind, over, next-bits}
 use Rattle.worksheet.specs.RanLoops.{times-start, times-turn}
-use Rattle.worksheet.specs.Sharing.{none}
-use Rattle.worksheet.specs.SharedList.{sharedList, sharedAt, zip}
-use Rattle.worksheet.specs.SharedListLaws.{zip-zero, zip-set, unzip-zip}
+use Rattle.worksheet.specs.SharedList.{sharedList, sharedAt}
+use Rattle.worksheet.specs.StoredSharings.{
+  StoredSharings,
+  sharings-start,
+  sharings-turn,
+  sharings-end,
+  sharings-unzipped,
+}
 use Rattle.masked_comparison.specs.Comparison.{select}
 use Rattle.stages.specs.Worksheet.{stage10}
 use borrow.Author.Needs.{needs}
@@ -18,13 +21,16 @@ use Rattle.decapsulation.proofs.selection.stage10.Tie as tie
 
 -- j words selected
 abbrev Inv-loop : tie.InvT-loop
-Inv-loop b g0 g1 r0 r1 ws k0₀ k1₀ rec₀ j₀ k0 k1 rec j =
-    (j ≤ 4) × (length k0 ≡ 4) × (length k1 ≡ 4)
-    × ((cs : List ℕ) → Ran (times j (λ i. select b (sharedAt (sharedList g0 g1) i) (sharedAt (sharedList r0 r1) i)))
-    rec₀ ws cs (zip j (sharedList k0 k1)) rec (drop j ws) cs)
+Inv-loop b g0 g1 rejected0 rejected1 ws k0₀ k1₀ rec₀ j₀ k0 k1 rec j =
+    StoredSharings
+    (λ n ys r.
+    Draws word n
+    (times n (λ i. select b (sharedAt (sharedList g0 g1) i) (sharedAt (sharedList rejected0 rejected1) i)))
+    rec₀ ws ys r)
+    4 4 k0 k1 rec j
 
 abbrev μ-loop : tie.MeasureT-loop
-μ-loop b g0 g1 r0 r1 ws k0₀ k1₀ rec₀ j₀ k0 k1 rec j = 4 - j
+μ-loop b g0 g1 rejected0 rejected1 ws k0₀ k1₀ rec₀ j₀ k0 k1 rec j = 4 - j
 
 -- ---- places: a word is selected, once the five slices are read
 
@@ -56,23 +62,16 @@ loop-again c =
     let o = selected c in
     let h = head (words o) in
     let l = h .loop in
-    let mask = o .before .shared-slice-known10 .given (l .j) in (
-      omega arith,
-      simp length-set (omega arith),
-      simp length-set (omega arith),
-      λ cs.
-          rw (zip-set (l .k0) (l .k1) (l .j) _ _ (omega arith) (omega arith))
-          (times-turn _ (l .j) (l .inv .3 cs)
-          (next-bits 64 (start h .args .ws .now) (l .j) (record { lt = omega (arith, mask) }) (o .select .ensures))),
-    )
+    let mask = o .before .shared-slice-known10 .given (l .j) in
+    sharings-turn (l .inv) _ _ (omega arith) (λ cs.
+    times-turn _ (l .j) (l .inv .ran cs)
+    (next-bits 64 (start h .args .ws .now) (l .j) (record { lt = omega (arith, mask) }) (o .select .ensures)))
 
 returns : tie.Need-returns Inv-loop μ-loop
 unfolding stage10
 returns c cs =
-    let l = c .before .loop in
-    let e : l .j ≡ 4 = omega arith in
-    bind _ (rw e at (l .inv .3 cs))
-    (rw (unzip-zip 4 (sharedList (l .k0) (l .k1)) none (omega arith) (omega arith)) over)
+    let stored = c .before .loop .inv in
+    bind _ (sharings-end stored (omega arith) cs) (rw (sharings-unzipped stored refl) over)
 
 pub stage10-spec : {M : Type 1} → statement M
 stage10-spec =
@@ -80,25 +79,25 @@ stage10-spec =
     (tie.spec
     Inv-loop
     μ-loop
-    (λ c. (omega arith, omega arith, omega arith, λ cs. rw zip-zero (times-start _)))
-    (λ c. search needs)
-    (λ c. search needs)
-    (λ c. search needs)
-    (λ c. search needs)
-    (λ c. search needs)
-    (λ c. search needs)
-    (λ c. search needs)
-    (λ c. search needs)
-    (λ c. search needs)
-    (λ c. search needs)
+    (λ c. sharings-start (omega arith) (omega arith) (omega arith) (λ cs. times-start _))
+    (λ c. omega arith)
+    (λ c. omega arith)
+    (λ c. omega arith)
+    (λ c. omega arith)
+    (λ c. omega arith)
+    (λ c. omega arith)
+    (λ c. omega arith)
+    (λ c. omega arith)
+    (λ c. omega arith)
+    (λ c. omega arith)
     (λ c κs. search needs)
-    (λ c. search needs)
-    (λ c. search needs)
-    (λ c. search needs)
-    (λ c. search needs)
-    (λ c. search needs)
-    (λ c. search needs)
+    (λ c. omega arith)
+    (λ c. omega arith)
+    (λ c. omega arith)
+    (λ c. omega arith)
+    (λ c. omega arith)
+    (λ c. omega arith)
     loop-again
-    (λ c. search needs)
-    (λ c. search needs)
+    (λ c. omega arith)
+    (λ c. omega arith)
     returns)

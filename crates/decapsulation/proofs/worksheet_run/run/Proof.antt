@@ -3,10 +3,11 @@ use mathlib.Core.Path.{_≡_, _∙_}
 use native.Mathlib.Omega.{arith}
 use lib.ListN.{length}
 use Rattle.worksheet.specs.Ran.{bind, part-words}
+use Rattle.worksheet.specs.SharedList.{SharedList, sharedList}
 use Rattle.stages.specs.Counts768.{counts768}
 use Rattle.stages.specs.Worksheet.{worksheet}
-use Rattle.decapsulation.proofs.LentParts.{rest-long}
-use borrow.Author.Needs.{needs}
+use Rattle.masked_kpke.specs.Slices.{Long}
+use Rattle.masked_kpke.proofs.StoredRun.{length-rest}
 use Rattle.decapsulation.proofs.worksheet_run.run.Statement.{statement}
 use Rattle.decapsulation.proofs.worksheet_run.run.Tie as tie
 
@@ -15,17 +16,17 @@ use Rattle.decapsulation.proofs.worksheet_run.run.Tie as tie
 abbrev selected : tie.After-slice-known3 → tie.After-stage10
 selected c = c .before .before
 
-abbrev buffers : tie.After-stage10-arg3 → tie.After-r13
+abbrev buffers : tie.After-stage10-arg3 → tie.After-rejected13
 buffers c = c .before .before .before
 
-abbrev words : tie.After-r13 → tie.After-g03
+abbrev words : tie.After-rejected13 → tie.After-g03
 words c = c .before .before .before
 
 -- the rejected words are made, what that is lent
 abbrev rejected : tie.After-g03 → tie.After-stage9
 rejected c = c .before .before .before
 
-abbrev strip : tie.After-r1 → tie.After-g12
+abbrev strip : tie.After-rejected1 → tie.After-g12
 strip c = c .before .before .before
 
 -- the ciphertexts are compared
@@ -51,10 +52,19 @@ start c = secret (keys (strings (arrays c))) .before
 abbrev origin : tie.After-g12 → tie.Start
 origin c = start (compared c .before)
 
-abbrev origin10 : tie.After-r13 → tie.Start
+abbrev origin10 : tie.After-rejected13 → tie.Start
 origin10 c = origin (strip (rejected (words c) .before))
 
 -- ---- facts
+
+-- stage 3's words, as stages 1 to 8 leave them
+abbrev hashed : tie.After-compared → SharedList
+hashed c = let o = c .compared .last .1 .1 .1 .1 .1 .1 .1 .1 in sharedList (o .0) (o .1 .0)
+
+hashed-long : (c : tie.After-compared) → Long 8 (hashed c)
+hashed-long c =
+    let k = c .compared .kept .1 .1 .1 .1 .1 .1 .1 .1 in
+    record { long0 = omega (arith, k .0); long1 = omega (arith, k .1 .0) }
 
 masks : (s : tie.Start) → length (s .args .ws .now) ≡ 11750
 masks s = s .pre .input .words ∙ counts768 .stripWords
@@ -77,30 +87,30 @@ compared-requires c κs =
 stage9-requires : tie.Need-stage9-requires
 stage9-requires c κs =
     let s = origin (strip c) in
-    let k = s .pre .input .key in (
-      record { in0 = k .z0; in1 = k .z1; public = s .pre .input .ct; out0 = omega arith; out1 = omega arith },
-      rest-long 6321 5425 (s .args .ws .now) (omega (arith, masks s)),
-    )
+    let k = s .pre .input .key in
+    record {
+      input = record { long0 = k .z0; long1 = k .z1 };
+      public = s .pre .input .ct;
+      words = length-rest 6321 5425 (s .args .ws .now) (omega (arith, masks s));
+      out = record { long0 = omega arith; long1 = omega arith };
+    }
 
 stage10-requires : tie.Need-stage10-requires
 stage10-requires c κs =
     let r = rejected (words (buffers c)) in
-    let b = compared (strip (r .before)) .compared in
-    let g = b .kept .1 .1 .1 .1 .1 .1 .1 .1 in
+    let b = compared (strip (r .before)) in
+    let g = hashed-long b in
     let j = r .stage9 .kept .1 .1 .1 .1 .1 in
-    let s = origin10 (buffers c) in (
-      record {
-        bit0 = b .ensures .1 .0;
-        bit1 = b .ensures .1 .1;
-        key0 = omega (arith, g .0);
-        key1 = omega (arith, g .1 .0);
-        rejected0 = omega (arith, j .0);
-        rejected1 = omega (arith, j .1 .0);
-        out0 = s .pre .out .long0;
-        out1 = s .pre .out .long1;
-      },
-      rest-long 11746 4 (s .args .ws .now) (omega (arith, masks s)),
-    )
+    let s = origin10 (buffers c) in
+    record {
+      bit0 = b .compared .ensures .bit0;
+      bit1 = b .compared .ensures .bit1;
+      key0 = omega (arith, g .long0);
+      key1 = omega (arith, g .long1);
+      rejected = record { long0 = omega (arith, j .0); long1 = omega (arith, j .1 .0) };
+      words = length-rest 11746 4 (s .args .ws .now) (omega (arith, masks s));
+      out = s .pre .out;
+    }
 
 returns : tie.Need-returns
 unfolding worksheet
@@ -109,30 +119,30 @@ returns c =
     let r = rejected (words (buffers (k .before))) in
     let b = compared (strip (r .before)) in
     let ws = start (b .before) .args .ws .now in
-    bind _ (b .compared .ensures .0 _)
+    bind _ (b .compared .ensures .ran _)
     (bind _ (part-words ws 6321 5425 (r .stage9 .ensures _)) (part-words ws 11746 4 (k .stage10 .ensures _)))
 
 pub run-spec : {M : Type 1} → statement M
 run-spec =
     tie.close
     (tie.spec
-    (λ c. search needs)
-    (λ c. search needs)
+    (λ c. omega arith)
+    (λ c. omega arith)
     compared-requires
     (λ c. omega (arith, masks (origin c)))
     (λ c. omega (arith, masks (origin c)))
-    (λ c. search needs)
-    (λ c. search needs)
-    (λ c. search needs)
+    (λ c. omega arith)
+    (λ c. omega arith)
+    (λ c. omega arith)
     stage9-requires
-    (λ c. omega (arith, compared (strip (rejected c .before)) .compared .kept .1 .1 .1 .1 .1 .1 .1 .1 .0))
-    (λ c. omega (arith, compared (strip (rejected (c .before) .before)) .compared .kept .1 .1 .1 .1 .1 .1 .1 .1 .1 .0))
-    (λ c. search needs)
-    (λ c. search needs)
+    (λ c. omega (arith, hashed-long (compared (strip (rejected c .before))) .long0))
+    (λ c. omega (arith, hashed-long (compared (strip (rejected (c .before) .before))) .long1))
+    (λ c. omega arith)
+    (λ c. omega arith)
     (λ c. omega (arith, masks (origin10 c)))
     (λ c. omega (arith, masks (origin10 c)))
-    (λ c. search needs)
+    (λ c. omega arith)
     stage10-requires
-    (λ c. search needs)
-    (λ c. search needs)
+    (λ c. omega arith)
+    (λ c. omega arith)
     returns)

@@ -42,7 +42,7 @@ store-spec =
     tie.close
     (tie.spec
     (λ c κs. search needs)
-    (λ c. search needs)
+    (λ c. omega arith)
     (λ c κs. search needs)
     (λ c. search needs)
     (λ c κs. search needs)

@@ -6,7 +6,8 @@ use mathlib.Core.List.{List}
 use borrow.Author.Needs.{needs}
 use native.Mathlib.Omega.{arith}
 use lib.ListN.{getD}
-use Rattle.words.specs.Tab.{tab, tab-cong}
+use Rattle.words.specs.Tab.{tab}
+use Rattle.words.specs.TabLaws.{tab-cong}
 use Rattle.words.specs.Numeral.{digits}
 use Rattle.words.specs.NumeralLaws.{digits-tab}
 use Rattle.words.specs.Fill.{Filled, filled-start, filled-turn, filled-part, filled-end}
@@ -65,25 +66,25 @@ extract-spec =
     Inv-loop2
     μ-loop2
     (λ c. (filled-start refl, search needs))
-    (λ c. search needs)
-    (λ c. search needs)
-    (λ c. search needs)
-    (λ c. search needs)
-    (λ c. search needs)
-    (λ c. search needs)
-    (λ c. search needs)
+    (λ c. omega arith)
+    (λ c. omega arith)
+    (λ c. omega arith)
+    (λ c. omega arith)
+    (λ c. omega arith)
+    (λ c. omega arith)
+    (λ c. omega arith)
     (λ c κs. search needs)
-    (λ c. search needs)
-    (λ c. search needs)
+    (λ c. omega arith)
+    (λ c. omega arith)
     loop-again
-    (λ c. search needs)
+    (λ c. omega arith)
     (λ c. c .before .loop .inv .0)
-    (λ c. search needs)
-    (λ c. search needs)
+    (λ c. omega arith)
+    (λ c. omega arith)
     (λ c κs. search needs)
-    (λ c. search needs)
-    (λ c. search needs)
-    (λ c. search needs)
+    (λ c. omega arith)
+    (λ c. omega arith)
+    (λ c. omega arith)
     (λ c. filled-turn (c .before .before .before .loop2 .inv) (search needs) (c .byte .ensures))
     (λ c. c .before .loop2 .inv .long)
     (λ c. filled-end (c .before .loop2 .inv) (search needs)))

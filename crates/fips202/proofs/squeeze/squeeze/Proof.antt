@@ -4,7 +4,8 @@ use Prim.Native.Nat.{_-_}
 use mathlib.Core.Path.{refl}
 use borrow.Author.Needs.{needs}
 use native.Mathlib.Omega.{arith}
-use Rattle.words.specs.Iterate.{iterate, ReachedBy, reached-by-start, reached-by-turn}
+use Rattle.words.specs.Iterate.{iterate}
+use Rattle.words.specs.IterateLaws.{ReachedBy, reached-by-start, reached-by-turn}
 use Rattle.keccak.specs.KeccakP.{keccak-p}
 use Rattle.fips202.specs.Sponge.{squeezed}
 use Rattle.fips202.proofs.Output.{Output, output-start, output-part, output-end}
@@ -58,18 +59,18 @@ squeeze-spec =
     Inv-loop
     μ-loop
     (λ c. (output-start refl, reached-by-start))
-    (λ c. search needs)
-    (λ c. search needs)
-    (λ c. search needs)
-    (λ c. search needs)
-    (λ c. search needs)
+    (λ c. omega arith)
+    (λ c. omega arith)
+    (λ c. omega arith)
+    (λ c. omega arith)
+    (λ c. omega arith)
     (λ c κs. search needs)
     (λ c κs. search needs)
-    (λ c. search needs)
+    (λ c. omega arith)
     loop-again
-    (λ c. search needs)
-    (λ c. search needs)
-    (λ c. search needs)
+    (λ c. omega arith)
+    (λ c. omega arith)
+    (λ c. omega arith)
     (λ c κs. search needs)
-    (λ c. search needs)
+    (λ c. omega arith)
     returns)

@@ -22,7 +22,7 @@ loop-again : tie.Need-loop-again Inv-loop μ-loop
 loop-again c =
     let turn = c .before in
     let head = turn .before in
-    clocking-turn (head .loop .inv) (turn .loop-test .taken) (head .before .pre .0) (c .clock .ensures)
+    clocking-turn (head .loop .inv) (turn .loop-test .taken) (head .before .pre .inside) (c .clock .ensures)
 
 pub round-constant-spec : {M : Type 1} → statement M
 round-constant-spec =
@@ -30,7 +30,7 @@ round-constant-spec =
     (tie.spec
     Inv-loop
     μ-loop
-    (λ c. clocking-start (c .pre .1))
+    (λ c. clocking-start (c .pre .clocked))
     (λ c. search needs)
     (λ c. omega (arith, inside c))
     inside

@@ -47,22 +47,26 @@ written-u c = known-v c .before .before
 encode-all-requires : tie.Need-encode-all-requires
 encode-all-requires c κs =
     let u = compressed-u c in
-    let s = start u .args in (
-      record {
-        vector = omega arith;
-        some = omega arith;
-        most = omega arith;
-        below = below-compressed (s .du) (s .u .now) (u .compress-all .ensures);
-      },
-      omega arith,
-    )
+    let s = start u .args in
+    record {
+      vector = omega arith;
+      some = omega arith;
+      most = omega arith;
+      below = below-compressed (s .du) (s .u .now) (u .compress-all .ensures);
+      bytes = omega arith;
+    }
 
 byte-encode-requires : tie.Need-byte-encode-requires
 byte-encode-requires c κs =
     let v = compressed-v c in
     let s = start (compressed-u (written-u v .before)) .args in
-    let below = below-compressed (s .dv) (s .v .now) (v .compress-all2 .ensures) in
-    (omega arith, omega arith, omega arith, omega arith, below)
+    record {
+      polynomial = omega arith;
+      bytes = omega arith;
+      some = omega arith;
+      most = omega arith;
+      below = below-compressed (s .dv) (s .v .now) (v .compress-all2 .ensures);
+    }
 
 returns : tie.Need-returns
 returns c =
@@ -80,19 +84,19 @@ pub encode-parts-spec : {M : Type 1} → statement M
 encode-parts-spec =
     tie.close
     (tie.spec
-    (λ c. search needs)
-    (λ c. search needs)
+    (λ c. omega arith)
+    (λ c. omega arith)
     (λ c κs. search needs)
-    (λ c. search needs)
-    (λ c. search needs)
-    (λ c. search needs)
+    (λ c. omega arith)
+    (λ c. omega arith)
+    (λ c. omega arith)
     encode-all-requires
     (λ c κs. search needs)
-    (λ c. search needs)
-    (λ c. search needs)
-    (λ c. search needs)
+    (λ c. omega arith)
+    (λ c. omega arith)
+    (λ c. omega arith)
     byte-encode-requires
-    (λ c. search needs)
-    (λ c. search needs)
-    (λ c. search needs)
+    (λ c. omega arith)
+    (λ c. omega arith)
+    (λ c. omega arith)
     returns)

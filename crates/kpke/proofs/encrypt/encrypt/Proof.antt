@@ -1,4 +1,5 @@
 -- Each call leaves one vector of algorithm 14 in its slice, part by part, and the last call encodes u and v.
+use native.Mathlib.Omega.{arith}
 use borrow.Author.Needs.{needs}
 use Rattle.kpke.specs.Parameters.{mlKem768}
 use Rattle.kpke.proofs.Encrypted.{encrypt-parts}
@@ -51,29 +52,30 @@ returns c =
     let y = drawn u in
     let t = decoded y in
     let s = start t in
-    encrypt-parts mlKem768 (s .args .ek .now) (s .args .m .now) (s .args .r .now) (s .pre .0) (t .decode12-all .ensures)
+    encrypt-parts mlKem768 (s .args .ek .now) (s .args .m .now) (s .args .r .now) (s .pre .matrix)
+    (t .decode12-all .ensures)
     (y .transformed-noise .ensures) (u .first-parts .ensures) (v .second-part .ensures) (ct .encode-parts .ensures)
 
 pub encrypt-spec : {M : Type 1} → statement M
 encrypt-spec =
     tie.close
     (tie.spec
-    (λ c. search needs)
-    (λ c. search needs)
-    (λ c. search needs)
-    (λ c. search needs)
+    (λ c. omega arith)
+    (λ c. omega arith)
+    (λ c. omega arith)
+    (λ c. omega arith)
     (λ c κs. search needs)
-    (λ c. search needs)
+    (λ c. omega arith)
     (λ c κs. search needs)
-    (λ c. search needs)
-    (λ c. search needs)
+    (λ c. omega arith)
+    (λ c. omega arith)
     (λ c κs. search needs)
-    (λ c. search needs)
-    (λ c. search needs)
-    (λ c. search needs)
+    (λ c. omega arith)
+    (λ c. omega arith)
+    (λ c. omega arith)
     (λ c κs. search needs)
-    (λ c. search needs)
-    (λ c. search needs)
+    (λ c. omega arith)
+    (λ c. omega arith)
     (λ c κs. search needs)
-    (λ c. search needs)
+    (λ c. omega arith)
     returns)

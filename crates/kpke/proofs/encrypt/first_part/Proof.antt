@@ -1,4 +1,5 @@
 -- The four calls leave line 19's terms: column i of A-hat by y-hat, transformed back, and e1's polynomial i.
+use native.Mathlib.Omega.{arith}
 use borrow.Author.Needs.{needs}
 use Rattle.kpke.proofs.Products.{column-fits, first-part-calls}
 use Rattle.kpke.proofs.encrypt.first_part.Statement.{statement}
@@ -10,10 +11,10 @@ first-part-spec =
     (tie.spec
     (λ c κs. search (needs, column-fits))
     (λ c κs. search needs)
-    (λ c. search needs)
-    (λ c. search needs)
+    (λ c. omega arith)
+    (λ c. omega arith)
     (λ c κs. search needs)
-    (λ c. search needs)
+    (λ c. omega arith)
     (λ c κs. search needs)
-    (λ c. search needs)
+    (λ c. omega arith)
     (λ c. search (needs, first-part-calls)))

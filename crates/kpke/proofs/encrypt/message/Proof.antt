@@ -11,5 +11,5 @@ message-spec =
     (tie.spec
     (λ c κs. search needs)
     (λ c κs. (omega arith, rw (c .before .before .before .byte-decode .ensures) (search (needs, below-byteDecode 1))))
-    (λ c. search needs)
+    (λ c. omega arith)
     (λ c. cc))

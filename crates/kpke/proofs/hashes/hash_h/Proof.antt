@@ -1,4 +1,5 @@
 -- The output has 32 bytes, the digest's length, so that SHA3-256 writes it.
+use native.Mathlib.Omega.{arith}
 use borrow.Author.Needs.{needs}
 use Rattle.fips202.specs.Sponge.{sha3-256}
 use Rattle.kpke.proofs.Digest.{digest-of}
@@ -10,5 +11,5 @@ hash-h-spec =
     tie.close
     (tie.spec
     (λ c κs. search needs)
-    (λ c. search needs)
+    (λ c. omega arith)
     (λ c. search (needs, digest-of sha3-256 32)))

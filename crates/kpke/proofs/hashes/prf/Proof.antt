@@ -1,4 +1,5 @@
 -- t is s || n, of which SHAKE256 writes as many bytes as out has.
+use native.Mathlib.Omega.{arith}
 use borrow.Author.Needs.{needs}
 use Rattle.kpke.proofs.hashes.prf.Statement.{statement}
 use Rattle.kpke.proofs.hashes.prf.Tie as tie
@@ -7,10 +8,10 @@ pub prf-spec : {M : Type 1} → statement M
 prf-spec =
     tie.close
     (tie.spec
-    (λ c. search needs)
-    (λ c. search needs)
+    (λ c. omega arith)
+    (λ c. omega arith)
     (λ c κs. search needs)
-    (λ c. search needs)
+    (λ c. omega arith)
     (λ c κs. search needs)
-    (λ c. search needs)
+    (λ c. omega arith)
     (λ c. cc))

@@ -1,4 +1,5 @@
 -- t is rho || j || i, of which SHAKE128 writes out's 840 bytes.
+use native.Mathlib.Omega.{arith}
 use borrow.Author.Needs.{needs}
 use Rattle.kpke.proofs.hashes.xof.Statement.{statement}
 use Rattle.kpke.proofs.hashes.xof.Tie as tie
@@ -7,10 +8,10 @@ pub xof-spec : {M : Type 1} → statement M
 xof-spec =
     tie.close
     (tie.spec
-    (λ c. search needs)
-    (λ c. search needs)
+    (λ c. omega arith)
+    (λ c. omega arith)
     (λ c κs. search needs)
-    (λ c. search needs)
+    (λ c. omega arith)
     (λ c κs. search needs)
-    (λ c. search needs)
+    (λ c. omega arith)
     (λ c. cc))

@@ -24,12 +24,12 @@ public-polynomial-spec =
     (tie.spec
     mul-dot
     (λ c κs. search (needs, row-fits))
-    (λ c. search needs)
-    (λ c. search needs)
+    (λ c. omega arith)
+    (λ c. omega arith)
     (λ c κs. search needs)
-    (λ c. search needs)
+    (λ c. omega arith)
     (λ c κs. search needs)
-    (λ c. search needs)
+    (λ c. omega arith)
     (λ c κs. search needs)
-    (λ c. search needs)
+    (λ c. omega arith)
     (λ c. search (needs, public-polynomial-calls, ntt-of)))

@@ -1,8 +1,7 @@
 -- s-hat and t-hat stand part by part in their slices and are below q, as sums modulo q and transforms are, so that
--- they can be encoded; sigma is g's second half.
+-- they can be encoded.
 use borrow.Author.Needs.{needs}
 use native.Mathlib.Omega.{arith}
-use Rattle.words.specs.Part.{part-rest}
 use Rattle.kpke.specs.Parameters.{mlKem768}
 use Rattle.kpke.proofs.Encoded.{below-byteEncode12}
 use Rattle.kpke.proofs.Parts.{below-vector, below-transformed, below-public}
@@ -21,26 +20,26 @@ lent-s c = c .before .before .before
 abbrev written : tie.After-encode-all → tie.After-write-ek
 written c = lent-s c .before .before
 
-abbrev lent-t : tie.After-write-ek → tie.After-t3
+abbrev lent-t : tie.After-write-ek → tie.After-t2
 lent-t c = c .before .before .before
 
 abbrev multiplied : tie.After-write-ek → tie.After-public-vector
-multiplied c = lent-t c .before .before
+multiplied c = lent-t c .before
 
-abbrev lent-sigma : tie.After-public-vector → tie.After-s3
+abbrev lent-sigma : tie.After-public-vector → tie.After-s2
 lent-sigma c = c .before .before .before
 
 abbrev drawn : tie.After-public-vector → tie.After-transformed-noise
-drawn c = lent-sigma c .before .before
+drawn c = lent-sigma c .before
 
-abbrev lent-g : tie.After-transformed-noise → tie.After-slice-known2
-lent-g c = c .before .before .before
-
-abbrev known : tie.After-slice-known2 → tie.After-shared-slice-known
+abbrev known : tie.After-transformed-noise → tie.After-slice-known
 known c = c .before .before .before
 
+abbrev shared : tie.After-slice-known → tie.After-shared-slice-known
+shared c = c .before .before .before
+
 abbrev start : tie.After-transformed-noise → tie.Start
-start c = known (lent-g c) .before
+start c = shared (known c) .before
 
 returns : tie.Need-returns
 returns c =
@@ -48,43 +47,34 @@ returns c =
     let ek = written dk in
     let t = multiplied ek in
     let s = drawn t in
-    let sigma = part-rest 32 (start s .args .g .now) in
-    let a = start s .pre .0 in
-    let es = s .transformed-noise .ensures in (
-      λ d e. ek-parts mlKem768 d e a sigma es (t .public-vector .ensures) (ek .write-ek .ensures),
-      λ d e. dk-parts mlKem768 d e a sigma es (dk .encode-all .ensures),
-    )
+    let i = start s in
+    let es = s .transformed-noise .ensures in
+    let sigma = i .args .sigma .now in
+    record {
+      ek = ek-parts mlKem768 sigma es (i .pre .matrix) (t .public-vector .ensures) (ek .write-ek .ensures);
+      dk = dk-parts mlKem768 sigma es (dk .encode-all .ensures);
+    }
 
 pub write-keys-spec : {M : Type 1} → statement M
 write-keys-spec =
     tie.close
     (tie.spec
-    (λ c. search needs)
-    (λ c. search needs)
-    (λ c. search needs)
-    (λ c. search needs)
+    (λ c. omega arith)
     (λ c κs. search needs)
-    (λ c. search needs)
-    (λ c. search needs)
-    (λ c. search needs)
-    (λ c. search needs)
-    (λ c. search needs)
+    (λ c. omega arith)
+    (λ c. omega arith)
     (λ c κs. search needs)
-    (λ c. search needs)
-    (λ c. search needs)
-    (λ c. search needs)
-    (λ c. search needs)
+    (λ c. omega arith)
     (λ c κs. search (needs, below-public))
-    (λ c. search needs)
-    (λ c κs. (
-      record {
-        vector = omega arith;
-        some = omega arith;
-        most = omega arith;
-        below = search (needs, below-byteEncode12, below-vector, below-transformed);
-      },
-      omega arith,
-    ))
-    (λ c. search needs)
-    (λ c. search needs)
+    (λ c. omega arith)
+    (λ c κs.
+    record {
+      vector = omega arith;
+      some = omega arith;
+      most = omega arith;
+      below = search (needs, below-byteEncode12, below-vector, below-transformed);
+      bytes = omega arith;
+    })
+    (λ c. omega arith)
+    (λ c. omega arith)
     returns)

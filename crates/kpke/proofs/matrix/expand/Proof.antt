@@ -32,7 +32,7 @@ returns : tie.Need-returns Inv-loop μ-loop
 unfolding matrixFull
 returns c =
     let t = tested c in
-    sampled-stop _ _ _ (head t .loop .i) (omega arith) (t .expand-row .ensures .0) (c .if1 .taken)
+    sampled-stop _ _ _ (head t .loop .i) (omega arith) (t .expand-row .ensures .answer) (c .if1 .taken)
 
 returns-2 : tie.Need-returns-2 Inv-loop μ-loop
 unfolding matrixFull

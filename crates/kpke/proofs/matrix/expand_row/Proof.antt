@@ -28,7 +28,7 @@ head c = c .before .before .before
 returns : tie.Need-returns Inv-loop μ-loop
 returns c =
     let t = tested c in
-    sampled-stop _ _ _ (head t .loop .j) (omega arith) (t .sample-place .ensures .0) (c .if1 .taken)
+    sampled-stop _ _ _ (head t .loop .j) (omega arith) (t .sample-place .ensures .answer) (c .if1 .taken)
 
 pub expand-row-spec : {M : Type 1} → statement M
 expand-row-spec =

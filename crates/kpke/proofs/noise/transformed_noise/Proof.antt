@@ -1,4 +1,5 @@
 -- noise_all leaves the k polynomials one after the other, and ntt_all transforms each part of 256 coefficients.
+use native.Mathlib.Omega.{arith}
 use borrow.Author.Needs.{needs}
 use Rattle.kpke.proofs.Parts.{transformed-noise}
 use Rattle.kpke.proofs.noise.transformed_noise.Statement.{statement}
@@ -23,5 +24,5 @@ transformed-noise-spec =
     (tie.spec
     (λ c κs. search needs)
     (λ c κs. search needs)
-    (λ c. search needs)
+    (λ c. omega arith)
     (λ c. let s = start c .args in search (needs, transformed-noise (s .eta) (s .k) (s .seed .now))))

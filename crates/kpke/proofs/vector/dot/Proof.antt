@@ -5,7 +5,7 @@ use mathlib.Core.Path.{_≡_, refl, ap₂, _∙_}
 use Prim.Native.Nat.{_+_, _-_, _*_, _≤_}
 use native.Mathlib.Omega.{arith}
 use lib.ListN.{length, replicate}
-use Rattle.words.specs.Iterate.{Reached, reached-start, reached-turn, reached-end}
+use Rattle.words.specs.IterateLaws.{Reached, reached-start, reached-turn, reached-end}
 use Rattle.ring.specs.Polynomial.{add}
 use Rattle.ring.specs.Transform.{multiplyNtts}
 use Rattle.kpke.specs.KPke.{parts, dot}
@@ -42,13 +42,15 @@ turn c = c .before .before .before
 fits : (c : tie.In-loop Inv-loop μ-loop)
     → (let s = start (c .before .before) .args in
     256 * (s .start + s .step * c .before .loop .j) + 256 ≤ length (s .a .now))
-fits c = start (c .before .before) .pre .0 (c .before .loop .j) (omega arith)
+fits c = start (c .before .before) .pre .left (c .before .loop .j) (omega arith)
 
 loop-holds : tie.Need-loop-holds Inv-loop μ-loop
-loop-holds c = (omega arith, rw (zeroed c .clear .ensures ∙ ap₂ replicate (start c .pre .2) refl) reached-start)
+loop-holds c =
+    (omega arith, rw (zeroed c .clear .ensures ∙ ap₂ replicate (start c .pre .polynomial) refl) reached-start)
 
 multiply-add-requires : tie.Need-multiply-add-requires Inv-loop μ-loop
-multiply-add-requires c κs = (omega arith, length-span _ 256 _ (fits (turn c)), search (needs, length-span))
+multiply-add-requires c κs =
+    record { sum = omega arith; left = length-span _ 256 _ (fits (turn c)); right = search (needs, length-span) }
 
 loop-again : tie.Need-loop-again Inv-loop μ-loop
 loop-again c =

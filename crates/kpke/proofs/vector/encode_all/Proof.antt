@@ -38,14 +38,16 @@ byte-encode-requires : tie.Need-byte-encode-requires Inv-loop μ-loop
 byte-encode-requires c κs =
     let head = calling c in
     let s = start head in
-    let a = 256 * head .loop .i in (
-      length-span a 256 (s .args .v .now) (omega arith),
-      length-span (32 * s .args .d * head .loop .i) (32 * s .args .d) (head .loop .out)
-          (concatenated-fits (head .loop .inv .1) (omega arith)),
-      omega arith,
-      omega arith,
-      below-take (a + 256 - a) (below-drop a (s .pre .0 .below)),
-    )
+    let a = 256 * head .loop .i in
+    record {
+      polynomial = length-span a 256 (s .args .v .now) (omega arith);
+      bytes =
+          length-span (32 * s .args .d * head .loop .i) (32 * s .args .d) (head .loop .out)
+          (concatenated-fits (head .loop .inv .1) (omega arith));
+      some = omega arith;
+      most = omega arith;
+      below = below-take (a + 256 - a) (below-drop a (s .pre .below));
+    }
 
 loop-again : tie.Need-loop-again Inv-loop μ-loop
 loop-again c =

@@ -9,7 +9,8 @@ use lib.Seq.{getD-set-other}
 use Rattle.worksheet.specs.Ran.{Ran, bind, over}
 use Rattle.worksheet.specs.RanLoops.{times-start, times-turn}
 use Rattle.masked_comparison.specs.Comparison.{addPublic}
-use Rattle.worksheet.specs.SharedList.{sharedList, sharedAt, zip}
+use Rattle.worksheet.specs.SharedList.{sharedList, sharedAt}
+use Rattle.worksheet.specs.Zip.{zip}
 use Rattle.worksheet.specs.SharedListLaws.{zip-zero, zip-set0}
 use borrow.Author.Needs.{needs}
 use Rattle.masked_comparison.proofs.comparison.add_public.Statement.{statement}

@@ -8,12 +8,12 @@ use Rattle.masked_comparison.proofs.selection.copies.Tie as tie
 mul-t2 : tie.Need-mul-t2
 mul-t2 c =
     let s = c .before in
-    record { fits = copies-bits {x = s .args .b .s0} (record { lt = s .pre .0 }) .lt }
+    record { fits = copies-bits {x = s .args .b .s0} (record { lt = s .pre .bit0 }) .lt }
 
 mul-t3 : tie.Need-mul-t3
 mul-t3 c =
     let s = c .before .before in
-    record { fits = copies-bits {x = s .args .b .s1} (record { lt = s .pre .1 }) .lt }
+    record { fits = copies-bits {x = s .args .b .s1} (record { lt = s .pre .bit1 }) .lt }
 
 returns : tie.Need-returns
 unfolding copies

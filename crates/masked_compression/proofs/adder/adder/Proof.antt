@@ -1,10 +1,10 @@
 -- The four calls are the definition's four steps: a's planes draw n masks, b's the next n, the carries the n - 1 after
 -- these.
-use Prim.Native.Nat.{_+_, _*_, _-_}
+use Prim.Native.Nat.{_+_, _-_}
 use mathlib.Core.Path.{_≡_}
 use native.Mathlib.Omega.{arith}
 use Rattle.worksheet.specs.Ran.{bind, part-words}
-use Rattle.masked_compression.specs.Adder.{adder}
+use Rattle.masked_compression.specs.Adder.{adder, adderWords}
 use borrow.Author.Needs.{needs}
 use Rattle.masked_compression.proofs.adder.adder.Statement.{statement}
 use Rattle.masked_compression.proofs.adder.adder.Tie as tie
@@ -18,7 +18,7 @@ returns c cs =
     let g = a .before .before .args in
     let ws = g .ws .now in
     let n = g .n in
-    let e : n + n + (n - 1) ≡ 3 * n - 1 = omega arith in
+    let e : n + n + (n - 1) ≡ adderWords n = omega arith in
     bind _ (a .mask-planes .ensures cs)
     (bind _ (part-words ws n n (b .mask-planes2 .ensures cs))
     (bind _ (rw e at (part-words ws (n + n) (n - 1) (carries .carry-planes .ensures cs)))
@@ -28,17 +28,17 @@ pub adder-spec : {M : Type 1} → statement M
 adder-spec =
     tie.close
     (tie.spec
-    (λ c. search needs)
+    (λ c. omega arith)
     (λ c κs. search needs)
-    (λ c. search needs)
-    (λ c. search needs)
-    (λ c. search needs)
-    (λ c. search needs)
+    (λ c. omega arith)
+    (λ c. omega arith)
+    (λ c. omega arith)
+    (λ c. omega arith)
     (λ c κs. search needs)
-    (λ c. search needs)
-    (λ c. search needs)
-    (λ c. search needs)
-    (λ c. search needs)
+    (λ c. omega arith)
+    (λ c. omega arith)
+    (λ c. omega arith)
+    (λ c. omega arith)
     (λ c κs. search needs)
     (λ c κs. search needs)
     returns)

@@ -5,13 +5,14 @@ use mathlib.Core.Path.{_≡_, refl}
 use mathlib.Core.List.{List}
 use native.Mathlib.Omega.{arith}
 use lib.ListN.{length, length-set, getD, drop}
-use Rattle.words.specs.Word.{Bits}
+use Rattle.words.specs.Bits.{Bits}
 use Rattle.worksheet.specs.Prog.{chain}
 use Rattle.worksheet.specs.Ran.{Ran, next-bits}
 use Rattle.worksheet.specs.RanLoops.{chain-start, chain-turn}
 use Rattle.worksheet.specs.Sharing.{none}
 use Rattle.masked_compression.specs.Adder.{at, carryStep}
-use Rattle.worksheet.specs.SharedList.{sharedList, zip}
+use Rattle.worksheet.specs.SharedList.{sharedList}
+use Rattle.worksheet.specs.Zip.{zip}
 use Rattle.worksheet.specs.SharedListLaws.{zip-set, getD-zip, zip-one}
 use borrow.Author.Needs.{needs}
 use Rattle.masked_compression.proofs.adder.carry_planes.Statement.{statement}
@@ -82,30 +83,30 @@ carry-planes-spec =
     (tie.spec
     Inv-loop
     μ-loop
-    (λ c. search needs)
+    (λ c. omega arith)
     (λ c. (omega arith, omega arith, refl, refl, λ cs. rw zip-one (chain-start _ _)))
-    (λ c. search needs)
-    (λ c. search needs)
-    (λ c. search needs)
-    (λ c. search needs)
-    (λ c. search needs)
-    (λ c. search needs)
-    (λ c. search needs)
-    (λ c. search needs)
-    (λ c. search needs)
-    (λ c. search needs)
-    (λ c. search needs)
-    (λ c. search needs)
-    (λ c. search needs)
-    (λ c. search needs)
+    (λ c. omega arith)
+    (λ c. omega arith)
+    (λ c. omega arith)
+    (λ c. omega arith)
+    (λ c. omega arith)
+    (λ c. omega arith)
+    (λ c. omega arith)
+    (λ c. omega arith)
+    (λ c. omega arith)
+    (λ c. omega arith)
+    (λ c. omega arith)
+    (λ c. omega arith)
+    (λ c. omega arith)
+    (λ c. omega arith)
     (λ c κs. search needs)
-    (λ c. search needs)
-    (λ c. search needs)
-    (λ c. search needs)
-    (λ c. search needs)
-    (λ c. search needs)
-    (λ c. search needs)
-    (λ c. search needs)
-    (λ c. search needs)
+    (λ c. omega arith)
+    (λ c. omega arith)
+    (λ c. omega arith)
+    (λ c. omega arith)
+    (λ c. omega arith)
+    (λ c. omega arith)
+    (λ c. omega arith)
+    (λ c. omega arith)
     loop-again
     returns)

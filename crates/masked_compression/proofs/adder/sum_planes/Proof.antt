@@ -1,16 +1,16 @@
 -- The loop is the definition's own: the first i sum planes are made of the planes at the same places, and stand in two
 -- arrays.
-use Prim.Native.Nat.{ℕ, _≤_, _-_}
-use mathlib.Core.Path.{_≡_, refl}
-use mathlib.Core.List.{List}
+use Prim.Native.Nat.{_-_}
+use mathlib.Core.Path.{refl}
 use native.Mathlib.Omega.{arith}
-use lib.ListN.{length, length-set}
-use Rattle.worksheet.specs.Ran.{Ran, bind, over}
-use Rattle.worksheet.specs.RanLoops.{times-start, times-turn}
 use Rattle.worksheet.specs.Prog.{times}
+use Rattle.worksheet.specs.Ran.{Makes, bind, over}
+use Rattle.worksheet.specs.RanLoops.{times-start, times-turn}
+use Rattle.worksheet.specs.SharedList.{sharedList}
+use Rattle.worksheet.specs.Zip.{zip}
+use Rattle.worksheet.specs.SharedListLaws.{getD-zip}
+use Rattle.worksheet.specs.StoredSharings.{StoredSharings, sharings-start, sharings-turn, sharings-end}
 use Rattle.masked_compression.specs.Adder.{at, sumPlane}
-use Rattle.worksheet.specs.SharedList.{sharedList, zip}
-use Rattle.worksheet.specs.SharedListLaws.{zip-zero, zip-set, getD-zip}
 use borrow.Author.Needs.{needs}
 use Rattle.masked_compression.proofs.adder.sum_planes.Statement.{statement}
 use Rattle.masked_compression.proofs.adder.sum_planes.Tie as tie
@@ -18,12 +18,10 @@ use Rattle.masked_compression.proofs.adder.sum_planes.Tie as tie
 -- i sum planes made
 abbrev Inv-loop : tie.InvT-loop
 Inv-loop n a b c rec₀ s0₀ s1₀ i₀ rec s0 s1 i =
-    (i ≤ n) × (length s0 ≡ 24) × (length s1 ≡ 24)
-    × (let x = zip n (sharedList (a .s0) (a .s1)) in
+    let x = zip n (sharedList (a .s0) (a .s1)) in
     let y = zip n (sharedList (b .s0) (b .s1)) in
     let z = zip n (sharedList (c .s0) (c .s1)) in
-    (ws cs : List ℕ)
-    → Ran (times i (λ j. sumPlane (at x j) (at y j) (at z j))) rec₀ ws cs (zip i (sharedList s0 s1)) rec ws cs)
+    StoredSharings (λ k ys r. Makes (times k (λ j. sumPlane (at x j) (at y j) (at z j))) rec₀ ys r) n 24 s0 s1 rec i
 
 abbrev μ-loop : tie.MeasureT-loop
 μ-loop n a b c rec₀ s0₀ s1₀ i₀ rec s0 s1 i = n - i
@@ -47,26 +45,15 @@ loop-again c =
     let turn = first (share0 .before) in
     let l = turn .before .loop in
     let g = turn .before .before .args in
-    let h = turn .loop-test .taken in (
-      omega arith,
-      simp length-set (omega arith),
-      simp length-set (omega arith),
-      λ ws cs.
-          rw (zip-set (l .s0) (l .s1) (l .i) _ _ (omega arith) (omega arith))
-          (times-turn _ (l .i) (l .inv .3 ws cs)
-          (rw (
-            getD-zip (g .n) (sharedList (g .t3 .s0) (g .t3 .s1)) (l .i) _ h,
-            getD-zip (g .n) (sharedList (g .t4 .s0) (g .t4 .s1)) (l .i) _ h,
-            getD-zip (g .n) (sharedList (g .t5 .s0) (g .t5 .s1)) (l .i) _ h,
-          )
-          (bind _ (share0 .enter-xor3 .ensures _ _) (bind _ (share1 .enter-xor32 .ensures _ _) over)))),
+    let h = turn .loop-test .taken in
+    sharings-turn (l .inv) _ _ (omega arith) (λ ws cs.
+    times-turn _ (l .i) (l .inv .ran ws cs)
+    (rw (
+      getD-zip (g .n) (sharedList (g .t3 .s0) (g .t3 .s1)) (l .i) _ h,
+      getD-zip (g .n) (sharedList (g .t4 .s0) (g .t4 .s1)) (l .i) _ h,
+      getD-zip (g .n) (sharedList (g .t5 .s0) (g .t5 .s1)) (l .i) _ h,
     )
-
-returns : tie.Need-returns Inv-loop μ-loop
-returns c ws cs =
-    let head = c .before in
-    let e : head .loop .i ≡ head .before .args .n = omega arith in
-    rw e at (head .loop .inv .3 ws cs)
+    (bind _ (share0 .enter-xor3 .ensures _ _) (bind _ (share1 .enter-xor32 .ensures _ _) over))))
 
 pub sum-planes-spec : {M : Type 1} → statement M
 sum-planes-spec =
@@ -74,26 +61,26 @@ sum-planes-spec =
     (tie.spec
     Inv-loop
     μ-loop
-    (λ c. (omega arith, refl, refl, λ ws cs. rw zip-zero (times-start _)))
-    (λ c. search needs)
-    (λ c. search needs)
-    (λ c. search needs)
-    (λ c. search needs)
-    (λ c. search needs)
-    (λ c. search needs)
+    (λ c. sharings-start (omega arith) refl refl (λ ws cs. times-start _))
+    (λ c. omega arith)
+    (λ c. omega arith)
+    (λ c. omega arith)
+    (λ c. omega arith)
+    (λ c. omega arith)
+    (λ c. omega arith)
     (λ c κs. search needs)
-    (λ c. search needs)
-    (λ c. search needs)
-    (λ c. search needs)
-    (λ c. search needs)
-    (λ c. search needs)
-    (λ c. search needs)
+    (λ c. omega arith)
+    (λ c. omega arith)
+    (λ c. omega arith)
+    (λ c. omega arith)
+    (λ c. omega arith)
+    (λ c. omega arith)
     (λ c κs. search needs)
-    (λ c. search needs)
-    (λ c. search needs)
-    (λ c. search needs)
-    (λ c. search needs)
-    (λ c. search needs)
-    (λ c. search needs)
+    (λ c. omega arith)
+    (λ c. omega arith)
+    (λ c. omega arith)
+    (λ c. omega arith)
+    (λ c. omega arith)
+    (λ c. omega arith)
     loop-again
-    returns)
+    (λ c. sharings-end (c .before .loop .inv) (omega arith)))

@@ -3,6 +3,7 @@ use mathlib.Core.Path.{_≡_, _∙_}
 use Prim.Native.Nat.{_+_, _-_}
 use lib.Bits.{bitAnd, and-mask}
 use lib.Pow.{pow-pos}
+use native.Mathlib.Omega.{arith}
 use borrow.Author.Needs.{needs}
 use Rattle.masked_compression.specs.Compression.{fixedPoint}
 use Rattle.masked_compression.proofs.compression.enter_fixed_point.Statement.{statement}
@@ -24,7 +25,7 @@ enter-fixed-point-spec =
     tie.close
     (tie.spec
     (λ c κs. search needs)
-    (λ c. search needs)
+    (λ c. omega arith)
     (λ c κs. search needs)
     (λ c. rw (c .scale .ensures) (pow-pos (c .before .before .args .d + 13)))
     (λ c κs. search needs)

@@ -10,7 +10,7 @@ use Rattle.masked_compression.proofs.compression.fixed_point.Tie as tie
 returns : tie.Need-returns
 returns c =
     let a = c .args in (
-      estimate (a .d + 13) (35 - a .d) (a .x) (omega arith) (omega arith) (c .pre .1),
+      estimate (a .d + 13) (35 - a .d) (a .x) (omega arith) (omega arith) (omega arith),
       omega (arith, shr-le (a .x * 84552411148) (35 - a .d)),
     )
 

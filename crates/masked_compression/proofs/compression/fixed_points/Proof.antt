@@ -10,7 +10,6 @@ use Rattle.worksheet.specs.Prog.{entry, times}
 use Rattle.worksheet.specs.Ran.{Ran}
 use Rattle.worksheet.specs.RanLoops.{times-start, times-turn}
 use Rattle.masked_compression.specs.Compression.{fixedPoint}
-use borrow.Author.Needs.{needs}
 use Rattle.masked_compression.proofs.compression.fixed_points.Statement.{statement}
 use Rattle.masked_compression.proofs.compression.fixed_points.Tie as tie
 
@@ -38,7 +37,7 @@ enter-fixed-point-requires : tie.Need-enter-fixed-point-requires Inv-loop μ-loo
 enter-fixed-point-requires c κs =
     let head = reading c in
     let p = start head .pre in
-    (p .0, p .1, p .3 .at (head .loop .i))
+    (p .point, p .group .below .at (head .loop .i))
 
 loop-again : tie.Need-loop-again Inv-loop μ-loop
 loop-again c =
@@ -66,12 +65,12 @@ fixed-points-spec =
     Inv-loop
     μ-loop
     (λ c. (omega arith, refl, λ ws cs. times-start _))
-    (λ c. search needs)
-    (λ c. search needs)
+    (λ c. omega arith)
+    (λ c. omega arith)
     enter-fixed-point-requires
-    (λ c. search needs)
-    (λ c. search needs)
-    (λ c. search needs)
-    (λ c. search needs)
+    (λ c. omega arith)
+    (λ c. omega arith)
+    (λ c. omega arith)
+    (λ c. omega arith)
     loop-again
     returns)

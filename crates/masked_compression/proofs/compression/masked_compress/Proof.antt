@@ -5,6 +5,7 @@ use Rattle.words.specs.Fill.{filled-at}
 use Rattle.worksheet.specs.Ran.{bind, over}
 use Rattle.masked_compression.specs.AdderLaws.{adder-cong}
 use Rattle.masked_compression.specs.Compression.{maskedCompress}
+use native.Mathlib.Omega.{arith}
 use borrow.Author.Needs.{needs}
 use Rattle.masked_compression.proofs.compression.masked_compress.Statement.{statement}
 use Rattle.masked_compression.proofs.compression.masked_compress.Tie as tie
@@ -37,7 +38,7 @@ pub masked-compress-spec : {M : Type 1} → statement M
 masked-compress-spec =
     tie.close
     (tie.spec
-    (λ c. search needs)
+    (λ c. omega arith)
     (λ c κs. search needs)
     (λ c κs. search needs)
     (λ c. search needs)

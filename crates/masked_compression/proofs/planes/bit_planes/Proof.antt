@@ -7,7 +7,7 @@ use lib.ListN.{getD}
 use borrow.Author.Needs.{needs}
 use Rattle.words.specs.Fill.{Filled, filled-start, filled-turn}
 use Rattle.words.specs.Plane.{plane}
-use Rattle.words.specs.Tab.{getD-tab}
+use Rattle.words.specs.TabLaws.{getD-tab}
 use Rattle.masked_compression.proofs.planes.bit_planes.Statement.{statement}
 use Rattle.masked_compression.proofs.planes.bit_planes.Tie as tie
 
@@ -51,14 +51,14 @@ bit-planes-spec =
     (tie.spec
     Inv-loop
     μ-loop
-    (λ c. search needs)
+    (λ c. omega arith)
     (λ c κs. search needs)
     (λ c. (omega arith, filled-start refl))
-    (λ c. search needs)
-    (λ c. search needs)
-    (λ c. search needs)
-    (λ c. search needs)
-    (λ c. search needs)
-    (λ c. search needs)
+    (λ c. omega arith)
+    (λ c. omega arith)
+    (λ c. omega arith)
+    (λ c. omega arith)
+    (λ c. omega arith)
+    (λ c. omega arith)
     loop-again
     returns)

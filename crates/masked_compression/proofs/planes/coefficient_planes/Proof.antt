@@ -9,7 +9,7 @@ use Rattle.words.specs.Digit.{digit}
 use Rattle.words.specs.Fill.{Filled, filled-start, filled-turn, filled-end, filled-at}
 use Rattle.words.specs.Plane.{plane}
 use Rattle.words.specs.PlaneLaws.{plane-cong}
-use Rattle.words.specs.Tab.{getD-tab, length-tab}
+use Rattle.words.specs.TabLaws.{getD-tab, length-tab}
 use Rattle.masked_compression.proofs.planes.coefficient_planes.Statement.{statement}
 use Rattle.masked_compression.proofs.planes.coefficient_planes.Tie as tie
 
@@ -59,12 +59,12 @@ coefficient-planes-spec =
     (λ c. omega (arith, long (c .before)))
     (λ c κs. (long (c .before), omega arith))
     (λ c. (omega arith, filled-start (omega arith)))
-    (λ c. search needs)
-    (λ c. search needs)
-    (λ c. search needs)
-    (λ c. search needs)
-    (λ c. search needs)
-    (λ c. search needs)
+    (λ c. omega arith)
+    (λ c. omega arith)
+    (λ c. omega arith)
+    (λ c. omega arith)
+    (λ c. omega arith)
+    (λ c. omega arith)
     loop-again
-    (λ c. search needs)
+    (λ c. omega arith)
     (λ c. filled-end (c .before .loop .inv .1) (omega arith)))

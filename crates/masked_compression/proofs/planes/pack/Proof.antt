@@ -4,7 +4,6 @@ use mathlib.Core.Path.{ap}
 use native.Mathlib.Omega.{arith}
 use lib.Bits.{bitXor, and-mask}
 use lib.ListN.{getD}
-use borrow.Author.Needs.{needs}
 use Rattle.words.specs.Fill.{Filled, filled-start, filled-turn, filled-end}
 use Rattle.words.specs.Word.{xor, low}
 use Rattle.masked_compression.specs.Transposition.{packed}
@@ -40,15 +39,15 @@ pack-spec =
     Inv-loop
     μ-loop
     (λ c. (omega arith, filled-start (omega arith)))
-    (λ c. search needs)
-    (λ c. search needs)
-    (λ c. search needs)
-    (λ c. search needs)
-    (λ c. search needs)
-    (λ c. search needs)
-    (λ c. search needs)
-    (λ c. search needs)
-    (λ c. search needs)
+    (λ c. omega arith)
+    (λ c. omega arith)
+    (λ c. omega arith)
+    (λ c. omega arith)
+    (λ c. omega arith)
+    (λ c. omega arith)
+    (λ c. omega arith)
+    (λ c. omega arith)
+    (λ c. omega arith)
     loop-again
-    (λ c. search needs)
+    (λ c. omega arith)
     (λ c. filled-end (c .before .loop .inv .1) (omega arith)))

@@ -25,12 +25,12 @@ widened-spec =
     Inv-loop
     μ-loop
     (λ c. (omega arith, filled-start refl))
-    (λ c. search needs)
-    (λ c. search needs)
+    (λ c. omega arith)
+    (λ c. omega arith)
     (λ c κs. search needs)
-    (λ c. search needs)
-    (λ c. search needs)
-    (λ c. search needs)
-    (λ c. search needs)
+    (λ c. omega arith)
+    (λ c. omega arith)
+    (λ c. omega arith)
+    (λ c. omega arith)
     loop-again
     (λ c. filled-end (c .before .loop .inv .1) (omega arith)))

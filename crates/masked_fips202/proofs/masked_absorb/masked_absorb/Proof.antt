@@ -1,6 +1,6 @@
 -- The blocks that the message fills, and its rest, padded in share 0 and zero-filled in share 1, are the blocks of the
 -- padded message; the start and each block draw their masks in the strip's order.
-use Prim.Native.Nat.{_+_, _*_, _/_, _<_, _≤_}
+use Prim.Native.Nat.{_+_, _*_, _/_, _^_, _<_, _≤_}
 use mathlib.Core.Path.{_≡_}
 use borrow.Author.Needs.{needs}
 use native.Mathlib.Nat.{div-mul-le-self, lt-div-mul-add}
@@ -8,6 +8,8 @@ use native.Mathlib.Omega.{arith}
 use lib.ListN.{length, length-take, length-drop}
 use Rattle.words.specs.Part.{part-rest}
 use Rattle.worksheet.specs.Ran.{part-words}
+use Rattle.masked_keccak.specs.MaskedKeccak.{keccakPWords}
+use Rattle.masked_fips202.specs.MaskedSponge.{hashMaskWords}
 use Rattle.masked_fips202.proofs.MaskedBlocks.{absorb-ran}
 use Rattle.masked_fips202.proofs.masked_absorb.masked_absorb.Statement.{statement}
 use Rattle.masked_fips202.proofs.masked_absorb.masked_absorb.Tie as tie
@@ -32,30 +34,35 @@ padded c = c .before .before
 abbrev zeroed : tie.After-b1 → tie.After-zero-filled
 zeroed c = c .before .before
 
--- ---- facts of the message's length
+-- ---- facts of lengths
+
+-- the strip's length is a word
+masks-fit : (c : tie.Start) → length (c .args .ws .now) < 2 ^ 64
+masks-fit c = omega (arith, c .good .1 .1 .1 .1 .1 .0 .1)
 
 whole : (c : tie.Start) → length (c .args .in0 .now) / c .args .rate * c .args .rate ≤ length (c .args .in0 .now)
 whole c = div-mul-le-self (length (c .args .in0 .now)) (c .args .rate)
 
 rest : (c : tie.Start)
     → length (c .args .in0 .now) < length (c .args .in0 .now) / c .args .rate * c .args .rate + c .args .rate
-rest c = lt-div-mul-add {a = length (c .args .in0 .now)} {b = c .args .rate} (c .pre .1)
+rest c = lt-div-mul-add {a = length (c .args .in0 .now)} {b = c .args .rate} (c .pre .sponge .positive)
 
 last-block-requires : tie.Need-last-block-requires
 last-block-requires c κs =
     let s = start (begun (c .before)) in
-    (simp (length-take, length-drop) (omega (arith, rest s)), s .pre .2, s .pre .4)
+    let sponge = s .pre .sponge in
+    (simp (length-take, length-drop) (omega (arith, rest s)), sponge .fits, sponge .short)
 
 zero-filled-requires : tie.Need-zero-filled-requires
 zero-filled-requires c κs =
     let s = start (begun (filled (c .before))) in
-    simp (length-take, length-drop) (omega (arith, rest s, s .pre .0, s .pre .2))
+    simp (length-take, length-drop) (omega (arith, rest s, s .pre .inputs, s .pre .sponge .fits))
 
 -- the masks before the last block are some of those lent
 masks-lent : tie.Need-mul-take-in
 masks-lent c =
     let s = start (begun (filled (padded (zeroed c)))) in
-    omega (arith, s .good .1 .1 .1 .1 .1 .0 .1, s .pre .5)
+    omega (arith, masks-fit s, s .pre .masks)
 
 returns : tie.Need-returns
 returns c cs =
@@ -69,40 +76,41 @@ returns c cs =
     let ws = a .ws .now in
     let q = length in0 / a .rate in
     let p = q * a .rate in
-    let e : 25 + 600 * q + 600 ≡ 25 + 600 * (q + 1) = omega arith in
-    absorb-ran (a .rate) (a .suffix) in0 in1 (s .pre .1) (last .last-block .result) (zero .zero-filled .result)
+    let e : hashMaskWords q + keccakPWords ≡ hashMaskWords (q + 1) = omega arith in
+    absorb-ran (a .rate) (a .suffix) in0 in1 (s .pre .sponge .positive) (last .last-block .result)
+    (zero .zero-filled .result)
     (rw (part-rest p in0) at (last .last-block .ensures))
     (rw (part-rest p in1) at (zero .zero-filled .ensures))
     (begun blocks .start .ensures (a .rec) cs)
-    (part-words ws 25 (600 * q) (blocks .whole-blocks .ensures cs))
-    (rw e at (part-words ws (25 + 600 * q) 600 (c .take-in .ensures cs)))
+    (part-words ws 25 (keccakPWords * q) (blocks .whole-blocks .ensures cs))
+    (rw e at (part-words ws (hashMaskWords q) keccakPWords (c .take-in .ensures cs)))
 
 pub masked-absorb-spec : {M : Type 1} → statement M
 masked-absorb-spec =
     tie.close
     (tie.spec
     (λ c κs. search needs)
-    (λ c. search needs)
+    (λ c. omega arith)
     (λ c. omega (arith, whole (start c)))
-    (λ c. search needs)
-    (λ c. search needs)
-    (λ c. search needs)
-    (λ c. search needs)
-    (λ c. search needs)
+    (λ c. omega arith)
+    (λ c. omega arith)
+    (λ c. omega arith)
+    (λ c. omega arith)
+    (λ c. omega arith)
     (λ c κs. search needs)
     (λ c. whole (start (begun c)))
     (λ c. let w = whole (start (begun c)) in search needs)
-    (λ c. search needs)
+    (λ c. omega arith)
     last-block-requires
-    (λ c. omega (arith, whole (start (begun (filled c))), start (begun (filled c)) .pre .0))
-    (λ c. let w = whole (start (begun (filled c))) in let e = start (begun (filled c)) .pre .0 in search needs)
-    (λ c. search needs)
+    (λ c. omega (arith, whole (start (begun (filled c))), start (begun (filled c)) .pre .inputs))
+    (λ c. let w = whole (start (begun (filled c))) in let e = start (begun (filled c)) .pre .inputs in search needs)
+    (λ c. omega arith)
     zero-filled-requires
-    (λ c. search needs)
-    (λ c. search needs)
+    (λ c. omega arith)
+    (λ c. omega arith)
     masks-lent
-    (λ c. search needs)
-    (λ c. search needs)
-    (λ c. search needs)
+    (λ c. omega arith)
+    (λ c. omega arith)
+    (λ c. omega arith)
     (λ c κs. search needs)
     returns)

@@ -6,7 +6,7 @@ use native.Mathlib.Omega.{arith}
 use lib.ListN.{take}
 use Rattle.worksheet.specs.Sharing.{shares}
 use Rattle.worksheet.specs.SharedList.{sharedList}
-use Rattle.masked_fips202.specs.MaskedBytes.{sharedLane}
+use Rattle.masked_fips202.specs.MaskedSteps.{sharedLane}
 use Rattle.fips202.proofs.Absorbing.{lane-part}
 use Rattle.masked_fips202.proofs.MaskedLanes.{Mixing, mixing-start, mixing-turn, mixing-end}
 use Rattle.masked_fips202.proofs.masked_absorb.mix_lanes.Statement.{statement}
@@ -49,26 +49,26 @@ mix-lanes-spec =
     Inv-loop
     μ-loop
     (λ c. mixing-start (omega arith) (search needs) (search needs))
-    (λ c. search needs)
-    (λ c. search needs)
-    (λ c. search needs)
-    (λ c. search needs)
-    (λ c. search needs)
-    (λ c. search needs)
-    (λ c. search needs)
-    (λ c. search needs)
-    (λ c. search needs)
+    (λ c. omega arith)
+    (λ c. omega arith)
+    (λ c. omega arith)
+    (λ c. omega arith)
+    (λ c. omega arith)
+    (λ c. omega arith)
+    (λ c. omega arith)
+    (λ c. omega arith)
+    (λ c. omega arith)
     (λ c κs. search needs)
-    (λ c. search needs)
-    (λ c. search needs)
-    (λ c. search needs)
+    (λ c. omega arith)
+    (λ c. omega arith)
+    (λ c. omega arith)
     (λ c κs. search needs)
     (λ c κs. search needs)
-    (λ c. search needs)
-    (λ c. search needs)
-    (λ c. search needs)
-    (λ c. search needs)
-    (λ c. search needs)
-    (λ c. search needs)
+    (λ c. omega arith)
+    (λ c. omega arith)
+    (λ c. omega arith)
+    (λ c. omega arith)
+    (λ c. omega arith)
+    (λ c. omega arith)
     loop-again
     (λ c. mixing-end (c .before .loop .inv) (search needs)))

@@ -1,6 +1,7 @@
 -- Lane i is mask i of the strip, and one state serves as both shares, since both take the same masks.
 use Prim.Native.Nat.{_-_}
 use mathlib.Core.Path.{refl}
+use native.Mathlib.Omega.{arith}
 use borrow.Author.Needs.{needs}
 use lib.ListN.{getD}
 use Rattle.words.specs.Fill.{Filled, filled-start, filled-turn, filled-end}
@@ -22,11 +23,11 @@ start-spec =
     Inv-loop
     μ-loop
     (λ c. filled-start (search needs))
-    (λ c. search needs)
-    (λ c. search needs)
-    (λ c. search needs)
-    (λ c. search needs)
-    (λ c. search needs)
-    (λ c. search needs)
+    (λ c. omega arith)
+    (λ c. omega arith)
+    (λ c. omega arith)
+    (λ c. omega arith)
+    (λ c. omega arith)
+    (λ c. omega arith)
     (λ c. filled-turn (c .before .before .loop .inv) (search needs) refl)
     (λ c. start-draws (filled-end (c .before .loop .inv) (search needs))))

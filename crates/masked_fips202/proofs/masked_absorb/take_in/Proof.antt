@@ -1,4 +1,4 @@
--- The block's lanes are mixed in and the state is permuted: the program's two parts in turn.
+-- The two calls are the definition's two steps, and only the second draws: the strip is the permutation's.
 use borrow.Author.Needs.{needs}
 use Rattle.worksheet.specs.Ran.{bind}
 use Rattle.masked_fips202.proofs.masked_absorb.take_in.Statement.{statement}

@@ -1,5 +1,6 @@
--- Turn i takes in block i of both shares with 600 masks, as the program's loop does.
-use Prim.Native.Nat.{ℕ, _+_, _-_, _*_, _/_, _≤_}
+-- Turn i takes in block i of both shares with the next masks, as the program's loop does; block i lies within the
+-- input, since i is below its length divided by the rate.
+use Prim.Native.Nat.{ℕ, _+_, _-_, _*_, _/_, _^_, _<_, _≤_}
 use mathlib.Core.Path.{_≡_}
 use mathlib.Core.List.{List}
 use borrow.Author.Needs.{needs}
@@ -12,8 +13,9 @@ use Rattle.worksheet.specs.Prog.{loop}
 use Rattle.worksheet.specs.Ran.{Ran, part-words}
 use Rattle.worksheet.specs.RanLoops.{loop-start, loop-turn}
 use Rattle.worksheet.specs.SharedList.{sharedList}
+use Rattle.masked_keccak.specs.MaskedKeccak.{keccakPWords}
 use Rattle.masked_fips202.specs.MaskedSponge.{sharedBlock}
-use Rattle.masked_fips202.specs.MaskedBytes.{takeIn}
+use Rattle.masked_fips202.specs.MaskedSteps.{takeIn}
 use Rattle.masked_fips202.proofs.MaskedBlocks.{block-within}
 use Rattle.masked_fips202.proofs.masked_absorb.whole_blocks.Statement.{statement}
 use Rattle.masked_fips202.proofs.masked_absorb.whole_blocks.Tie as tie
@@ -25,7 +27,7 @@ Inv-loop in0 in1 rate ws rec₀ s0₀ s1₀ n i₀ rec s0 s1 i =
     × ((cs : List ℕ)
     → Ran (loop i (λ i. takeIn (rate / 8) (sharedBlock rate in0 in1 i))
     (sharedList (s0₀ .lanes) (s1₀ .lanes))) rec₀ ws cs
-    (sharedList (s0 .lanes) (s1 .lanes)) rec (drop (600 * i) ws) cs)
+    (sharedList (s0 .lanes) (s1 .lanes)) rec (drop (keccakPWords * i) ws) cs)
 
 abbrev μ-loop : tie.MeasureT-loop
 μ-loop in0 in1 rate ws rec₀ s0₀ s1₀ n i₀ rec s0 s1 i = length in0 / rate - i
@@ -53,21 +55,26 @@ within c = block-within _ _ _ (search needs)
 
 take-in-requires : tie.Need-take-in-requires Inv-loop μ-loop
 take-in-requires c κs =
-    let w = within (taking c) in
-    record {
-      fits = search needs;
-      whole = search needs;
-      block0 = simp (length-take, length-drop) (omega arith);
-      block1 = simp (length-take, length-drop) (omega arith);
-      masks = simp (length-take, length-drop) (omega arith);
-    }
+    let w = within (taking c) in (
+      record {
+        fits = search needs;
+        whole = search needs;
+        block0 = simp (length-take, length-drop) (omega arith);
+        block1 = simp (length-take, length-drop) (omega arith);
+      },
+      simp (length-take, length-drop) (omega arith),
+    )
+
+-- the input's length is a word
+input-fits : (c : tie.Start Inv-loop μ-loop) → length (c .args .in0 .now) < 2 ^ 64
+input-fits c = omega (arith, c .good .1 .1 .1 .0 .0)
 
 add-i : tie.Need-add-i Inv-loop μ-loop
 add-i c =
     let test = taking (taken c .before) in
     let s = start (test .before) in
     let few = div-le-self (length (s .args .in0 .now)) (s .args .rate) in
-    omega (arith, s .good .1 .1 .1 .0 .0, test .loop-test .taken)
+    omega (arith, input-fits s, test .loop-test .taken)
 
 loop-again : tie.Need-loop-again Inv-loop μ-loop
 loop-again c =
@@ -75,13 +82,13 @@ loop-again c =
     let head = test .before in
     let a = start head .args in
     let i = head .loop .i in
-    let e : 600 * i + 600 ≡ 600 * (i + 1) = omega arith in (
+    let e : keccakPWords * i + keccakPWords ≡ keccakPWords * (i + 1) = omega arith in (
       omega arith,
       rw (add-one i, suc-mul i (a .rate)) (within test),
       λ cs.
           loop-turn _ _ i (head .loop .inv .2 cs)
           (rw (part-rest (i * a .rate) (a .in0 .now), part-rest (i * a .rate) (a .in1 .now), e)
-          at (part-words (a .ws .now) (600 * i) 600 (taken c .take-in .ensures cs))),
+          at (part-words (a .ws .now) (keccakPWords * i) keccakPWords (taken c .take-in .ensures cs))),
     )
 
 returns : tie.Need-returns Inv-loop μ-loop
@@ -96,22 +103,22 @@ whole-blocks-spec =
     (tie.spec
     Inv-loop
     μ-loop
-    (λ c. search needs)
+    (λ c. omega arith)
     (λ c. (omega arith, omega (arith, zero-mul (c .before .before .before .args .rate)), λ cs. loop-start _ _))
-    (λ c. search needs)
-    (λ c. search needs)
-    (λ c. search needs)
-    (λ c. search needs)
-    (λ c. search needs)
-    (λ c. search needs)
-    (λ c. search needs)
-    (λ c. search needs)
-    (λ c. search needs)
-    (λ c. search needs)
-    (λ c. search needs)
-    (λ c. search needs)
+    (λ c. omega arith)
+    (λ c. omega arith)
+    (λ c. omega arith)
+    (λ c. omega arith)
+    (λ c. omega arith)
+    (λ c. omega arith)
+    (λ c. omega arith)
+    (λ c. omega arith)
+    (λ c. omega arith)
+    (λ c. omega arith)
+    (λ c. omega arith)
+    (λ c. omega arith)
     take-in-requires
     add-i
-    (λ c. search needs)
+    (λ c. omega arith)
     loop-again
     returns)

@@ -1,19 +1,20 @@
--- 25 and 600 for each permutation: tested by quotient and remainder, since the product could wrap.
-use Prim.Native.Nat.{ℕ, _+_, _*_}
+-- Quotient and remainder of what is left behind the start's masks decide the same as the product, which could wrap.
+use Prim.Native.Nat.{ℕ}
 use mathlib.Core.Path.{_≡_, sym}
 use mathlib.Core.Bool.{true, false}
 use borrow.Author.Tests.{eq-eqb, ne-eqb}
 use native.Mathlib.Omega.{arith}
 use lib.Dec.{eqb}
+use Rattle.masked_fips202.specs.MaskedSponge.{hashMaskWords}
 use Rattle.masked_fips202.proofs.masked_hash.enough.Statement.{statement}
 use Rattle.masked_fips202.proofs.masked_hash.enough.Tie as tie
 
 -- the test's outcome
-fewer : (n k : ℕ) → (n ≡ 25 + 600 * k → ⊥) → false ≡ eqb n (25 + 600 * k)
-fewer n k h = sym (ne-eqb n (25 + 600 * k) h)
+fewer : (n k : ℕ) → (n ≡ hashMaskWords k → ⊥) → false ≡ eqb n (hashMaskWords k)
+fewer n k h = sym (ne-eqb n (hashMaskWords k) h)
 
-just : (n k : ℕ) → n ≡ 25 + 600 * k → true ≡ eqb n (25 + 600 * k)
-just n k h = sym (eq-eqb n (25 + 600 * k) h)
+just : (n k : ℕ) → n ≡ hashMaskWords k → true ≡ eqb n (hashMaskWords k)
+just n k h = sym (eq-eqb n (hashMaskWords k) h)
 
 pub enough-spec : {M : Type 1} → statement M
 enough-spec =

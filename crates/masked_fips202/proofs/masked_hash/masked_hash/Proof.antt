@@ -1,13 +1,14 @@
 -- The three tests are the three lengths of row 1, and where all are passed the sponge fills the outputs.
 use mathlib.Core.Path.{_≡_, refl, sym, ap, _∙_}
-use Prim.Native.Nat.{ℕ, _+_, _*_}
+use Prim.Native.Nat.{ℕ}
+use native.Mathlib.Omega.{arith}
 use borrow.Author.Needs.{needs}
 use borrow.Author.Tests.{eq-eqb, ne-eqb, eqb-true, not-true, not-false}
 use lib.Dec.{eqb}
 use lib.ListN.{length}
 use Rattle.refusals.specs.Refusals.{answer, sized}
 use Rattle.worksheet.specs.SharedList.{SharedList}
-use Rattle.masked_fips202.specs.MaskedSponge.{permutations}
+use Rattle.masked_fips202.specs.MaskedSponge.{permutations, hashMaskWords}
 use Rattle.masked_fips202.specs.MaskedCalls.{hashAnswer}
 use Rattle.masked_fips202.proofs.masked_hash.masked_hash.Statement.{statement}
 use Rattle.masked_fips202.proofs.masked_hash.masked_hash.Tie as tie
@@ -35,11 +36,12 @@ given c = c .before .before .before
 -- the third test is that of the masks' length
 counted : (c : tie.After-enough)
     → (let a = start (alike c .before) .args in
-    eqb (length (a .masks .now)) (25 + 600 * permutations (a .rate) (length (a .in0 .now)) (length (a .out0 .now)))
+    eqb (length (a .masks .now))
+    (hashMaskWords (permutations (a .rate) (length (a .in0 .now)) (length (a .out0 .now))))
     ≡ c .enough .result)
 counted c =
     let masks = start (alike c .before) .args .masks .now in
-    sym (c .enough .ensures ∙ ap (λ (n : ℕ). eqb (length masks) (25 + 600 * n)) (c .before .permutations .ensures))
+    sym (c .enough .ensures ∙ ap (λ (n : ℕ). eqb (length masks) (hashMaskWords n)) (c .before .permutations .ensures))
 
 returns : tie.Need-returns
 unfolding hashAnswer answer sized
@@ -65,12 +67,8 @@ masked-sponge-requires : tie.Need-masked-sponge-requires
 masked-sponge-requires c κs =
     let tested = c .before .before in
     let both = alike (tested .before) in
-    let p = start (both .before) .pre in
     record {
-      positive = p .0;
-      fits = p .1;
-      whole = p .2;
-      short = p .3;
+      sponge = start (both .before) .pre;
       inputs = both .before .if1 .left;
       outputs = both .if2 .left;
       drawn = eqb-true _ _ (counted (tested .before) ∙ not-false _ (tested .if3 .left));
@@ -100,6 +98,6 @@ masked-hash-spec =
     (λ c κs. search needs)
     returns-3
     masked-sponge-requires
-    (λ c. search needs)
-    (λ c. search needs)
+    (λ c. omega arith)
+    (λ c. omega arith)
     returns-4)

@@ -1,9 +1,10 @@
 -- Absorbing draws the first masks of the strip and squeezing those behind them, as the program does.
-use Prim.Native.Nat.{_+_, _*_, _/_}
 use mathlib.Core.List.{[]}
+use native.Mathlib.Omega.{arith}
 use borrow.Author.Needs.{needs}
 use lib.ListN.{length}
 use Rattle.words.specs.Part.{part-rest}
+use Rattle.masked_fips202.specs.MaskedSponge.{inputBlocks, hashMaskWords}
 use Rattle.masked_fips202.proofs.MaskedHash.{hash-value}
 use Rattle.masked_fips202.proofs.masked_hash.masked_sponge.Statement.{statement}
 use Rattle.masked_fips202.proofs.masked_hash.masked_sponge.Tie as tie
@@ -27,7 +28,7 @@ returns c =
     let squeezed = given c .before in
     let absorbed = squeezing squeezed .before in
     let a = start absorbed .args in
-    let k = 25 + 600 * (length (a .in0 .now) / a .rate + 1) in
+    let k = hashMaskWords (inputBlocks (a .rate) (length (a .in0 .now))) in
     hash-value (a .rate) (a .suffix) (a .in0 .now) (a .in1 .now) (length (a .out0 .now))
     (absorbed .masked-absorb .ensures [])
     (rw (part-rest k (a .masks .now)) at (squeezed .masked-squeeze .ensures []))
@@ -36,16 +37,16 @@ pub masked-sponge-spec : {M : Type 1} → statement M
 masked-sponge-spec =
     tie.close
     (tie.spec
-    (λ c. search needs)
-    (λ c. search needs)
-    (λ c. search needs)
-    (λ c. search needs)
+    (λ c. omega arith)
+    (λ c. omega arith)
+    (λ c. omega arith)
+    (λ c. omega arith)
     (λ c κs. search needs)
-    (λ c. search needs)
-    (λ c. search needs)
-    (λ c. search needs)
-    (λ c. search needs)
+    (λ c. omega arith)
+    (λ c. omega arith)
+    (λ c. omega arith)
+    (λ c. omega arith)
     (λ c κs. search needs)
-    (λ c. search needs)
-    (λ c. search needs)
+    (λ c. omega arith)
+    (λ c. omega arith)
     returns)

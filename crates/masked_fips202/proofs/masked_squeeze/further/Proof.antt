@@ -1,6 +1,6 @@
 -- For no bytes the natural difference n - 1 is 0, which the code says by a branch.
 use mathlib.Core.Path.{sym}
-use borrow.Author.Needs.{needs}
+use native.Mathlib.Omega.{arith}
 use native.Mathlib.Nat.{zero-div}
 use Rattle.masked_fips202.proofs.masked_squeeze.further.Statement.{statement}
 use Rattle.masked_fips202.proofs.masked_squeeze.further.Tie as tie
@@ -10,6 +10,6 @@ further-spec =
     tie.close
     (tie.spec
     (λ c. rw (c .if1 .taken) (sym (zero-div (c .before .args .rate))))
-    (λ c. search needs)
-    (λ c. search needs)
-    (λ c. search needs))
+    (λ c. omega arith)
+    (λ c. omega arith)
+    (λ c. omega arith))

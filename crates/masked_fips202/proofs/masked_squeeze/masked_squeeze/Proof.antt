@@ -1,12 +1,14 @@
 -- Each turn gives out a block of both shares and permutes; what is left behind the last permutation is one block at
 -- most, so that the outputs hold the bytes of the states that the program goes through.
-use Prim.Native.Nat.{_+_, _-_, _*_, _/_, _≤_}
+use Prim.Native.Nat.{_+_, _-_, _*_, _^_, _<_, _≤_}
 use mathlib.Core.Path.{_≡_, refl, sym, _∙_}
 use borrow.Author.Needs.{needs}
 use native.Mathlib.Omega.{arith}
 use lib.ListN.{length, length-take, length-drop}
 use Rattle.worksheet.specs.Ran.{part-words}
+use Rattle.masked_keccak.specs.MaskedKeccak.{keccakPWords}
 use Rattle.masked_keccak.specs.SharedRows.{sharedState}
+use Rattle.masked_fips202.specs.MaskedSponge.{furtherBlocks}
 use Rattle.masked_fips202.proofs.MaskedBlocks.{block-within, rest-within}
 use Rattle.masked_fips202.proofs.MaskedOutput.{Squeezing, squeezing-start, squeezing-turn, squeezing-end}
 use Rattle.masked_fips202.proofs.masked_squeeze.masked_squeeze.Statement.{statement}
@@ -55,6 +57,10 @@ resting0 c = third c .before .before
 
 -- ---- facts
 
+-- the output's length is a word
+output-fits : (c : tie.Start Inv-loop μ-loop) → length (c .args .out0 .now) < 2 ^ 64
+output-fits c = omega (arith, c .good .1 .1 .1 .1 .1 .0 .0)
+
 -- a whole block lies within the output
 within : (c : tie.In-loop Inv-loop μ-loop)
     → (let a = start (c .before .before) .args in c .before .loop .i * a .rate + a .rate ≤ length (a .out0 .now) - 1)
@@ -91,7 +97,7 @@ loop-again c =
     let ws = start (head .before) .args .ws .now in
     let m = head .before .further .ensures in
     squeezing-turn (head .loop .inv) (omega arith) (first gave0 .extract .ensures) (second gave1 .extract2 .ensures)
-    (λ cs. part-words ws (600 * head .loop .i) 600 (p .permute .ensures cs))
+    (λ cs. part-words ws (keccakPWords * head .loop .i) keccakPWords (p .permute .ensures cs))
 
 returns : tie.Need-returns Inv-loop μ-loop
 returns c cs =
@@ -103,7 +109,7 @@ returns c cs =
     let s = start (head .before) in
     let i = head .loop .i in
     let v = head .loop .inv in
-    let q : (length (s .args .out0 .now) - 1) / s .args .rate ≡ i =
+    let q : furtherBlocks (s .args .rate) (length (s .args .out0 .now)) ≡ i =
     omega (arith, head .before .further .ensures, v .within, rested .loop-test .left) in
     let m : head .before .further .result ≡ i = head .before .further .ensures ∙ q in
     rw (m, v .long0, v .long1, q)
@@ -118,34 +124,34 @@ masked-squeeze-spec =
     μ-loop
     (λ c κs. search needs)
     (λ c. squeezing-start refl (sym (start c .pre .long)))
-    (λ c. search needs)
-    (λ c. omega (arith, within c, start (c .before .before) .good .1 .1 .1 .1 .1 .0 .0))
-    (λ c. search needs)
-    (λ c. search needs)
-    (λ c. search needs)
+    (λ c. omega arith)
+    (λ c. omega (arith, within c, output-fits (start (c .before .before))))
+    (λ c. omega arith)
+    (λ c. omega arith)
+    (λ c. omega arith)
     (λ c. let w = within c in search needs)
     (λ c κs. simp (length-take, length-drop) (omega (arith, within (c .before))))
-    (λ c. search needs)
-    (λ c. search needs)
+    (λ c. omega arith)
+    (λ c. omega arith)
     (λ c. let w = within (giving0 c) in search needs)
     (λ c κs. simp (length-take, length-drop) (omega (arith, within (giving0 (c .before)))))
-    (λ c. search needs)
-    (λ c. search needs)
-    (λ c. search needs)
-    (λ c. search needs)
+    (λ c. omega arith)
+    (λ c. omega arith)
+    (λ c. omega arith)
+    (λ c. omega arith)
     (λ c κs. simp (length-take, length-drop) (omega (arith, within (giving0 (giving1 (c .before))))))
-    (λ c. search needs)
-    (λ c. search needs)
+    (λ c. omega arith)
+    (λ c. omega arith)
     loop-again
-    (λ c. let w = rest c in omega (arith, start (c .before .before) .good .1 .1 .1 .1 .1 .0 .0))
+    (λ c. let w = rest c in omega (arith, output-fits (start (c .before .before))))
     (λ c. let w = rest c in omega (arith, c .before .loop .inv .long0))
     (λ c. let w = rest c in let e = c .before .loop .inv .long0 in search needs)
-    (λ c. search needs)
+    (λ c. omega arith)
     rest0-fits
     (λ c. let w = rest (resting0 c) in omega (arith, resting0 c .before .loop .inv .long1))
     (λ c. let w = rest (resting0 c) in let e = resting0 c .before .loop .inv .long1 in search needs)
-    (λ c. search needs)
+    (λ c. omega arith)
     rest1-fits
-    (λ c. search needs)
-    (λ c. search needs)
+    (λ c. omega arith)
+    (λ c. omega arith)
     returns)

@@ -4,7 +4,6 @@ use Prim.Native.Nat.{_-_}
 use native.Mathlib.Omega.{arith}
 use lib.ListN.{length, getD}
 use Rattle.words.specs.Fill.{Filled, filled-start, filled-turn, filled-end}
-use borrow.Author.Needs.{needs}
 use Rattle.masked_fips202.proofs.masked_words.first_lanes.Statement.{statement}
 use Rattle.masked_fips202.proofs.masked_words.first_lanes.Tie as tie
 
@@ -25,12 +24,12 @@ first-lanes-spec =
     Inv-loop
     μ-loop
     (λ c. (refl, filled-start refl))
-    (λ c. search needs)
-    (λ c. search needs)
-    (λ c. search needs)
-    (λ c. search needs)
-    (λ c. search needs)
-    (λ c. search needs)
+    (λ c. omega arith)
+    (λ c. omega arith)
+    (λ c. omega arith)
+    (λ c. omega arith)
+    (λ c. omega arith)
+    (λ c. omega arith)
     stored
-    (λ c. search needs)
+    (λ c. omega arith)
     (λ c. filled-end (c .before .loop .inv .1) (omega arith)))

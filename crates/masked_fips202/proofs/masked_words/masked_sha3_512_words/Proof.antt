@@ -1,7 +1,7 @@
 -- SHA3-512's eight words are less than a block of 72 bytes, so the sponge serves.
 use native.Mathlib.Omega.{arith}
-use Rattle.masked_fips202.specs.MaskedWords.{maskedSha3-512Words, sha3-512Masks}
-use borrow.Author.Needs.{needs}
+use Rattle.masked_fips202.specs.MaskedWords.{maskedSha3-512Words, sha3-512MaskWords}
+use Rattle.masked_fips202.specs.MaskedWordsLaws.{sha3-512-fits}
 use Rattle.masked_fips202.proofs.masked_words.masked_sha3_512_words.Statement.{statement}
 use Rattle.masked_fips202.proofs.masked_words.masked_sha3_512_words.Tie as tie
 
@@ -23,24 +23,28 @@ abbrev start : tie.After-sponge-words-arg2 → tie.Start
 start c = inputs (lent c) .before
 
 sponge-words-requires : tie.Need-sponge-words-requires
-unfolding sha3-512Masks
+unfolding sha3-512MaskWords
 sponge-words-requires c κs =
-    let s = start c in (
-      (omega arith, omega arith, omega arith, omega arith),
-      (omega arith, omega arith, omega arith, rw (s .pre .2) (s .pre .1)),
-    )
+    let s = start c in
+    record {
+      sponge = sha3-512-fits;
+      inputs = s .pre .inputs;
+      outputs = omega arith;
+      block = omega arith;
+      masks = rw (s .pre .long0) (s .pre .masks);
+    }
 
 returns : tie.Need-returns
-unfolding maskedSha3-512Words sha3-512Masks
+unfolding maskedSha3-512Words sha3-512MaskWords
 returns c cs =
     let o = sponge (filled c) in
-    rw (start (o .before) .pre .2) at (o .sponge-words .ensures cs)
+    rw (start (o .before) .pre .long0) at (o .sponge-words .ensures cs)
 
 pub masked-sha3-512-words-spec : {M : Type 1} → statement M
 masked-sha3-512-words-spec =
     tie.close
     (tie.spec
     sponge-words-requires
-    (λ c. search needs)
-    (λ c. search needs)
+    (λ c. omega arith)
+    (λ c. omega arith)
     returns)

@@ -2,7 +2,7 @@
 -- drawn.
 use native.Mathlib.Omega.{arith}
 use lib.ListN.{length}
-use Rattle.masked_fips202.specs.MaskedWordsLaws.{spongeMasks-one}
+use Rattle.masked_fips202.specs.MaskedWordsLaws.{spongeMaskWords-one}
 use Rattle.masked_fips202.proofs.OneBlockSponge.{sponge-one}
 use borrow.Author.Needs.{needs}
 use Rattle.masked_fips202.proofs.masked_words.sponge_words.Statement.{statement}
@@ -31,9 +31,9 @@ masked-absorb-requires : tie.Need-masked-absorb-requires
 masked-absorb-requires c κs =
     let s = start (lent c) in
     let e =
-    spongeMasks-one (s .args .rate) (length (s .args .in0 .now)) (length (s .args .o0 .now)) (omega arith)
+    spongeMaskWords-one (s .args .rate) (length (s .args .in0 .now)) (length (s .args .o0 .now)) (omega arith)
     (omega arith) in
-    (omega arith, omega arith, omega arith, omega arith, omega arith, rw e at (s .pre .1 .3))
+    record { sponge = s .pre .sponge; inputs = s .pre .inputs; masks = rw e at (s .pre .masks) }
 
 returns : tie.Need-returns
 returns c cs =
@@ -43,8 +43,8 @@ returns c cs =
     let s = start (lent (m .before)) in
     let a = s .args in
     sponge-one (a .rate) (a .suffix) (length (a .o0 .now)) (length (a .o1 .now)) (a .in0 .now) (a .in1 .now)
-    (omega (arith, s .pre .0 .0, s .pre .0 .2)) (s .pre .1 .2) (omega (arith, s .pre .1 .1)) (l0 .first-lanes .ensures)
-    (l1 .first-lanes2 .ensures) (m .masked-absorb .ensures cs)
+    (omega (arith, s .pre .sponge .positive, s .pre .sponge .whole)) (s .pre .block) (omega (arith, s .pre .outputs))
+    (l0 .first-lanes .ensures) (l1 .first-lanes2 .ensures) (m .masked-absorb .ensures cs)
 
 pub sponge-words-spec : {M : Type 1} → statement M
 sponge-words-spec =
@@ -53,6 +53,6 @@ sponge-words-spec =
     masked-absorb-requires
     (λ c κs. search needs)
     (λ c κs. search needs)
-    (λ c. search needs)
-    (λ c. search needs)
+    (λ c. omega arith)
+    (λ c. omega arith)
     returns)

@@ -6,7 +6,7 @@ use native.Mathlib.Omega.{arith}
 use lib.ListN.{length, take, drop, length-take, length-drop}
 use Rattle.words.specs.Tab.{tab}
 use Rattle.worksheet.specs.Ran.{bind, over, part-words}
-use Rattle.worksheet.specs.SharedList.{zip}
+use Rattle.worksheet.specs.Zip.{zip}
 use Rattle.masked_keccak.specs.SharedRows.{maskedChiRows, maskedChi-rows}
 use Rattle.masked_keccak.proofs.ReadRows.{rows-ran}
 use Rattle.masked_keccak.proofs.chi.chi.Statement.{statement}

@@ -3,7 +3,7 @@ use borrow.Author.Needs.{needs}
 use Rattle.words.specs.Tab.{tab}
 use Rattle.worksheet.specs.Ran.{next-word}
 use Rattle.worksheet.specs.RanLoops.{times-start, times-turn}
-use Rattle.worksheet.specs.SharedList.{zip}
+use Rattle.worksheet.specs.Zip.{zip}
 use Rattle.masked_keccak.specs.SharedRows.{maskedChiRow}
 use Rattle.masked_keccak.proofs.chi.chi_row.Statement.{statement}
 use Rattle.masked_keccak.proofs.chi.chi_row.Tie as tie

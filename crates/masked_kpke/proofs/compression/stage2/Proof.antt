@@ -1,11 +1,13 @@
--- At depth 1 a polynomial has four planes, and they are the message's four words.
-use mathlib.Core.Path.{_∙_}
-use native.Mathlib.Omega.{arith}
+-- At depth 1 each of the four groups has one plane: the message's four words.
+use mathlib.Core.Path.{refl, _∙_}
 use Rattle.worksheet.specs.Ran.{bind, over}
 use Rattle.worksheet.specs.Sharing.{none}
-use Rattle.worksheet.specs.SharedList.{sharedList}
+use Rattle.worksheet.specs.SharedList.{SharedList, sharedList}
 use Rattle.worksheet.specs.SharedListLaws.{unzip-zip}
-use Rattle.stages.specs.Worksheet.{stage2}
+use Rattle.stages.specs.Worksheet.{compressPoly, stage2}
+use Rattle.masked_kpke.proofs.Laid.{flatten-zips}
+use Rattle.masked_kpke.proofs.StoredRun.{ran-as}
+use native.Mathlib.Omega.{arith}
 use borrow.Author.Needs.{needs}
 use Rattle.masked_kpke.proofs.compression.stage2.Statement.{statement}
 use Rattle.masked_kpke.proofs.compression.stage2.Tie as tie
@@ -15,32 +17,30 @@ use Rattle.masked_kpke.proofs.compression.stage2.Tie as tie
 abbrev filled : tie.After-slice-known4 → tie.After-m0
 filled c = c .before .before .before
 
-abbrev lent : tie.After-compress-poly-arg2 → tie.After-slice-known
+abbrev lent : tie.After-compress-groups-arg2 → tie.After-slice-known
 lent c = c .before .before .before
 
 abbrev inputs : tie.After-slice-known → tie.After-shared-slice-known
 inputs c = c .before .before .before
 
-compress-poly-requires : tie.Need-compress-poly-requires
-compress-poly-requires c κs =
-    let s = inputs (lent c) .before in
-    ((omega arith, s .pre .1), (s .pre .0, s .pre .2))
+-- the words that the call leaves
+abbrev message : tie.After-compress-groups → SharedList
+message c = let o = c .compress-groups .last .1 .1 .1 .1 .1 .1 in sharedList (o .0) (o .1 .0)
 
 returns : tie.Need-returns
-unfolding stage2
+unfolding stage2 compressPoly
 returns c cs =
-    let p = filled c .before .compress-poly in
-    let m = sharedList (p .last .1 .1 .1 .1 .1 .0) (p .last .1 .1 .1 .1 .1 .1 .0) in
-    let s = inputs (lent (filled c .before .before)) .before in
-    let long0 = p .kept .1 .1 .1 .1 .1 .0 ∙ s .pre .2 .long0 in
-    let long1 = p .kept .1 .1 .1 .1 .1 .1 .0 ∙ s .pre .2 .long1 in
-    bind _ (p .ensures cs) (rw (unzip-zip 4 m none long0 long1) over)
+    let p = filled c .before in
+    let k = p .compress-groups .kept .1 .1 .1 .1 .1 .1 in
+    let m = inputs (lent (p .before)) .before .pre .out in
+    bind _ (ran-as refl (flatten-zips 1 4 (message p)) (bind _ (p .compress-groups .ensures cs) over))
+    (rw (unzip-zip 4 (message p) none (k .0 ∙ m .long0) (k .1 .0 ∙ m .long1)) over)
 
 pub stage2-spec : {M : Type 1} → statement M
 stage2-spec =
     tie.close
     (tie.spec
-    compress-poly-requires
-    (λ c. search needs)
-    (λ c. search needs)
+    (λ c κs. search needs)
+    (λ c. omega arith)
+    (λ c. omega arith)
     returns)

@@ -1,11 +1,10 @@
--- Turn j copies plane j + 13 of both shares to place j.
+-- Dropping 13 of d + 13 planes leaves those from place 13 on, which the turns copy in order.
 use Prim.Native.Nat.{_-_, _≤_}
 use mathlib.Core.Path.{_≡_}
 use native.Mathlib.Omega.{arith}
 use lib.ListN.{length, length-set}
 use Rattle.worksheet.specs.SharedList.{sharedList}
 use Rattle.masked_kpke.proofs.Compressed.{Copied, copied-start, copied-turn, copied-end}
-use borrow.Author.Needs.{needs}
 use Rattle.masked_kpke.proofs.compression.top_planes.Statement.{statement}
 use Rattle.masked_kpke.proofs.compression.top_planes.Tie as tie
 
@@ -33,19 +32,19 @@ top-planes-spec =
     Inv-loop
     μ-loop
     (λ c. (omega arith, omega arith, omega arith, copied-start))
-    (λ c. search needs)
-    (λ c. search needs)
-    (λ c. search needs)
-    (λ c. search needs)
-    (λ c. search needs)
-    (λ c. search needs)
-    (λ c. search needs)
-    (λ c. search needs)
-    (λ c. search needs)
-    (λ c. search needs)
-    (λ c. search needs)
-    (λ c. search needs)
+    (λ c. omega arith)
+    (λ c. omega arith)
+    (λ c. omega arith)
+    (λ c. omega arith)
+    (λ c. omega arith)
+    (λ c. omega arith)
+    (λ c. omega arith)
+    (λ c. omega arith)
+    (λ c. omega arith)
+    (λ c. omega arith)
+    (λ c. omega arith)
+    (λ c. omega arith)
     loop-again
-    (λ c. search needs)
-    (λ c. search needs)
+    (λ c. omega arith)
+    (λ c. omega arith)
     (λ c. copied-end (c .before .loop .inv .3) _ (omega arith)))

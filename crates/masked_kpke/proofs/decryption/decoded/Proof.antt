@@ -36,5 +36,5 @@ decoded-spec =
     (tie.spec
     (λ c κs. search needs)
     decompress-all-requires
-    (λ c. search needs)
+    (λ c. omega arith)
     returns)

@@ -6,6 +6,7 @@ use Rattle.words.specs.Part.{part-rest}
 use Rattle.codec.specs.Bytes.{byteDecode}
 use Rattle.codec.specs.Compress.{decompress}
 use Rattle.kpke.specs.KPke.{secondDecoded}
+use native.Mathlib.Omega.{arith}
 use borrow.Author.Needs.{needs}
 use Rattle.masked_kpke.proofs.decryption.decoded_second.Statement.{statement}
 use Rattle.masked_kpke.proofs.decryption.decoded_second.Tie as tie
@@ -31,9 +32,9 @@ pub decoded-second-spec : {M : Type 1} → statement M
 decoded-second-spec =
     tie.close
     (tie.spec
-    (λ c. search needs)
-    (λ c. search needs)
-    (λ c. search needs)
+    (λ c. omega arith)
+    (λ c. omega arith)
+    (λ c. omega arith)
     (λ c κs. search needs)
-    (λ c. search needs)
+    (λ c. omega arith)
     returns)

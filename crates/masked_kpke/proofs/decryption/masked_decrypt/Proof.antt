@@ -1,4 +1,5 @@
 -- Stage 1's residues are what stage 2 compresses; the two runs follow each other.
+use native.Mathlib.Omega.{arith}
 use Rattle.worksheet.specs.Ran.{bind}
 use Rattle.stages.specs.Worksheet.{maskedDecrypt}
 use borrow.Author.Needs.{needs}
@@ -25,33 +26,28 @@ inputs c = c .before .before .before
 abbrev start : tie.After-w1 → tie.Start
 start c = inputs (arrays c) .before .before
 
--- ---- facts
-
-stage1-requires : tie.Need-stage1-requires
-stage1-requires c κs = let s = start c in (s .pre .0 .0, s .pre .0 .1, search needs)
-
 stage2-requires : tie.Need-stage2-requires
 stage2-requires c κs =
     let a = noisy (lent c) in
-    let s = start (a .before) in
-    (a .stage1 .ensures .1, s .pre .1 .0, s .pre .1 .1)
+    let p = start (a .before) .pre in
+    record { depth = omega arith; input = a .stage1 .ensures .range; words = p .words; out = p .out }
 
 returns : tie.Need-returns
 unfolding maskedDecrypt
 returns c cs =
     let b = filled c .before in
-    bind _ (noisy (lent (b .before)) .stage1 .ensures .0 _ cs) (b .stage2 .ensures cs)
+    bind _ (noisy (lent (b .before)) .stage1 .ensures .ran _ cs) (b .stage2 .ensures cs)
 
 pub masked-decrypt-spec : {M : Type 1} → statement M
 masked-decrypt-spec =
     tie.close
     (tie.spec
-    (λ c. search needs)
-    (λ c. search needs)
-    stage1-requires
-    (λ c. search needs)
-    (λ c. search needs)
+    (λ c. omega arith)
+    (λ c. omega arith)
+    (λ c κs. search needs)
+    (λ c. omega arith)
+    (λ c. omega arith)
     stage2-requires
-    (λ c. search needs)
-    (λ c. search needs)
+    (λ c. omega arith)
+    (λ c. omega arith)
     returns)

@@ -7,6 +7,7 @@ use Rattle.ring.specs.Sum.{below-sub}
 use Rattle.worksheet.specs.SharedList.{sharedList}
 use Rattle.kpke.specs.Parameters.{mlKem768}
 use Rattle.masked_kpke.proofs.Decrypted.{stage1-of}
+use native.Mathlib.Omega.{arith}
 use borrow.Author.Needs.{needs}
 use Rattle.masked_kpke.proofs.decryption.stage1.Statement.{statement}
 use Rattle.masked_kpke.proofs.decryption.stage1.Tie as tie
@@ -50,33 +51,36 @@ returns c =
     let t₀ = product0 (z .before) in
     let v = second (read (t₀ .before)) in
     let u = first (v .before) in
-    let s = start (inputs (u .before)) in (
-      stage1-of mlKem768 (s .args .c .now) (u .transformed-first .ensures)
+    let s = start (inputs (u .before)) in
+    record {
+      ran =
+          stage1-of mlKem768 (s .args .c .now) (u .transformed-first .ensures)
           (sharedList (s .args .s0 .now) (s .args .s1 .now))
           (t₀ .take-product .ensures ∙ ap₂ sub (v .decoded-second .ensures) refl)
-          (t₁ .take-product2 .ensures ∙ ap₂ sub (z .clear .ensures ∙ ap₂ replicate (s .pre .2 .long1) refl) refl)
-          (c .enter-both .ensures),
-      record {
-        long0 = search needs;
-        long1 = search needs;
-        below0 = rw (t₀ .take-product .ensures) (below-sub _ _);
-        below1 = rw (t₁ .take-product2 .ensures) (below-sub _ _);
-      },
-    )
+          (t₁ .take-product2 .ensures ∙ ap₂ sub (z .clear .ensures ∙ ap₂ replicate (s .pre .out .long1) refl) refl)
+          (c .enter-both .ensures);
+      range =
+          record {
+            long0 = search needs;
+            long1 = search needs;
+            below0 = rw (t₀ .take-product .ensures) (below-sub _ _);
+            below1 = rw (t₁ .take-product2 .ensures) (below-sub _ _);
+          };
+    }
 
 pub stage1-spec : {M : Type 1} → statement M
 stage1-spec =
     tie.close
     (tie.spec
-    (λ c. search needs)
+    (λ c. omega arith)
     (λ c κs. search needs)
     (λ c κs. search needs)
-    (λ c. search needs)
+    (λ c. omega arith)
     (λ c κs. search needs)
     (λ c κs. search needs)
-    (λ c. search needs)
+    (λ c. omega arith)
     (λ c κs. search needs)
     (λ c κs. search needs)
-    (λ c. search needs)
-    (λ c. search needs)
+    (λ c. omega arith)
+    (λ c. omega arith)
     returns)

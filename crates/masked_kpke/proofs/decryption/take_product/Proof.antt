@@ -3,6 +3,7 @@ use mathlib.Core.Path.{refl, ap, ap₂, _∙_}
 use Rattle.ring.specs.Polynomial.{sub}
 use Rattle.ring.specs.Transform.{inverseNtt}
 use Rattle.masked_kpke.proofs.Vectors.{dot-whole}
+use native.Mathlib.Omega.{arith}
 use borrow.Author.Needs.{needs}
 use Rattle.masked_kpke.proofs.decryption.take_product.Statement.{statement}
 use Rattle.masked_kpke.proofs.decryption.take_product.Tie as tie
@@ -29,11 +30,11 @@ pub take-product-spec : {M : Type 1} → statement M
 take-product-spec =
     tie.close
     (tie.spec
-    (λ c. search needs)
+    (λ c. omega arith)
     (λ c κs. search needs)
-    (λ c. search needs)
+    (λ c. omega arith)
     (λ c κs. search needs)
-    (λ c. search needs)
+    (λ c. omega arith)
     (λ c κs. search needs)
-    (λ c. search needs)
+    (λ c. omega arith)
     returns)

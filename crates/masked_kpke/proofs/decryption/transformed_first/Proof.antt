@@ -1,6 +1,7 @@
 -- The first 960 bytes hold u at depth 10, polynomial by polynomial; each is decoded and then transformed.
 use Rattle.kpke.specs.Parameters.{mlKem768}
 use Rattle.masked_kpke.proofs.Decrypted.{transformed-first}
+use native.Mathlib.Omega.{arith}
 use borrow.Author.Needs.{needs}
 use Rattle.masked_kpke.proofs.decryption.transformed_first.Statement.{statement}
 use Rattle.masked_kpke.proofs.decryption.transformed_first.Tie as tie
@@ -29,10 +30,10 @@ pub transformed-first-spec : {M : Type 1} → statement M
 transformed-first-spec =
     tie.close
     (tie.spec
-    (λ c. search needs)
-    (λ c. search needs)
-    (λ c. search needs)
+    (λ c. omega arith)
+    (λ c. omega arith)
+    (λ c. omega arith)
     (λ c κs. search needs)
     (λ c κs. search needs)
-    (λ c. search needs)
+    (λ c. omega arith)
     returns)

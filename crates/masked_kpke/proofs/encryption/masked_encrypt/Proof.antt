@@ -13,10 +13,10 @@ use Rattle.masked_kpke.proofs.encryption.masked_encrypt.Tie as tie
 
 -- ---- places, from the last call back: stages 6 and 7, stage 5, stage 4, and the start
 
-abbrev filled : tie.After-slice-known4 → tie.After-w0
+abbrev filled : tie.After-slice-known4 → tie.After-planes0
 filled c = c .before .before .before
 
-abbrev encrypted : tie.After-w0 → tie.After-encrypt-with
+abbrev encrypted : tie.After-planes0 → tie.After-encrypt-with
 encrypted c = c .before .before .before
 
 abbrev outputs : tie.After-encrypt-with-arg3 → tie.After-mu13
@@ -56,8 +56,14 @@ start-of c = start (message (strip (noise (buffers c) .before)))
 
 stage5-requires : tie.Need-stage5-requires
 stage5-requires c κs =
-    let s = start (message (strip c)) in
-    ((s .pre .0 .2, omega (arith, s .pre .1 .0), masks-rest 256 7168 (omega arith) (s .pre .1 .1)), search needs)
+    let p = start (message (strip c)) .pre in
+    record {
+      numbers = omega arith;
+      coins = p .coins;
+      words = omega (arith, p .words);
+      coeffs = masks-rest 256 7168 (omega arith) (p .coeffs);
+      out = search needs;
+    }
 
 encrypt-with-requires : tie.Need-encrypt-with-requires
 encrypt-with-requires c κs =
@@ -65,14 +71,17 @@ encrypt-with-requires c κs =
     let m = message (strip (n .before)) in
     let s = start m in
     let k = n .stage5 .kept .1 .1 .1 .1 .1 in
-    let l = m .stage4 .kept .1 .1 .1 .1 in (
-      (
-        s .pre .0 .0,
-        record { long0 = omega (arith, k .0); long1 = omega (arith, k .1 .0) },
-        length-rest 4375 1016 (s .args .ws .now) (s .pre .1 .0),
-      ),
-      (record { long0 = omega (arith, l .0); long1 = omega (arith, l .1 .0) }, s .pre .1 .2),
-    )
+    let l = m .stage4 .kept .1 .1 .1 .1 in
+    record {
+      input =
+          record {
+            key = s .pre .key;
+            noise = record { long0 = omega (arith, k .0); long1 = omega (arith, k .1 .0) };
+            message = record { long0 = omega (arith, l .0); long1 = omega (arith, l .1 .0) };
+          };
+      words = length-rest 4375 1016 (s .args .ws .now) (s .pre .words);
+      out = s .pre .out;
+    }
 
 returns : tie.Need-returns
 unfolding maskedEncrypt encryptWith
@@ -89,23 +98,23 @@ pub masked-encrypt-spec : {M : Type 1} → statement M
 masked-encrypt-spec =
     tie.close
     (tie.spec
-    (λ c. search needs)
-    (λ c. search needs)
+    (λ c. omega arith)
+    (λ c. omega arith)
     (λ c κs. search needs)
-    (λ c. search needs)
-    (λ c. search needs)
-    (λ c. search needs)
-    (λ c. search needs)
-    (λ c. search needs)
+    (λ c. omega arith)
+    (λ c. omega arith)
+    (λ c. omega arith)
+    (λ c. omega arith)
+    (λ c. omega arith)
     stage5-requires
-    (λ c. search needs)
-    (λ c. search needs)
-    (λ c. search needs)
-    (λ c. search needs)
-    (λ c. omega (arith, start-of c .pre .1 .0))
-    (λ c. omega (arith, start-of c .pre .1 .0))
-    (λ c. search needs)
+    (λ c. omega arith)
+    (λ c. omega arith)
+    (λ c. omega arith)
+    (λ c. omega arith)
+    (λ c. omega (arith, start-of c .pre .words))
+    (λ c. omega (arith, start-of c .pre .words))
+    (λ c. omega arith)
     encrypt-with-requires
-    (λ c. search needs)
-    (λ c. search needs)
+    (λ c. omega arith)
+    (λ c. omega arith)
     returns)

@@ -1,15 +1,19 @@
 -- The two slices are the shares of the coins' bytes and n, as the definition puts them together, and are hashed.
-use mathlib.Core.Path.{refl, ap}
-use mathlib.Core.List.{[], _∷_}
+use mathlib.Core.List.{List}
+use Prim.Native.Nat.{ℕ}
 use native.Mathlib.Omega.{arith}
+use Rattle.worksheet.specs.Prog.{Prog}
 use Rattle.worksheet.specs.SharedList.{SharedList}
-use Rattle.masked_fips202.specs.MaskedWords.{maskedShake256Words}
+use Rattle.masked_fips202.specs.MaskedWords.{maskedShake256Words, shake256MaskWords}
 use Rattle.masked_kpke.proofs.Sampled.{bits-words}
-use Rattle.masked_kpke.proofs.SharedInput.{input-of, length-input}
-use Rattle.masked_kpke.proofs.StoredRun.{ran-as}
+use Rattle.masked_kpke.proofs.SharedInput.{hash-masks, hash-ran}
 use borrow.Author.Needs.{needs}
 use Rattle.masked_kpke.proofs.noise.noise_bits.Statement.{statement}
 use Rattle.masked_kpke.proofs.noise.noise_bits.Tie as tie
+
+-- the hash
+abbrev words16 : List ℕ → List ℕ → Prog SharedList
+words16 b0 b1 = maskedShake256Words b0 b1 16
 
 -- ---- places: after the hash, after each share of its input, and the start
 
@@ -41,49 +45,37 @@ start c = inputs (arrays c) .before .before
 
 masked-shake256-words-requires : tie.Need-masked-shake256-words-requires
 masked-shake256-words-requires c κs =
-    let z = share1 (lent c) in
-    let p = share0 z in
-    let s = start p in
-    let a = s .args in
-    let coins = s .pre .0 in
-    let r0 = a .r0 .now in
-    let r1 = a .r1 .now in
-    let l = length-input r0 r1 (a .n ∷ []) (coins .long0) (coins .long1) (p .with-public .ensures) in (
-      omega arith,
-      omega (arith, s .pre .2 .long0, s .pre .2 .long1),
-      omega (arith, s .pre .2 .long0),
-      rw (l, s .pre .2 .long0, bits-words) (s .pre .1),
-    )
+    let p = share0 (share1 (lent c)) in
+    let g = start p .pre in
+    let m = hash-masks g words16 (λ k. shake256MaskWords k 16) bits-words (p .with-public .ensures) in
+    record {
+      inputs = omega arith;
+      outputs = omega (arith, g .out .long0, g .out .long1);
+      block = omega (arith, g .out .long0);
+      masks = rw (g .out .long0, m) (g .words);
+    }
 
 returns : tie.Need-returns
 returns c cs =
     let h = hashed (filled c) in
     let z = share1 (lent (h .before)) in
     let p = share0 z in
-    let s = start p in
-    let a = s .args in
-    let coins = s .pre .0 in
-    let r0 = a .r0 .now in
-    let r1 = a .r1 .now in
-    let l = length-input r0 r1 (a .n ∷ []) (coins .long0) (coins .long1) (p .with-public .ensures) in
-    let e =
-    input-of r0 r1 (a .n ∷ []) (coins .long0) (coins .long1) (p .with-public .ensures)
-    (z .with-zeros .ensures) in
-    ran-as (ap (λ (i : SharedList). maskedShake256Words (i .s0) (i .s1) 16) e) refl
-    (rw (l, s .pre .2 .long0, bits-words) at (h .masked-shake256-words .ensures cs))
+    let g = start p .pre in
+    hash-ran g words16 (λ k. shake256MaskWords k 16) bits-words (p .with-public .ensures) (z .with-zeros .ensures)
+    (rw (g .out .long0) at (h .masked-shake256-words .ensures cs))
 
 pub noise-bits-spec : {M : Type 1} → statement M
 noise-bits-spec =
     tie.close
     (tie.spec
-    (λ c. search needs)
-    (λ c. search needs)
+    (λ c. omega arith)
+    (λ c. omega arith)
     (λ c κs. search needs)
-    (λ c. search needs)
+    (λ c. omega arith)
     (λ c κs. search needs)
-    (λ c. search needs)
-    (λ c. search needs)
+    (λ c. omega arith)
+    (λ c. omega arith)
     masked-shake256-words-requires
-    (λ c. search needs)
-    (λ c. search needs)
+    (λ c. omega arith)
+    (λ c. omega arith)
     returns)

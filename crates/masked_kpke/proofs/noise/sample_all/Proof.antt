@@ -1,14 +1,12 @@
 -- Coefficient i's four bits stand in one word, at 4 (i % 16); turn i samples it with four masks and stores it.
-use Prim.Native.Nat.{ℕ, _+_, _-_, _*_, _≤_}
+use Prim.Native.Nat.{_+_, _-_, _*_}
 use mathlib.Core.Path.{_≡_}
-use mathlib.Core.List.{List}
 use native.Mathlib.Omega.{arith}
-use lib.ListN.{length, length-set, drop}
-use Rattle.worksheet.specs.Prog.{times}
-use Rattle.worksheet.specs.Ran.{Ran, part-coeffs}
+use Rattle.worksheet.specs.Prog.{coeff, times}
+use Rattle.worksheet.specs.Ran.{Draws, part-coeffs}
 use Rattle.worksheet.specs.RanLoops.{times-start, times-turn}
-use Rattle.worksheet.specs.SharedList.{sharedList, zip}
-use Rattle.worksheet.specs.SharedListLaws.{zip-zero, zip-set}
+use Rattle.worksheet.specs.SharedList.{sharedList}
+use Rattle.worksheet.specs.StoredSharings.{StoredSharings, sharings-start, sharings-turn, sharings-end}
 use Rattle.masked_sampler.specs.Coefficient.{sampler}
 use Rattle.stages.specs.Moves.{stringBit}
 use Rattle.masked_kpke.specs.SliceLaws.{masks-rest}
@@ -20,10 +18,10 @@ use Rattle.masked_kpke.proofs.noise.sample_all.Tie as tie
 -- i coefficients sampled
 abbrev Inv-loop : tie.InvT-loop
 Inv-loop o0 o1 cs f0₀ f1₀ rec₀ i₀ f0 f1 rec i =
-    (i ≤ 256) × (length f0 ≡ 256) × (length f1 ≡ 256)
-    × ((ws : List ℕ)
-    → Ran (times i (λ k. sampler 2 (λ j. stringBit (sharedList o0 o1) (2 * 2 * k + j)))) rec₀ ws cs
-    (zip i (sharedList f0 f1)) rec ws (drop (4 * i) cs))
+    StoredSharings
+    (λ n ys r.
+    Draws coeff (4 * n) (times n (λ k. sampler 2 (λ j. stringBit (sharedList o0 o1) (2 * 2 * k + j)))) rec₀ cs ys r)
+    256 256 f0 f1 rec i
 
 abbrev μ-loop : tie.MeasureT-loop
 μ-loop o0 o1 cs f0₀ f1₀ rec₀ i₀ f0 f1 rec i = 256 - i
@@ -44,8 +42,8 @@ words c = c .before .before .before
 sampler-requires : tie.Need-sampler-requires Inv-loop μ-loop
 sampler-requires c κs =
     let h = words (c .before) .before in
-    let m = masks-rest (4 * h .loop .i) 4 (omega arith) (start h .pre .1) in
-    (omega arith, omega arith, m .enough, m .below)
+    let m = masks-rest (4 * h .loop .i) 4 (omega arith) (start h .pre .coeffs) in
+    record { positive = omega arith; width = omega arith; masks = m .enough; below = m .below }
 
 loop-again : tie.Need-loop-again Inv-loop μ-loop
 loop-again c =
@@ -54,19 +52,12 @@ loop-again c =
     let h = words b .before in
     let l = h .loop in
     let a = start h .args in
-    let e : 4 * (l .i + 1) ≡ 4 * l .i + 4 = omega arith in (
-      omega arith,
-      simp length-set (omega arith),
-      simp length-set (omega arith),
-      λ ws.
-          rw (zip-set (l .f0) (l .f1) (l .i) _ _ (omega arith) (omega arith), e)
-          (times-turn _ (l .i) (l .inv .3 ws)
-          (sampled (sharedList (a .o0 .now) (a .o1 .now)) (l .i) (b .bits-from .ensures)
-          (part-coeffs (a .cs .now) (4 * l .i) 4 (o .sampler .ensures ws)))),
-    )
-
-returns : tie.Need-returns Inv-loop μ-loop
-returns c ws = let l = c .before .loop in let e : l .i ≡ 256 = omega arith in rw e at (l .inv .3 ws)
+    let e : 4 * (l .i + 1) ≡ 4 * l .i + 4 = omega arith in
+    sharings-turn (l .inv) _ _ (omega arith) (λ ws.
+    rw e
+    (times-turn _ (l .i) (l .inv .ran ws)
+    (sampled (sharedList (a .o0 .now) (a .o1 .now)) (l .i) (b .bits-from .ensures)
+    (part-coeffs (a .cs .now) (4 * l .i) 4 (o .sampler .ensures ws)))))
 
 pub sample-all-spec : {M : Type 1} → statement M
 sample-all-spec =
@@ -74,26 +65,26 @@ sample-all-spec =
     (tie.spec
     Inv-loop
     μ-loop
-    (λ c. (omega arith, omega arith, omega arith, λ ws. rw zip-zero (times-start _)))
-    (λ c. search needs)
-    (λ c. search needs)
-    (λ c. search needs)
-    (λ c. search needs)
-    (λ c. search needs)
-    (λ c. search needs)
+    (λ c. sharings-start (omega arith) (omega arith) (omega arith) (λ ws. times-start _))
+    (λ c. omega arith)
+    (λ c. omega arith)
+    (λ c. omega arith)
+    (λ c. omega arith)
+    (λ c. omega arith)
+    (λ c. omega arith)
     (λ c κs. search needs)
-    (λ c. search needs)
-    (λ c. search needs)
-    (λ c. search needs)
-    (λ c. search needs)
+    (λ c. omega arith)
+    (λ c. omega arith)
+    (λ c. omega arith)
+    (λ c. omega arith)
     sampler-requires
-    (λ c. search needs)
-    (λ c. search needs)
-    (λ c. search needs)
-    (λ c. search needs)
-    (λ c. search needs)
-    (λ c. search needs)
+    (λ c. omega arith)
+    (λ c. omega arith)
+    (λ c. omega arith)
+    (λ c. omega arith)
+    (λ c. omega arith)
+    (λ c. omega arith)
     loop-again
-    (λ c. search needs)
-    (λ c. search needs)
-    returns)
+    (λ c. omega arith)
+    (λ c. omega arith)
+    (λ c. sharings-end (c .before .loop .inv) (omega arith)))

@@ -53,11 +53,11 @@ enter-share-spec =
     Inv-loop
     μ-loop
     (λ c. (refl, omega arith, λ ws cs. times-start _))
-    (λ c. search needs)
-    (λ c. search needs)
+    (λ c. omega arith)
+    (λ c. omega arith)
     (λ c. record { fits = omega (arith, c .shared-slice-known2 .given (c .before .before .loop .i)) })
     (λ c κs. search needs)
-    (λ c. search needs)
-    (λ c. search needs)
+    (λ c. omega arith)
+    (λ c. omega arith)
     loop-again
     returns)

@@ -2,6 +2,7 @@
 use Rattle.worksheet.specs.SharedList.{sharedList}
 use Rattle.kpke.specs.Parameters.{mlKem768}
 use Rattle.masked_kpke.proofs.Reencrypted.{length-uvPass, below-uvPass, stage6-of}
+use native.Mathlib.Omega.{arith}
 use borrow.Author.Needs.{needs}
 use Rattle.masked_kpke.proofs.reencryption.stage6.Statement.{statement}
 use Rattle.masked_kpke.proofs.reencryption.stage6.Tie as tie
@@ -40,38 +41,41 @@ returns c =
     let s = start t in
     let a = s .args in
     let o₀ = r₀ .uv-in-place .ensures in
-    let o₁ = r₁ .uv-in-place2 .ensures in (
-      stage6-of mlKem768 (a .ek .now) (s .pre .0 .0 .expanded) (t .decode12-all .ensures)
+    let o₁ = r₁ .uv-in-place2 .ensures in
+    record {
+      ran =
+          stage6-of mlKem768 (a .ek .now) (s .pre .key .expanded) (t .decode12-all .ensures)
           (sharedList (a .n0 .now) (a .n1 .now)) (sharedList (a .mu0 .now) (a .mu1 .now))
-          o₀ o₁ (c .enter-polynomials .ensures),
-      record {
-        long0 = rw o₀ (length-uvPass 3 _ _ _ _);
-        long1 = rw o₁ (length-uvPass 3 _ _ _ _);
-        below0 = rw o₀ (below-uvPass 3 _ _ _ _);
-        below1 = rw o₁ (below-uvPass 3 _ _ _ _);
-      },
-    )
+          o₀ o₁ (c .enter-polynomials .ensures);
+      range =
+          record {
+            long0 = rw o₀ (length-uvPass 3 _ _ _ _);
+            long1 = rw o₁ (length-uvPass 3 _ _ _ _);
+            below0 = rw o₀ (below-uvPass 3 _ _ _ _);
+            below1 = rw o₁ (below-uvPass 3 _ _ _ _);
+          };
+    }
 
 pub stage6-spec : {M : Type 1} → statement M
 stage6-spec =
     tie.close
     (tie.spec
-    (λ c. search needs)
-    (λ c. search needs)
-    (λ c. search needs)
-    (λ c. search needs)
+    (λ c. omega arith)
+    (λ c. omega arith)
+    (λ c. omega arith)
+    (λ c. omega arith)
     (λ c κs. search needs)
-    (λ c. search needs)
+    (λ c. omega arith)
     (λ c κs. search needs)
-    (λ c. search needs)
+    (λ c. omega arith)
     (λ c κs. search needs)
-    (λ c. search needs)
-    (λ c. search needs)
-    (λ c. search needs)
-    (λ c. search needs)
-    (λ c. search needs)
-    (λ c. search needs)
+    (λ c. omega arith)
+    (λ c. omega arith)
+    (λ c. omega arith)
+    (λ c. omega arith)
+    (λ c. omega arith)
+    (λ c. omega arith)
     (λ c κs. search needs)
-    (λ c. search needs)
-    (λ c. search needs)
+    (λ c. omega arith)
+    (λ c. omega arith)
     returns)

@@ -35,7 +35,11 @@ start c = inputs c .before .before
 dot-requires : tie.Need-dot-requires
 dot-requires c κs =
     let s = start c .args in
-    (λ j h. omega (arith, place-fits (s .k) j (s .i) h (omega arith)), omega arith, omega arith)
+    record {
+      left = λ j h. omega (arith, place-fits (s .k) j (s .i) h (omega arith));
+      right = omega arith;
+      polynomial = omega arith;
+    }
 
 returns : tie.Need-returns
 unfolding uPass
@@ -54,5 +58,5 @@ u-pass-spec =
     dot-requires
     (λ c κs. search needs)
     (λ c κs. search needs)
-    (λ c. search needs)
+    (λ c. omega arith)
     returns)

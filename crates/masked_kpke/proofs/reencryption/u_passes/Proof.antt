@@ -1,4 +1,4 @@
--- Turn i makes row i of u from row i of e1.
+-- Rows don't overlap, so that turn i leaves the rows before it as they are.
 use mathlib.Core.Path.{ap, _∙_}
 use mathlib.Core.List.{List}
 use Prim.Native.Nat.{ℕ, _-_, _*_}
@@ -37,13 +37,14 @@ stored c = c .before .before
 u-pass-requires : tie.Need-u-pass-requires Inv-loop μ-loop
 u-pass-requires c κs =
     let l = head c .loop in
-    let s = start (head c) .args in (
-      omega arith,
-      omega arith,
-      length-span (256 * l .i) 256 (s .e1 .now) (omega arith),
-      omega arith,
-      length-span (256 * l .i) 256 (l .u) (omega arith),
-    )
+    let s = start (head c) in
+    record {
+      rows = omega arith;
+      matrix = s .pre .matrix;
+      vector = s .pre .vector;
+      errors = length-span (256 * l .i) 256 (s .args .e1 .now) (omega arith);
+      out = length-span (256 * l .i) 256 (l .u) (omega arith);
+    }
 
 loop-again : tie.Need-loop-again Inv-loop μ-loop
 loop-again c =

@@ -1,8 +1,9 @@
--- The pass's 1,024 coefficients are copied over the first 1,024 of n.
+-- uv_pass writes to an array of its own, so that the noise is read whole before its first 1,024 places are overwritten.
 use mathlib.Core.Path.{_∙_, ap}
 use lib.ListN.{length}
 use lib.Seq.{take-at}
 use Rattle.masked_kpke.proofs.Reencrypted.{length-uvPass}
+use native.Mathlib.Omega.{arith}
 use borrow.Author.Needs.{needs}
 use Rattle.masked_kpke.proofs.reencryption.uv_in_place.Statement.{statement}
 use Rattle.masked_kpke.proofs.reencryption.uv_in_place.Tie as tie
@@ -28,12 +29,12 @@ pub uv-in-place-spec : {M : Type 1} → statement M
 uv-in-place-spec =
     tie.close
     (tie.spec
-    (λ c. search needs)
+    (λ c. omega arith)
     (λ c κs. search needs)
-    (λ c. search needs)
-    (λ c. search needs)
-    (λ c. search needs)
-    (λ c. search needs)
+    (λ c. omega arith)
+    (λ c. omega arith)
+    (λ c. omega arith)
+    (λ c. omega arith)
     (λ c κs. search needs)
-    (λ c. search needs)
+    (λ c. omega arith)
     returns)

@@ -3,6 +3,7 @@
 use Rattle.kpke.specs.KPke.{parts}
 use Rattle.kpke.specs.Expanded.{placesOf}
 use Rattle.masked_kpke.proofs.Reencrypted.{uv-written-in}
+use native.Mathlib.Omega.{arith}
 use borrow.Author.Needs.{needs}
 use Rattle.masked_kpke.proofs.reencryption.uv_pass.Statement.{statement}
 use Rattle.masked_kpke.proofs.reencryption.uv_pass.Tie as tie
@@ -46,37 +47,37 @@ returns c =
     let tc = transformed (y (u-lent uc)) in
     let s = start tc in
     let a = s .args in
-    uv-written-in 3 (a .uv .now) (a .n .now) (a .mu .now) (placesOf 3 (a .a .now)) (parts 256 (a .t .now)) (s .pre .4)
-    (s .pre .2) _ (tc .ntt-all .ensures) (uc .u-passes .ensures) (vc .v-pass .ensures)
+    uv-written-in 3 (a .uv .now) (a .n .now) (a .mu .now) (placesOf 3 (a .a .now)) (parts 256 (a .t .now)) (s .pre .out)
+    (s .pre .share .noise) _ (tc .ntt-all .ensures) (uc .u-passes .ensures) (vc .v-pass .ensures)
 
 pub uv-pass-spec : {M : Type 1} → statement M
 uv-pass-spec =
     tie.close
     (tie.spec
-    (λ c. search needs)
-    (λ c. search needs)
-    (λ c. search needs)
+    (λ c. omega arith)
+    (λ c. omega arith)
+    (λ c. omega arith)
     (λ c κs. search needs)
-    (λ c. search needs)
-    (λ c. search needs)
-    (λ c. search needs)
-    (λ c. search needs)
-    (λ c. search needs)
-    (λ c. search needs)
-    (λ c. search needs)
-    (λ c. search needs)
-    (λ c. search needs)
+    (λ c. omega arith)
+    (λ c. omega arith)
+    (λ c. omega arith)
+    (λ c. omega arith)
+    (λ c. omega arith)
+    (λ c. omega arith)
+    (λ c. omega arith)
+    (λ c. omega arith)
+    (λ c. omega arith)
     (λ c κs. search needs)
-    (λ c. search needs)
-    (λ c. search needs)
-    (λ c. search needs)
-    (λ c. search needs)
-    (λ c. search needs)
-    (λ c. search needs)
-    (λ c. search needs)
-    (λ c. search needs)
-    (λ c. search needs)
+    (λ c. omega arith)
+    (λ c. omega arith)
+    (λ c. omega arith)
+    (λ c. omega arith)
+    (λ c. omega arith)
+    (λ c. omega arith)
+    (λ c. omega arith)
+    (λ c. omega arith)
+    (λ c. omega arith)
     (λ c κs. search needs)
-    (λ c. search needs)
-    (λ c. search needs)
+    (λ c. omega arith)
+    (λ c. omega arith)
     returns)

@@ -4,6 +4,7 @@ use Rattle.ring.specs.Polynomial.{add}
 use Rattle.ring.specs.Transform.{inverseNtt}
 use Rattle.masked_kpke.specs.Passes.{vPass}
 use Rattle.masked_kpke.proofs.Vectors.{dot-whole}
+use native.Mathlib.Omega.{arith}
 use borrow.Author.Needs.{needs}
 use Rattle.masked_kpke.proofs.reencryption.v_pass.Statement.{statement}
 use Rattle.masked_kpke.proofs.reencryption.v_pass.Tie as tie
@@ -47,5 +48,5 @@ v-pass-spec =
     (λ c κs. search needs)
     (λ c κs. search needs)
     (λ c κs. search needs)
-    (λ c. search needs)
+    (λ c. omega arith)
     returns)

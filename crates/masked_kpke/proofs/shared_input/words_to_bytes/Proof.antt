@@ -6,7 +6,6 @@ use lib.ListN.{length, getD}
 use Rattle.words.specs.Numeral.{digits}
 use Rattle.kpke.proofs.Concatenated.{Concatenated, length-span, concatenated-start, concatenated-turn, concatenated-end}
 use Rattle.masked_kpke.proofs.SharedInput.{bytes-concat}
-use borrow.Author.Needs.{needs}
 use Rattle.masked_kpke.proofs.shared_input.words_to_bytes.Statement.{statement}
 use Rattle.masked_kpke.proofs.shared_input.words_to_bytes.Tie as tie
 
@@ -49,16 +48,16 @@ words-to-bytes-spec =
     Inv-loop
     μ-loop
     (λ c. (refl, concatenated-start (omega arith)))
-    (λ c. search needs)
-    (λ c. search needs)
-    (λ c. search needs)
-    (λ c. search needs)
-    (λ c. search needs)
-    (λ c. search needs)
-    (λ c. search needs)
+    (λ c. omega arith)
+    (λ c. omega arith)
+    (λ c. omega arith)
+    (λ c. omega arith)
+    (λ c. omega arith)
+    (λ c. omega arith)
+    (λ c. omega arith)
     store-requires
-    (λ c. search needs)
-    (λ c. search needs)
+    (λ c. omega arith)
+    (λ c. omega arith)
     loop-again
-    (λ c. search needs)
+    (λ c. omega arith)
     returns)

@@ -8,7 +8,9 @@ use Rattle.masked_sampler.proofs.coefficient.bit_of.Tie as tie
 
 returns : tie.Need-returns
 unfolding digit
-returns c = let a = c .before .before .args in (refl, digit-lt (a .j) (a .w .s0), digit-lt (a .j) (a .w .s1))
+returns c =
+    let a = c .before .before .args in
+    record { is = refl; bits = record { bit0 = digit-lt (a .j) (a .w .s0); bit1 = digit-lt (a .j) (a .w .s1) } }
 
 pub bit-of-spec : {M : Type 1} → statement M
 bit-of-spec = tie.close (tie.spec (λ c. search needs) (λ c. search needs) returns)

@@ -17,7 +17,7 @@ bit-mul i b w h g l =
     (x, omega arith)
 
 small : (c : tie.Start) → let a = c .args in (bitXor (a .i) (a .b1) < 2) × (bitXor (a .i) (a .b1) * a .w ≤ 65535)
-small c = let a = c .args in bit-mul (a .i) (a .b1) (a .w) (c .pre .0) (c .pre .1) (omega arith)
+small c = let a = c .args in bit-mul (a .i) (a .b1) (a .w) (omega arith) (omega arith) (omega arith)
 
 returns : tie.Need-returns
 unfolding xor

@@ -1,15 +1,13 @@
 -- The loop is the definition's own: the first j conversions have run on the first j masks, and stand in two arrays.
-use Prim.Native.Nat.{ℕ, _*_, _-_, _≤_}
-use mathlib.Core.Path.{_≡_, refl}
-use mathlib.Core.List.{List}
+use Prim.Native.Nat.{_*_, _-_}
+use mathlib.Core.Path.{refl}
 use native.Mathlib.Omega.{arith}
-use lib.ListN.{length, length-set, drop}
-use Rattle.worksheet.specs.Prog.{times}
-use Rattle.worksheet.specs.Ran.{Ran, next-coeff}
+use Rattle.worksheet.specs.Prog.{coeff, times}
+use Rattle.worksheet.specs.Ran.{Draws, next-coeff}
 use Rattle.worksheet.specs.RanLoops.{times-start, times-turn}
-use Rattle.masked_sampler.specs.Coefficient.{bitOf, bitToCoeff, weight}
-use Rattle.worksheet.specs.SharedList.{sharedList, zip}
-use Rattle.worksheet.specs.SharedListLaws.{zip-zero, zip-set}
+use Rattle.worksheet.specs.StoredSharings.{StoredSharings, sharings-start, sharings-turn, sharings-end}
+use Rattle.masked_sampler.specs.Coefficient.{bitToCoeff, weight}
+use Rattle.masked_sampler.specs.Bit.{bitOf}
 use borrow.Author.Needs.{needs}
 use Rattle.masked_sampler.proofs.sampler.convert_bits.Statement.{statement}
 use Rattle.masked_sampler.proofs.sampler.convert_bits.Tie as tie
@@ -17,10 +15,8 @@ use Rattle.masked_sampler.proofs.sampler.convert_bits.Tie as tie
 -- j bits converted, j masks drawn
 abbrev Inv-loop : tie.InvT-loop
 Inv-loop eta b cs rec₀ s0₀ s1₀ j₀ j-end rec s0 s1 j =
-    (j-end ≡ 2 * eta) × (j ≤ j-end) × (length s0 ≡ 6) × (length s1 ≡ 6)
-    × ((ws : List ℕ)
-    → Ran (times j (λ k. bitToCoeff (weight eta k) (bitOf b k))) rec₀ ws cs
-    (zip j (sharedList s0 s1)) rec ws (drop j cs))
+    StoredSharings (λ n ys r. Draws coeff n (times n (λ k. bitToCoeff (weight eta k) (bitOf b k))) rec₀ cs ys r)
+    (2 * eta) 6 s0 s1 rec j
 
 abbrev μ-loop : tie.MeasureT-loop
 μ-loop eta b cs rec₀ s0₀ s1₀ j₀ j-end rec s0 s1 j = j-end - j
@@ -43,7 +39,7 @@ bit-to-coeff-requires : tie.Need-bit-to-coeff-requires Inv-loop μ-loop
 bit-to-coeff-requires c κs =
     let bit = c .before in
     let head = reading bit in
-    (bit .bit-of .ensures .1, bit .bit-of .ensures .2, start head .pre .2 .at (head .loop .j))
+    (bit .bit-of .ensures .bits, start head .pre .below .at (head .loop .j))
 
 loop-again : tie.Need-loop-again Inv-loop μ-loop
 loop-again c =
@@ -51,23 +47,10 @@ loop-again c =
     let bit = z .before .before in
     let head = reading bit in
     let l = head .loop in
-    let cs = start head .args .cs .now in (
-      refl,
-      omega arith,
-      simp length-set (omega arith),
-      simp length-set (omega arith),
-      λ ws.
-          rw (zip-set (l .s0) (l .s1) (l .j) _ _ (omega arith) (omega arith))
-          (times-turn _ (l .j) (l .inv .4 ws)
-          (next-coeff cs (l .j)
-          (rw (← bit .before .weight .ensures, ← bit .bit-of .ensures .0) (z .bit-to-coeff .ensures)))),
-    )
-
-returns : tie.Need-returns Inv-loop μ-loop
-returns c ws =
-    let head = c .before in
-    let e : head .loop .j ≡ 2 * start head .args .eta = omega arith in
-    rw e at (head .loop .inv .4 ws)
+    sharings-turn (l .inv) _ _ (omega arith) (λ ws.
+    times-turn _ (l .j) (l .inv .ran ws)
+    (next-coeff (start head .args .cs .now) (l .j)
+    (rw (← bit .before .weight .ensures, ← bit .bit-of .ensures .is) (z .bit-to-coeff .ensures))))
 
 pub convert-bits-spec : {M : Type 1} → statement M
 convert-bits-spec =
@@ -76,7 +59,7 @@ convert-bits-spec =
     Inv-loop
     μ-loop
     (λ c. search needs)
-    (λ c. (refl, omega arith, refl, refl, λ ws. rw zip-zero (times-start _)))
+    (λ c. sharings-start (omega arith) refl refl (λ ws. times-start _))
     (λ c κs. search needs)
     (λ c κs. search needs)
     (λ c. search needs)
@@ -89,4 +72,4 @@ convert-bits-spec =
     (λ c. search needs)
     (λ c. search needs)
     loop-again
-    returns)
+    (λ c. sharings-end (c .before .loop .inv) (omega arith)))

@@ -1,4 +1,5 @@
 -- t holds H(ek), with which h is compared.
+use native.Mathlib.Omega.{arith}
 use borrow.Author.Needs.{needs}
 use Rattle.mlkem.proofs.conditions.hash_matches.Statement.{statement}
 use Rattle.mlkem.proofs.conditions.hash_matches.Tie as tie
@@ -7,8 +8,8 @@ pub hash-matches-spec : {M : Type 1} → statement M
 hash-matches-spec =
     tie.close
     (tie.spec
-    (λ c. search needs)
+    (λ c. omega arith)
     (λ c κs. search needs)
-    (λ c. search needs)
+    (λ c. omega arith)
     (λ c κs. search needs)
     (λ c. cc))

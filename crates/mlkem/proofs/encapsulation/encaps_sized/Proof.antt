@@ -47,7 +47,7 @@ reduced-passed c = sym (c .before .vector-reduced .ensures) ∙ not-false _ (c .
 
 full-by : (c : tie.After-expand) → matrixFull 3 (drop 1152 (full-start c .args .ek .now)) ≡ c .expand .result
 full-by c =
-    sym (ap (matrixFull 3) (part-rest 1152 (full-start c .args .ek .now))) ∙ sym (c .expand .ensures .0)
+    sym (ap (matrixFull 3) (part-rest 1152 (full-start c .args .ek .now))) ∙ sym (c .expand .ensures .answer)
 
 full : (c : tie.Else2) → matrixFull 3 (drop 1152 (full-start (c .before .before) .args .ek .now)) ≡ true
 full c = full-by (c .before .before) ∙ not-false _ (c .if2 .left)
@@ -73,8 +73,8 @@ write-secret-requires c κs =
     let s = full-start x in
     let rho = part-rest 1152 (s .args .ek .now) in
     let by-rho = ap (λ (l : List ℕ). concat 3 (λ i. concat 3 (matrix l i))) rho in
-    let e = x .expand .ensures .1 (not-false _ (row7 .if2 .left)) ∙ by-rho in
-    (rw e (expanded-concat 3 (drop 1152 (s .args .ek .now)) (full row7)), s .pre)
+    let e = x .expand .ensures .holds (not-false _ (row7 .if2 .left)) ∙ by-rho in
+    record { matrix = rw e (expanded-concat 3 (drop 1152 (s .args .ek .now)) (full row7)); sized = s .pre }
 
 returns-3 : tie.Need-returns-3
 returns-3 c =
@@ -84,27 +84,27 @@ returns-3 c =
     let rows = passed PublicKeyRange _ (reduced-passed (in-range x)) (passed ShortStream _ (full row7) no-row) in
     record {
       answer = ap number (sym (encaps-answer mlKem768 Done (full-start x .pre) rows));
-      ct = secret .write-secret .ensures .0;
-      k = secret .write-secret .ensures .1;
+      ct = secret .write-secret .ensures .ct;
+      k = secret .write-secret .ensures .k;
     }
 
 pub encaps-sized-spec : {M : Type 1} → statement M
 encaps-sized-spec =
     tie.close
     (tie.spec
-    (λ c. search needs)
-    (λ c. search needs)
-    (λ c. search needs)
+    (λ c. omega arith)
+    (λ c. omega arith)
+    (λ c. omega arith)
     (λ c κs. search needs)
     returns
-    (λ c. search needs)
-    (λ c. search needs)
-    (λ c. search needs)
-    (λ c. search needs)
+    (λ c. omega arith)
+    (λ c. omega arith)
+    (λ c. omega arith)
+    (λ c. omega arith)
     (λ c κs. search needs)
     returns-2
-    (λ c. search needs)
+    (λ c. omega arith)
     write-secret-requires
-    (λ c. search needs)
-    (λ c. search needs)
+    (λ c. omega arith)
+    (λ c. omega arith)
     returns-3)

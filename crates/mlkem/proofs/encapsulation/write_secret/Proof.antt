@@ -57,25 +57,25 @@ returns c =
     let digest = g .hash-g .last .1 .1 .0 in
     let coins = take-all 32 (drop 32 digest) (omega (arith, length-drop 32 digest)) ∙ ap (drop 32) e in
     let by-coins = ap (encrypt mlKem768 (s .ek .now) (s .m .now)) coins in
-    (ct .encrypt .ensures ∙ by-coins, k .copy-bytes .ensures ∙ ap (take 32) e)
+    record { ct = ct .encrypt .ensures ∙ by-coins; k = k .copy-bytes .ensures ∙ ap (take 32) e }
 
 pub write-secret-spec : {M : Type 1} → statement M
 write-secret-spec =
     tie.close
     (tie.spec
-    (λ c. search needs)
+    (λ c. omega arith)
     (λ c κs. search needs)
-    (λ c. search needs)
-    (λ c. search needs)
+    (λ c. omega arith)
+    (λ c. omega arith)
     (λ c κs. search needs)
-    (λ c. search needs)
-    (λ c. search needs)
-    (λ c. search needs)
+    (λ c. omega arith)
+    (λ c. omega arith)
+    (λ c. omega arith)
     (λ c κs. search needs)
-    (λ c. search needs)
-    (λ c. search needs)
-    (λ c. search needs)
+    (λ c. omega arith)
+    (λ c. omega arith)
+    (λ c. omega arith)
     (λ c κs. search needs)
-    (λ c. search needs)
-    (λ c. search needs)
+    (λ c. omega arith)
+    (λ c. omega arith)
     returns)

@@ -1,15 +1,17 @@
--- K-PKE's keys fill ek and the first 1,152 bytes of dk; ek, its hash and z follow, which is line 3.
+-- K-PKE's keys are made from g's halves and fill ek and the first 1,152 bytes of dk; ek, its hash and z follow, which
+-- is line 3.
 use mathlib.Core.Path.{ap, _∙_}
 use mathlib.Core.List.{List, _++_}
 use Prim.Native.Nat.{ℕ}
 use borrow.Author.Needs.{needs}
 use native.Mathlib.Omega.{arith}
-use lib.ListN.{length}
+use lib.ListN.{length, take}
+use Rattle.words.specs.Part.{part-rest}
 use Rattle.fips202.specs.Sponge.{sha3-256}
-use Rattle.kpke.specs.KPke.{dkPke}
+use Rattle.kpke.specs.Parameters.{mlKem768}
+use Rattle.kpke.specs.KPke.{ekFrom, dkFrom}
 use Rattle.kpke.proofs.Encoded.{length-encoded}
 use Rattle.kpke.proofs.Concatenated.{two-parts}
-use Rattle.mlkem.specs.MlKem.{keyGenEk, keyGenDk}
 use Rattle.mlkem.proofs.key_making.write_keys.Statement.{statement}
 use Rattle.mlkem.proofs.key_making.write_keys.Tie as tie
 
@@ -24,40 +26,56 @@ lent c = c .before .before .before
 abbrev made : tie.After-slice-known4 → tie.After-ek
 made c = c .before .before .before
 
-abbrev known : tie.After-write-keys → tie.After-slice-known2
+abbrev lent-g : tie.After-write-keys-arg4 → tie.After-write-keys-arg
+lent-g c = c .before .before .before
+
+abbrev known : tie.After-write-keys-arg → tie.After-shared-slice-known3
 known c = c .before .before .before
 
-abbrev shared : tie.After-slice-known2 → tie.After-shared-slice-known2
-shared c = c .before .before .before
+abbrev start : tie.After-write-keys-arg4 → tie.Start
+start c = known (lent-g c) .before .before .before
 
-abbrev start : tie.After-write-keys → tie.Start
-start c = shared (known c) .before .before
+write-keys-requires : tie.Need-write-keys-requires
+write-keys-requires c κs =
+    record {
+      matrix = start c .pre .matrix;
+      rho = search needs;
+      sigma = search needs;
+      ek = search needs;
+      dk = search needs;
+    }
 
 returns : tie.Need-returns
-unfolding keyGenEk keyGenDk dkPke
+unfolding dkFrom
 returns c =
     let keys = made (lent (rest c)) .before in
-    let s = start keys .args in
-    let k = keys .write-keys .ensures in (
-      k .0,
-      λ d e.
-          let r = rest c .write-rest .ensures ∙ ap (λ (l : List ℕ). l ++ (sha3-256 l ++ s .z .now)) (k .0 d e) in
-          let n = ap length r in
-          two-parts (s .dk .now) 1152 (length-encoded 12 3 _) (omega arith) (k .1 d e) r,
-    )
+    let s = start (keys .before) .args in
+    let sigma = part-rest 32 (s .g .now) in
+    let k = keys .write-keys .ensures in
+    let ek = k .ek ∙ ap (ekFrom mlKem768 (take 32 (s .g .now))) sigma in
+    let dk = k .dk ∙ ap (dkFrom mlKem768) sigma in
+    let r = rest c .write-rest .ensures ∙ ap (λ (l : List ℕ). l ++ (sha3-256 l ++ s .z .now)) ek in
+    let n = ap length r in
+    record { ek = ek; dk = two-parts (s .dk .now) 1152 (length-encoded 12 3 _) (omega arith) dk r }
 
 pub write-keys-spec : {M : Type 1} → statement M
 write-keys-spec =
     tie.close
     (tie.spec
-    (λ c. search needs)
-    (λ c. search needs)
-    (λ c. search needs)
+    (λ c. omega arith)
+    (λ c. omega arith)
+    (λ c. omega arith)
+    (λ c. omega arith)
+    (λ c. omega arith)
+    (λ c. omega arith)
+    (λ c. omega arith)
+    (λ c. omega arith)
+    (λ c. omega arith)
+    write-keys-requires
+    (λ c. omega arith)
+    (λ c. omega arith)
+    (λ c. omega arith)
     (λ c κs. search needs)
-    (λ c. search needs)
-    (λ c. search needs)
-    (λ c. search needs)
-    (λ c κs. search needs)
-    (λ c. search needs)
-    (λ c. search needs)
+    (λ c. omega arith)
+    (λ c. omega arith)
     returns)

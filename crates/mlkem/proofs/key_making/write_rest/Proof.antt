@@ -7,7 +7,7 @@ use native.Mathlib.Omega.{arith}
 use lib.ListN.{length, length-append}
 use Rattle.words.specs.Overwrite.{overwritten-start, overwritten-part, overwritten-last}
 use Rattle.fips202.specs.Sponge.{sha3-256}
-use Rattle.kpke.proofs.Encoded.{length-sha3-256}
+use Rattle.fips202.specs.OutputLaws.{length-sha3-256}
 use Rattle.mlkem.proofs.key_making.write_rest.Statement.{statement}
 use Rattle.mlkem.proofs.key_making.write_rest.Tie as tie
 
@@ -53,18 +53,18 @@ pub write-rest-spec : {M : Type 1} → statement M
 write-rest-spec =
     tie.close
     (tie.spec
-    (λ c. search needs)
-    (λ c. search needs)
-    (λ c. search needs)
-    (λ c. search needs)
+    (λ c. omega arith)
+    (λ c. omega arith)
+    (λ c. omega arith)
+    (λ c. omega arith)
     (λ c κs. search needs)
-    (λ c. search needs)
-    (λ c. search needs)
-    (λ c. search needs)
+    (λ c. omega arith)
+    (λ c. omega arith)
+    (λ c. omega arith)
     (λ c κs. search needs)
-    (λ c. search needs)
-    (λ c. search needs)
-    (λ c. search needs)
+    (λ c. omega arith)
+    (λ c. omega arith)
+    (λ c. omega arith)
     (λ c κs. search needs)
-    (λ c. search needs)
+    (λ c. omega arith)
     returns)

@@ -1,17 +1,18 @@
 -- A wrong length is row 1 and a stream that is too short row 7; SampleNTT says which, and leaves out as it was where
 -- it gives up.
-use mathlib.Core.Path.{sym, ap, _∙_}
+use mathlib.Core.Path.{_≡_, sym, _∙_}
+use mathlib.Core.Bool.{true}
+use mathlib.Core.List.{[], _∷_}
 use borrow.Author.Needs.{needs}
 use borrow.Author.Tests.{not-true, not-false}
 use native.Mathlib.Omega.{arith}
-use Rattle.codec.specs.Sample.{full}
-use Rattle.refusals.specs.declared.Answer.the-variants.{WrongLength, ShortStream}
+use Rattle.refusals.specs.declared.Answer.the-variants.{WrongLength}
 use Rattle.refusals.specs.Same.{same}
-use Rattle.refusals.specs.Refusals.{number, sized}
-use Rattle.refusals.specs.RefusalLaws.{refused, passed, no-row}
+use Rattle.refusals.specs.Refusals.{lent, sized}
+use Rattle.refusals.specs.RefusalLaws.{refused}
 use Rattle.mlkem.specs.Calls.{sampleAnswer}
 use Rattle.mlkem.specs.CallLaws.{exact-at, sample-refused}
-use Rattle.mlkem.proofs.Sampled.{full-true, full-false}
+use Rattle.mlkem.proofs.Sampled.{stream-sampled}
 use Rattle.mlkem.proofs.sampling.sample.Statement.{statement}
 use Rattle.mlkem.proofs.sampling.sample.Tie as tie
 
@@ -23,11 +24,11 @@ drawn c = c .before .before
 abbrev exact : tie.After-sample-ntt → tie.Else1
 exact c = c .before .before
 
-abbrev lent : tie.Else1 → tie.After-exact-arg
-lent c = c .before .before .before
+abbrev lent-out : tie.Else1 → tie.After-exact-arg
+lent-out c = c .before .before .before
 
 abbrev start : tie.After-sample-ntt → tie.Start
-start c = lent (exact c) .before .before .before
+start c = lent-out (exact c) .before .before .before
 
 -- ---- needs
 
@@ -42,40 +43,36 @@ sample-ntt-requires c κs =
     let at = exact-at _ _ (c .before .before .exact .ensures) (c .before .if1 .left) in
     (at 0, at 1)
 
+-- the lengths are exact where the stream is sampled
+sized-passed : (c : tie.After-sample-ntt)
+    → (let s = start c .args in sized (lent (s .stream .now) 840 ∷ lent (s .out .now) 256 ∷ []) ≡ true)
+unfolding sized same
+sized-passed c = sym (exact c .before .exact .ensures) ∙ not-false _ (exact c .if1 .left)
+
 returns-2 : tie.Need-returns-2
-unfolding sampleAnswer sized same
 returns-2 c =
     let x = drawn (c .before .before) in
-    let test = exact x in
     let n = x .sample-ntt .ensures in
-    let t = full-true (full (start x .args .stream .now)) (c .enum-told .given .1) (n .0) in
-    let row7 = passed ShortStream _ t no-row in
-    let row1 = passed WrongLength _ (sym (test .before .exact .ensures) ∙ not-false _ (test .if1 .left)) row7 in
-    record { answer = ap number (sym row1); out = rw t at (n .1) }
+    stream-sampled (c .enum-told .given .1) (sized-passed x) (n .0) (n .1)
 
 returns-3 : tie.Need-returns-3
-unfolding sampleAnswer sized same
 returns-3 c =
     let x = drawn (c .before .before) in
-    let test = exact x in
     let n = x .sample-ntt .ensures in
-    let t = full-false (full (start x .args .stream .now)) (c .enum-told2 .given .1) (n .0) in
-    let row7 = refused ShortStream _ t in
-    let row1 = passed WrongLength _ (sym (test .before .exact .ensures) ∙ not-false _ (test .if1 .left)) row7 in
-    record { answer = ap number (sym row1); out = rw t at (n .1) }
+    stream-sampled (c .enum-told2 .given .1) (sized-passed x) (n .0) (n .1)
 
 pub sample-spec : {M : Type 1} → statement M
 sample-spec =
     tie.close
     (tie.spec
-    (λ c. search needs)
-    (λ c. search needs)
+    (λ c. omega arith)
+    (λ c. omega arith)
     (λ c κs. search needs)
     returns
     sample-ntt-requires
-    (λ c. search needs)
-    (λ c. search needs)
-    (λ c. search needs)
+    (λ c. omega arith)
+    (λ c. omega arith)
+    (λ c. omega arith)
     returns-2
-    (λ c. search needs)
+    (λ c. omega arith)
     returns-3)

@@ -17,7 +17,7 @@ returns : tie.Need-returns
 unfolding importAnswer sized same
 returns c =
     let row1 = refused WrongLength _ (sym (c .before .exact .ensures) ∙ not-true _ (c .if1 .taken)) in
-    import-refused mlKem768 WrongLength (omega arith) _ _ _ _ _ _ _ _ row1
+    import-refused mlKem768 WrongLength (omega arith) _ _ _ _ row1
 
 -- the test of the lengths, from the call
 abbrev lent : tie.After-import-sized-arg5 → tie.After-import-sized-arg2
@@ -30,20 +30,25 @@ import-sized-requires : tie.Need-import-sized-requires
 import-sized-requires c κs =
     let test = tested c in
     let at = exact-at _ _ (test .before .exact .ensures) (test .if1 .left) in
-    record { dk = at 0; coeffs = at 1; words = at 2; s0 = at 3; s1 = at 4; z0 = at 5; z1 = at 6; public = at 7 }
+    record {
+      dk = at 0;
+      maskCoeffs = at 1;
+      maskWords = at 2;
+      key = record { s0 = at 3; s1 = at 4; z0 = at 5; z1 = at 6; public = at 7 };
+    }
 
 pub import-spec : {M : Type 1} → statement M
 import-spec =
     tie.close
     (tie.spec
-    (λ c. search needs)
-    (λ c. search needs)
+    (λ c. omega arith)
+    (λ c. omega arith)
     (λ c κs. search needs)
     returns
     import-sized-requires
-    (λ c. search needs)
-    (λ c. search needs)
-    (λ c. search needs)
-    (λ c. search needs)
-    (λ c. search needs)
+    (λ c. omega arith)
+    (λ c. omega arith)
+    (λ c. omega arith)
+    (λ c. omega arith)
+    (λ c. omega arith)
     (λ c. search needs))

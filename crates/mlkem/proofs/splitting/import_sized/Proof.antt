@@ -1,5 +1,5 @@
 -- The tests go by rows 2 to 5, so that the first that fails gives the answer; where none fails, s are the key's
--- coefficients and the shares of them are written.
+-- coefficients and the masks are in range, as write_split asks.
 use mathlib.Core.Path.{_≡_, sym, ap, _∙_}
 use mathlib.Core.Bool.{true}
 use borrow.Author.Needs.{needs}
@@ -17,7 +17,6 @@ use Rattle.mlkem.specs.MlKem.{secretPart, publicPart, hashPart}
 use Rattle.mlkem.specs.Reduced.{reduced}
 use Rattle.mlkem.specs.Calls.{keyRows}
 use Rattle.mlkem.specs.CallLaws.{import-answer, import-refused}
-use Rattle.mlkem.proofs.Shares.{secondCoeffs-of}
 use Rattle.mlkem.proofs.splitting.import_sized.Statement.{statement}
 use Rattle.mlkem.proofs.splitting.import_sized.Tie as tie
 
@@ -85,7 +84,7 @@ secret-passed : (c : tie.Else3)
     → reduced (coefficients 3 (secretPart mlKem768 (whole (c .before) .args .dk .now))) ≡ true
 secret-passed c = secret-by (c .before) ∙ not-false _ (c .if3 .left)
 
-masks-passed : (c : tie.Else4) → reduced (whole (small (c .before) .before) .args .coeffs .now) ≡ true
+masks-passed : (c : tie.Else4) → reduced (whole (small (c .before) .before) .args .mask-coeffs .now) ≡ true
 masks-passed c = sym (c .before .reduced2 .ensures) ∙ not-false _ (c .if4 .left)
 
 -- s has the key's 768 coefficients
@@ -98,7 +97,7 @@ returns : tie.Need-returns
 unfolding keyRows
 returns c =
     let row2 = refused PublicKeyRange _ (sym (c .before .vector-reduced .ensures) ∙ not-true _ (c .if1 .taken)) in
-    import-refused mlKem768 PublicKeyRange (omega arith) _ _ _ _ _ _ _ _
+    import-refused mlKem768 PublicKeyRange (omega arith) _ _ _ _
     (import-answer mlKem768 PublicKeyRange (start (c .before) .pre) row2)
 
 returns-2 : tie.Need-returns-2
@@ -106,7 +105,7 @@ unfolding keyRows
 returns-2 c =
     let test = in-range (c .before) in
     let row3 = refused WrongHash _ (sym (c .before .hash-matches .ensures) ∙ not-true _ (c .if2 .taken)) in
-    import-refused mlKem768 WrongHash (omega arith) _ _ _ _ _ _ _ _
+    import-refused mlKem768 WrongHash (omega arith) _ _ _ _
     (import-answer mlKem768 WrongHash (start (test .before) .pre) (passed PublicKeyRange _ (public-passed test) row3))
 
 returns-3 : tie.Need-returns-3
@@ -116,7 +115,7 @@ returns-3 c =
     let row4 = refused SecretRange _ (secret-by (c .before) ∙ not-true _ (c .if3 .taken)) in
     let row3 = passed WrongHash _ (hash-passed hash) row4 in
     let row2 = passed PublicKeyRange _ (public-passed (in-range (hash .before))) row3 in
-    import-refused mlKem768 SecretRange (omega arith) _ _ _ _ _ _ _ _
+    import-refused mlKem768 SecretRange (omega arith) _ _ _ _
     (import-answer mlKem768 SecretRange (whole (c .before) .pre) row2)
 
 returns-4 : tie.Need-returns-4
@@ -128,13 +127,19 @@ returns-4 c =
     let row4 = passed SecretRange _ (secret-passed secret) row5 in
     let row3 = passed WrongHash _ (hash-passed hash) row4 in
     let row2 = passed PublicKeyRange _ (public-passed (in-range (hash .before))) row3 in
-    import-refused mlKem768 MaskRange (omega arith) _ _ _ _ _ _ _ _
+    import-refused mlKem768 MaskRange (omega arith) _ _ _ _
     (import-answer mlKem768 MaskRange (whole (secret .before) .pre) row2)
 
 write-split-requires : tie.Need-write-split-requires
 write-split-requires c κs =
     let secret = small (masked c .before) .before in
-    (omega (arith, decoded secret .decode-all .kept .1 .1 .0), whole secret .pre)
+    let s = decoded secret in
+    record {
+      sized = whole secret .pre;
+      long = long s;
+      secret = s .decode-all .ensures;
+      range = masks-passed (masked c);
+    }
 
 returns-5 : tie.Need-returns-5
 unfolding keyRows
@@ -142,55 +147,47 @@ returns-5 c =
     let split = returned-s (returned-z (returned c)) .before in
     let masks = masked (split .before) in
     let secret = small (masks .before) in
-    let d = decoded (secret .before) in
-    let hash = matched d in
-    let s = whole (secret .before) in
+    let hash = matched (decoded (secret .before)) in
     let row4 = passed SecretRange _ (secret-passed secret) (passed MaskRange _ (masks-passed masks) no-row) in
     let row3 = passed WrongHash _ (hash-passed hash) row4 in
     let row2 = passed PublicKeyRange _ (public-passed (in-range (hash .before))) row3 in
-    let e = split .write-split .ensures in
-    let key = s .args .dk .now in
     record {
-      answer = ap number (sym (import-answer mlKem768 Done (s .pre) row2));
-      s0 = e .0;
-      s1 = secondCoeffs-of key _ (d .decode-all .ensures) (long d) (masks-passed masks) (e .1 .0);
-      z0 = e .1 .1 .0;
-      z1 = e .1 .1 .1 .0;
-      public = e .1 .1 .1 .1;
+      answer = ap number (sym (import-answer mlKem768 Done (whole (secret .before) .pre) row2));
+      key = split .write-split .ensures;
     }
 
 pub import-sized-spec : {M : Type 1} → statement M
 import-sized-spec =
     tie.close
     (tie.spec
-    (λ c. search needs)
-    (λ c. search needs)
-    (λ c. search needs)
-    (λ c. search needs)
-    (λ c. search needs)
-    (λ c. search needs)
+    (λ c. omega arith)
+    (λ c. omega arith)
+    (λ c. omega arith)
+    (λ c. omega arith)
+    (λ c. omega arith)
+    (λ c. omega arith)
     (λ c κs. search needs)
     returns
-    (λ c. search needs)
-    (λ c. search needs)
-    (λ c. search needs)
+    (λ c. omega arith)
+    (λ c. omega arith)
+    (λ c. omega arith)
     (λ c κs. search needs)
     returns-2
-    (λ c. search needs)
-    (λ c. search needs)
-    (λ c. search needs)
-    (λ c. search needs)
+    (λ c. omega arith)
+    (λ c. omega arith)
+    (λ c. omega arith)
+    (λ c. omega arith)
     (λ c κs. search needs)
-    (λ c. search needs)
+    (λ c. omega arith)
     (λ c κs. search needs)
     returns-3
     (λ c κs. search needs)
     returns-4
-    (λ c. search needs)
+    (λ c. omega arith)
     write-split-requires
-    (λ c. search needs)
-    (λ c. search needs)
-    (λ c. search needs)
-    (λ c. search needs)
-    (λ c. search needs)
+    (λ c. omega arith)
+    (λ c. omega arith)
+    (λ c. omega arith)
+    (λ c. omega arith)
+    (λ c. omega arith)
     returns-5)

@@ -1,4 +1,5 @@
--- s0 is a copy of r, and s1 a copy of s from which r is then taken.
+-- s0 is a copy of the masks, and s1 a copy of s from which they are then taken.
+use native.Mathlib.Omega.{arith}
 use borrow.Author.Needs.{needs}
 use Rattle.mlkem.proofs.splitting.split_coefficients.Statement.{statement}
 use Rattle.mlkem.proofs.splitting.split_coefficients.Tie as tie
@@ -10,6 +11,6 @@ split-coefficients-spec =
     (λ c κs. search needs)
     (λ c κs. search needs)
     (λ c κs. search needs)
-    (λ c. search needs)
-    (λ c. search needs)
-    (λ c. (cc, cc)))
+    (λ c. omega arith)
+    (λ c. omega arith)
+    (λ c. cc))

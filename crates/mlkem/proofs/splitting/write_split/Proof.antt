@@ -1,12 +1,15 @@
--- The three calls write the shares of the secret, those of z, and the public part, which is the public key and its
--- hash side by side in dk.
-use mathlib.Core.Path.{ap, _∙_}
+-- The three calls write the shares of the secret, those of z, and the public key and h, which stand side by side in
+-- dk; the difference of coefficients is the second share since the masks are below q.
+use mathlib.Core.Path.{_≡_, ap, ap₂, _∙_}
 use mathlib.Core.List.{List, _++_}
 use Prim.Native.Nat.{ℕ}
+use native.Mathlib.Omega.{arith}
 use borrow.Author.Needs.{needs}
 use lib.ListN.{take, drop}
 use lib.Seq.{take-add, drop-drop}
-use Rattle.mlkem.specs.Calls.{secondWords}
+use Rattle.worksheet.specs.SharedList.{SharedList, sharedList}
+use Rattle.mlkem.specs.SplitKey.{SplitKey, secondWords, split}
+use Rattle.mlkem.proofs.Shares.{secondCoeffs-of}
 use Rattle.mlkem.proofs.splitting.write_split.Statement.{statement}
 use Rattle.mlkem.proofs.splitting.write_split.Tie as tie
 
@@ -45,8 +48,14 @@ shared c = c .before .before .before
 abbrev start : tie.After-split-coefficients → tie.Start
 start c = shared (known (lent-s c)) .before .before .before
 
+abbrev keyOf : SharedList → SharedList → List ℕ → SplitKey
+keyOf s z public = record { s = s; z = z; public = public }
+
+same-key : {s s′ z z′ : SharedList} {h h′ : List ℕ} → s ≡ s′ → z ≡ z′ → h ≡ h′ → keyOf s z h ≡ keyOf s′ z′ h′
+same-key {s} {s′} {z} {z′} {h} es ez eh = ap₂ (λ (x y : SharedList). keyOf x y h) es ez ∙ ap (keyOf s′ z′) eh
+
 returns : tie.Need-returns
-unfolding secondWords
+unfolding secondWords split
 returns c =
     let public = copied c in
     let z = words public in
@@ -54,26 +63,27 @@ returns c =
     let dk = start s .args .dk .now in
     let beside = ap (λ (l : List ℕ). take 1184 (drop 1152 dk) ++ take 32 l) (drop-drop 1184 1152 dk) in
     let e = public .copy-bytes .ensures ∙ take-add 1184 32 (drop 1152 dk) ∙ beside in
-    let s = s .split-coefficients .ensures in
-    let z = z .split-words .ensures in
-    (s .0, (s .1, (z .0, (z .1, e))))
+    let i = start s .pre in
+    let second = secondCoeffs-of dk _ (i .secret) (i .long) (i .range) in
+    let es = s .split-coefficients .ensures ∙ ap (sharedList _) second in
+    same-key es (z .split-words .ensures) e
 
 pub write-split-spec : {M : Type 1} → statement M
 write-split-spec =
     tie.close
     (tie.spec
     (λ c κs. search needs)
-    (λ c. search needs)
-    (λ c. search needs)
-    (λ c. search needs)
+    (λ c. omega arith)
+    (λ c. omega arith)
+    (λ c. omega arith)
     (λ c κs. search needs)
-    (λ c. search needs)
-    (λ c. search needs)
-    (λ c. search needs)
+    (λ c. omega arith)
+    (λ c. omega arith)
+    (λ c. omega arith)
     (λ c κs. search needs)
-    (λ c. search needs)
-    (λ c. search needs)
-    (λ c. search needs)
-    (λ c. search needs)
-    (λ c. search needs)
+    (λ c. omega arith)
+    (λ c. omega arith)
+    (λ c. omega arith)
+    (λ c. omega arith)
+    (λ c. omega arith)
     returns)

@@ -17,8 +17,8 @@ combination-spec =
     tie.close
     (tie.spec
     (λ c κs. search needs)
-    (λ c. search needs)
-    (λ c. search needs)
+    (λ c. omega arith)
+    (λ c. omega arith)
     (λ c. omega (arith, second c))
     (λ c. omega (arith, second c))
     (λ c κs. search needs)

@@ -4,7 +4,7 @@ use Prim.Native.Nat.{ℕ, _+_, _-_, _*_}
 use native.Mathlib.Omega.{arith}
 use lib.ListN.{length, length-set}
 use Rattle.words.specs.Residue.{q}
-use Rattle.words.specs.Tab.{length-tab}
+use Rattle.words.specs.TabLaws.{length-tab}
 use Rattle.words.specs.Fill.{Filled, filled-start, filled-turn, filled-end}
 use Rattle.ring.specs.Transform.{zeta, gamma}
 use Rattle.ring.proofs.Powers.{gamma-even, gamma-odd, root, root-below}
@@ -23,12 +23,12 @@ abbrev head : tie.After-shared-slice-known2 Inv-loop μ-loop → tie.At-loop Inv
 head c = c .before .before .before
 
 sub-gammas : tie.Need-sub-gammas Inv-loop μ-loop
-sub-gammas c = omega (arith, root-below (head c .before .pre .0) (64 + head c .loop .j) (omega arith))
+sub-gammas c = omega (arith, root-below (head c .before .pre .table) (64 + head c .loop .j) (omega arith))
 
 loop-again : tie.Need-loop-again Inv-loop μ-loop
 loop-again c =
     let j = head c .loop .j in
-    let h = head c .before .pre .0 in
+    let h = head c .before .pre .table in
     let r = root h (64 + j) (omega arith) in
     let e : 2 * (j + 1) ≡ 2 * j + 1 + 1 = omega arith in (
       omega arith,
@@ -45,7 +45,7 @@ gammas-of-spec =
     (tie.spec
     Inv-loop
     μ-loop
-    (λ c. (ap length (c .pre .0) ∙ length-tab 128 zeta, filled-start (omega arith)))
+    (λ c. (ap length (c .pre .table) ∙ length-tab 128 zeta, filled-start (omega arith)))
     (λ c. omega arith)
     (λ c. omega arith)
     (λ c. omega arith)

@@ -4,7 +4,8 @@ use mathlib.Core.List.{List}
 use Prim.Native.Nat.{ℕ, _-_}
 use native.Mathlib.Omega.{arith}
 use lib.ListN.{getD}
-use Rattle.words.specs.Tab.{tab, getD-tab}
+use Rattle.words.specs.Tab.{tab}
+use Rattle.words.specs.TabLaws.{getD-tab}
 use Rattle.ring.specs.Transform.{gamma}
 use Rattle.ring.proofs.Powers.{zetas-tab}
 use Rattle.ring.proofs.Products.{Added, added-start, added-turn, added-end}
@@ -36,12 +37,13 @@ turning c = c .before .before .before
 
 base-case-multiply-requires : tie.Need-base-case-multiply-requires Inv-loop μ-loop
 base-case-multiply-requires c κs =
-    let a = c .before .before .loop in (
-      omega arith,
-      omega arith,
-      omega arith,
-      ap (λ (l : List ℕ). getD l (a .i) 0) (a .inv .0) ∙ getD-tab 128 gamma (a .i) 0 (omega arith),
-    )
+    let a = c .before .before .loop in
+    record {
+      sum = omega arith;
+      left = omega arith;
+      right = omega arith;
+      constant = ap (λ (l : List ℕ). getD l (a .i) 0) (a .inv .0) ∙ getD-tab 128 gamma (a .i) 0 (omega arith);
+    }
 
 loop-again : tie.Need-loop-again Inv-loop μ-loop
 loop-again c =
@@ -50,7 +52,7 @@ loop-again c =
     (a .inv .0, rw (added .base-case-multiply .ensures) (added-turn (a .inv .1) (omega arith)))
 
 returns : tie.Need-returns Inv-loop μ-loop
-returns c = added-end (c .before .loop .inv .1) (start (entered (made (c .before))) .pre .0) (omega arith)
+returns c = added-end (c .before .loop .inv .1) (start (entered (made (c .before))) .pre .sum) (omega arith)
 
 pub multiply-add-spec : {M : Type 1} → statement M
 multiply-add-spec =
@@ -60,7 +62,7 @@ multiply-add-spec =
     μ-loop
     (λ c. omega arith)
     (λ c. omega arith)
-    (λ c κs. (zetas-tab, omega arith))
+    (λ c κs. record { table = zetas-tab; room = omega arith })
     (λ c. (c .before .gammas-of .ensures, added-start (omega arith)))
     (λ c. omega arith)
     (λ c. omega arith)

@@ -3,7 +3,6 @@
 use Prim.Native.Nat.{_*_, _≤_}
 use native.Mathlib.Nat.{mul-le-mul}
 use native.Mathlib.Omega.{arith}
-use borrow.Author.Needs.{needs}
 use Rattle.ring.proofs.Shoup.{shoup}
 use Rattle.ring.proofs.residue.multiple.Statement.{statement}
 use Rattle.ring.proofs.residue.multiple.Tie as tie
@@ -23,13 +22,13 @@ zx c =
 
 low-difference-requires : tie.Need-low-difference-requires
 low-difference-requires c κs =
-    let h = shoup (c .args .z) (c .args .w) (c .args .x) (c .pre .1) (omega arith) in
+    let h = shoup (c .args .z) (c .args .w) (c .args .x) (c .pre .quotient) (omega arith) in
     (h .0, omega (arith, h .1))
 
 reduce-once-requires : tie.Need-reduce-once-requires
 reduce-once-requires c κs =
     let a = c .before .args in
-    omega (arith, (shoup (a .z) (a .w) (a .x) (c .before .pre .1) (omega arith)) .1)
+    omega (arith, (shoup (a .z) (a .w) (a .x) (c .before .pre .quotient) (omega arith)) .1)
 
 pub multiple-spec : {M : Type 1} → statement M
 multiple-spec =
@@ -40,4 +39,4 @@ multiple-spec =
     (λ c. omega (arith, wx c))
     low-difference-requires
     reduce-once-requires
-    (λ c. search needs))
+    (λ c. omega arith))

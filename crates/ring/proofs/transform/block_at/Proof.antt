@@ -1,5 +1,6 @@
 -- One pair a turn, by the law of pairs that the transform and its inverse share.
 use Prim.Native.Nat.{_-_}
+use borrow.Author.Needs.{needs}
 use native.Mathlib.Omega.{arith}
 use Rattle.ring.specs.Transform.{butterfly, block}
 use Rattle.ring.proofs.Layers.{Paired, paired-start, paired-turn, paired-end}
@@ -12,15 +13,6 @@ Inv-loop f₀ z len start w j₀ f j = Paired butterfly z len start f₀ j f
 
 abbrev μ-loop : tie.MeasureT-loop
 μ-loop f₀ z len start w j₀ f j = len - j
-
--- the loop's head, from the end of a turn
-abbrev head : tie.After-butterfly-at Inv-loop μ-loop → tie.At-loop Inv-loop μ-loop
-head c = c .before .before .before
-
-loop-again : tie.Need-loop-again Inv-loop μ-loop
-loop-again c =
-    let turned = c .before .before in
-    paired-turn (head turned .loop .inv) (omega arith) (omega arith) (turned .butterfly-at .ensures)
 
 returns : tie.Need-returns Inv-loop μ-loop
 unfolding block
@@ -35,9 +27,9 @@ block-at-spec =
     (λ c κs. omega arith)
     (λ c. paired-start)
     (λ c. omega arith)
-    (λ c κs. (omega arith, omega arith, c .before .before .before .shoup-quotient .ensures))
+    (λ c κs. search needs)
     (λ c. omega arith)
     (λ c. omega arith)
-    loop-again
+    (λ c. search (needs, paired-turn))
     (λ c. omega arith)
     returns)

@@ -27,8 +27,8 @@ pub inverse-ntt-spec : {M : Type 1} → statement M
 inverse-ntt-spec =
     tie.close
     (tie.spec
-    (λ c. search needs)
+    (λ c. omega arith)
     (λ c κs. (omega arith, zetas-tab))
     (λ c κs. search needs)
-    (λ c. search needs)
+    (λ c. omega arith)
     returns)

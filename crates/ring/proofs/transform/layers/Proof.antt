@@ -1,4 +1,5 @@
 -- Seven layers one after the other are Algorithm 9's loop over len: each call has as many blocks as the loop has then.
+use native.Mathlib.Omega.{arith}
 use borrow.Author.Needs.{needs}
 use Rattle.words.specs.Iterate.{iterate}
 use Rattle.ring.specs.Transform.{ntt}
@@ -20,5 +21,5 @@ layers-spec =
     (λ c κs. search needs)
     (λ c κs. search needs)
     (λ c κs. search needs)
-    (λ c. search needs)
+    (λ c. omega arith)
     returns)

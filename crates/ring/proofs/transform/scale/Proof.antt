@@ -2,6 +2,7 @@
 use mathlib.Core.Path.{ap, _∙_}
 use Prim.Native.Nat.{ℕ, _-_, _*_, _%_}
 use native.Mathlib.Nat.{mul-comm}
+use borrow.Author.Needs.{needs}
 use native.Mathlib.Omega.{arith}
 use lib.ListN.{getD}
 use Rattle.words.specs.Fill.{Replaced, replaced-start, replaced-turn, replaced-end}
@@ -39,7 +40,7 @@ scale-spec =
     (λ c. replaced-start (omega arith))
     (λ c. omega arith)
     (λ c. omega arith)
-    (λ c κs. (omega arith, c .before .before .before .shoup-quotient .ensures))
+    (λ c κs. search needs)
     (λ c. omega arith)
     (λ c. omega arith)
     (λ c. omega arith)

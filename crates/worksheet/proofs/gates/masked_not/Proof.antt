@@ -1,4 +1,4 @@
--- Share 0's complement is the one entry, and share 1 goes through as it is.
+-- The one call is the definition's one entry, on share 0; share 1 is handed on in both.
 use Rattle.worksheet.specs.Gates.{maskedNot}
 use Rattle.worksheet.specs.Ran.{bind, over}
 use Rattle.worksheet.proofs.gates.masked_not.Statement.{statement}

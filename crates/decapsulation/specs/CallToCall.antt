@@ -1,0 +1,38 @@
+-- From call to call: where import of a decapsulation key is carried out, and then decapsulation on the split key that
+-- it left, the two shares of K join to FIPS 203's decapsulation of that key. Lengths and ranges, and that the key is
+-- accepted and the split joins to it, follow from the two answers. Bytes are below 256 and words below 2^64: at a call
+-- the types of the slices say so, and of lists it is asked.
+use mathlib.Core.Path.{_≡_, ap, ap₂, _∙_}
+use mathlib.Core.List.{List}
+use Prim.Native.Nat.{ℕ, _^_}
+use Rattle.words.specs.Bounded.{Below}
+use Rattle.words.specs.LittleEndian.{wordsToBytes}
+use Rattle.worksheet.specs.Run.{run}
+use Rattle.worksheet.specs.SharedList.{sharedList, joinedList}
+use Rattle.kpke.specs.Parameters.{mlKem768}
+use Rattle.mlkem.specs.MlKem as fips203
+use Rattle.mlkem.specs.Calls.{Imported}
+use Rattle.mlkem.specs.ImportLaws.{imported-importable}
+use Rattle.mlkem.specs.ReducedLaws.{reduced-below}
+use Rattle.mlkem.specs.SplitKey.{SplitKey}
+use Rattle.stages.specs.Fits.{fits768}
+use Rattle.stages.specs.Worksheet.{worksheet}
+use Rattle.meaning.specs.SplitValue.{run-split}
+use Rattle.decapsulation.specs.Calls.{Input, decapsShares, Decapsulated}
+use Rattle.decapsulation.specs.Demand2.{decapsulated-tested}
+
+-- import of dk leaves the split key in g, and decapsulation of g leaves k0 and k1
+module _ {dk maskCoeffs maskWords k0₀ k1₀ k0 k1 : List ℕ} {key₀ : SplitKey} {g : Input} where
+  pub imported-decaps : Imported mlKem768 dk maskCoeffs maskWords key₀ 0 (g .key)
+      → Decapsulated mlKem768 g k0₀ k1₀ 0 k0 k1
+      → Below 256 dk → Below (2 ^ 64) maskWords → Below 256 (g .ct) → Below (2 ^ 64) (g .words)
+      → wordsToBytes 8 (joinedList (sharedList k0 k1)) ≡ fips203.decaps mlKem768 dk (g .ct)
+  unfolding decapsShares
+  imported-decaps i d dk-bytes mask-words ct-bytes strip-words =
+      let t = decapsulated-tested d in
+      ap₂ (λ (x y : List ℕ). wordsToBytes 8 (joinedList (sharedList x y))) (d .share0) (d .share1)
+      ∙ ap (λ (key : SplitKey).
+      wordsToBytes 8 (joinedList (run (worksheet mlKem768 key (g .ct)) (g .words) (g .coeffs) .value)))
+      (i .key)
+      ∙ run-split (imported-importable i dk-bytes mask-words) fits768 (g .ct) (t .long .ct) ct-bytes strip-words
+      (reduced-below (g .coeffs) (t .masks))

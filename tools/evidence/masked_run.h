@@ -1,0 +1,50 @@
+/* A key, its split, a ciphertext that it accepts, and a strip, in buffers of this program, and the two masked calls on them. */
+#include <stdlib.h>
+#include <string.h>
+#include "tifolanzo.h"
+
+enum { Q = 3329, COEFFS = 768, STRIP_WORDS = 11750, STRIP_COEFFS = 7424 };
+static uint8_t d[32] = {1}, z[32] = {2}, m[32] = {3}, ek[1184], dk[2400], ct[1088], k[32], pub[1216];
+static uint16_t mask_coeffs[COEFFS], s0[COEFFS], s1[COEFFS], coeffs[STRIP_COEFFS];
+static uint64_t mask_words[4], z0[4], z1[4], words[STRIP_WORDS], k0[4], k1[4], step, value, seed;
+static uint32_t answer;
+
+static inline uint64_t next_word(void) {
+    seed += 0x9e3779b97f4a7c15u;
+    uint64_t y = (seed ^ seed >> 30) * 0xbf58476d1ce4e5b9u;
+    y = (y ^ y >> 27) * 0x94d049bb133111ebu;
+    return y ^ y >> 31;
+}
+
+static inline void draw_words(uint64_t *to, int n) {
+    for (int i = 0; i < n; i++) to[i] = next_word();
+}
+
+static inline void draw_coeffs(uint16_t *to, int n) {
+    for (int i = 0; i < n; i++) to[i] = next_word() % Q;
+}
+
+static inline void make_key(void) {
+    if (tifo_keygen(d, 32, z, 32, ek, 1184, dk, 2400) != 0 || tifo_encaps(ek, 1184, m, 32, ct, 1088, k, 32) != 0) exit(2);
+}
+
+static inline void split(const uint8_t *key) {
+    if (tifo_import(key, 2400, mask_coeffs, COEFFS, mask_words, 4, s0, COEFFS, s1, COEFFS, z0, 4, z1, 4, pub, 1216) != 0) exit(2);
+}
+
+static inline void prepare(void) {
+    draw_coeffs(mask_coeffs, COEFFS);
+    draw_words(mask_words, 4);
+    draw_words(words, STRIP_WORDS);
+    draw_coeffs(coeffs, STRIP_COEFFS);
+    make_key();
+    split(dk);
+}
+
+static inline void decaps(void) {
+    answer = tifo_decaps(s0, COEFFS, s1, COEFFS, z0, 4, z1, 4, pub, 1216, ct, 1088, words, STRIP_WORDS, coeffs, STRIP_COEFFS, k0, 4, k1, 4);
+}
+
+static inline void trace(void) {
+    answer = tifo_trace(s0, COEFFS, s1, COEFFS, z0, 4, z1, 4, pub, 1216, ct, 1088, words, STRIP_WORDS, coeffs, STRIP_COEFFS, step, &value);
+}
