@@ -1,0 +1,38 @@
+/* Masked decapsulation and a trace with both shares of the secret and of z marked undefined, for valgrind's memcheck: secret_branches [branch | index] */
+#include <valgrind/memcheck.h>
+#include "masked_run.h"
+
+static volatile int sink;
+
+/* The two controls: a jump and an address that depend on a share. */
+static __attribute__((noinline)) void planted_branch(void) {
+    if (s0[5] & 1) __asm__ volatile("");
+    else sink = 1;
+}
+
+static __attribute__((noinline)) void planted_index(void) {
+    static const volatile int table[8];
+    sink = table[z1[2] & 7];
+}
+
+static void hide(void) {
+    prepare();
+    VALGRIND_MAKE_MEM_UNDEFINED(s0, sizeof s0);
+    VALGRIND_MAKE_MEM_UNDEFINED(s1, sizeof s1);
+    VALGRIND_MAKE_MEM_UNDEFINED(z0, sizeof z0);
+    VALGRIND_MAKE_MEM_UNDEFINED(z1, sizeof z1);
+}
+
+int main(int argc, char **argv) {
+    hide();
+    if (argc > 1 && strcmp(argv[1], "branch") == 0) planted_branch();
+    if (argc > 1 && strcmp(argv[1], "index") == 0) planted_index();
+    decaps();
+    VALGRIND_MAKE_MEM_DEFINED(&answer, sizeof answer);
+    if (answer != 0) return 2;
+    hide();
+    step = 100000;
+    trace();
+    VALGRIND_MAKE_MEM_DEFINED(&answer, sizeof answer);
+    return answer ? 2 : 0;
+}
