@@ -11,9 +11,9 @@ from models.parameters import ML_KEM_768 as P
 
 EXPAND, COMPRESS, NOISE, ABSORB = MARKS = (
     "kpke::matrix::expand",
-    "masked_kpke::compression::compress_groups",
-    "masked_kpke::noise::noise_polys",
-    "masked_fips202::masked_absorb::masked_absorb",
+    "masked_polynomials::groups::compress_groups",
+    "masked_noise::noise::noise_polys",
+    "masked_sponge::masked_absorb::masked_absorb",
 )
 # where each stage ends: at which event, the so-manieth
 ENDS = [

@@ -1,8 +1,8 @@
 // Gadgets for bench/gadgets. Each hands back the entry that is `left` entries ahead, and 0 where there is none or where
 // what is lent is too short or out of range. Where the last entry is asked for no work is left out.
 ghost use Prim.Native.Nat.{_≤_};
-use masked_compression::compression::masked_compress;
-use mlkem::conditions::reduced;
+use masked_compression::masked_compress;
+use refusals::conditions::reduced;
 use worksheet::Recorder;
 use worksheet::Shares;
 
@@ -14,7 +14,7 @@ pub extern "C" fn bench_adder(x: &[u64; 24], y: &[u64; 24], masks: &[u64], left:
     }
     let a = *x;
     let b = *y;
-    let o = masked_compression::adder::adder(Recorder { left, value: 0 }, 23, a, b, masks);
+    let o = masked_adder::adder(Recorder { left, value: 0 }, 23, a, b, masks);
     o.rec.value
 }
 

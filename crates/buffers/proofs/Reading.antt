@@ -5,7 +5,7 @@ use Prim.Native.Nat.{ℕ, _+_, _-_, _*_, _<_}
 use lib.ListN.{length, take, drop, set}
 use Rattle.words.specs.Fill.{Filled, filled-turn}
 use Rattle.words.specs.Numeral.{value}
-use Rattle.kpke.proofs.Concatenated.{part-span}
+use Rattle.vectors.proofs.Concatenated.{part-span}
 use Rattle.buffers.specs.LittleEndian.{numberAt}
 
 pub read-turn : {m : ℕ} (n : ℕ) (b : List ℕ) {i v : ℕ} {out : List ℕ} → Filled m (numberAt n b) i out → i < m

@@ -1,7 +1,8 @@
 // Sampling, key making, encapsulation and import for C.
 ghost use Rattle.kpke.specs.Parameters.{mlKem768};
-ghost use Rattle.mlkem.specs.SplitKey.{splitKey};
-ghost use Rattle.mlkem.specs.Calls.{StreamSampled, KeysMade, Encapsulated, Imported};
+ghost use Rattle.split_key.specs.SplitKey.{splitKey};
+ghost use Rattle.mlkem.specs.Calls.{StreamSampled, KeysMade, Encapsulated};
+ghost use Rattle.split_key.specs.Import.{Imported};
 use crate::refusal;
 
 // SampleNTT (FIPS 203, algorithm 7).
@@ -67,5 +68,5 @@ pub extern "C" fn tifo_import(
         (splitKey (now (s0 .exit)) (now (s1 .exit)) (now (z0 .exit)) (now (z1 .exit)) (now (public .exit)))
         ⌝ }
 {
-    refusal(mlkem::import(dk, mask_coeffs, mask_words, s0, s1, z0, z1, public))
+    refusal(split_key::import(dk, mask_coeffs, mask_words, s0, s1, z0, z1, public))
 }

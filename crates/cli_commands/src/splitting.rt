@@ -11,7 +11,7 @@ fn write_imported(dk: &[u8], mask_coeffs: &[u16], mask_words: &[u64]) {
     let mut z0 = [0u64; 4];
     let mut z1 = [0u64; 4];
     let mut public = [0u8; 1216];
-    let answer = mlkem::import(
+    let answer = split_key::import(
         dk,
         mask_coeffs,
         mask_words,

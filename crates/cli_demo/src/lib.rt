@@ -143,7 +143,7 @@ fn run_split(
     let mut z0 = [0u64; 4];
     let mut z1 = [0u64; 4];
     let mut public = [0u8; 1216];
-    let answer = mlkem::import(
+    let answer = split_key::import(
         dk,
         mask_coeffs,
         mask_words,

@@ -16,7 +16,7 @@ pub fn same(a: &[u8], b: &[u8]) -> bool
     if a.len() != b.len() {
         return false;
     }
-    mlkem::conditions::same(a, b)
+    refusals::conditions::same(a, b)
 }
 
 // The number n with one more digit, where b is one and the number is at most most.

@@ -2,11 +2,4 @@ pub mod Bytes
 pub mod BytesLaws
 pub mod Compress
 pub mod CompressLaws
-pub mod Sample
-pub mod SampleAnswer
-pub mod SampleLaws
-pub mod SampleLoop
-pub mod SampleLoopLaws
-pub mod Collect
 pub mod Sizes
-pub mod Results

@@ -1,8 +1,7 @@
-// Compression, encoding and sampling of plain values (FIPS 203, section 4.2).
-mod bits;
+// Compression and encoding of plain values (FIPS 203, section 4.2.1).
+pub mod bits; // numbers as bits
 mod compression;
 mod encoding;
-mod sampling;
 
 pub use compression::compress;
 pub use compression::compress_all;
@@ -11,7 +10,3 @@ pub use compression::decompress_all;
 pub use encoding::byte_decode;
 pub use encoding::byte_decode12;
 pub use encoding::byte_encode;
-pub use sampling::Sampled;
-pub use sampling::fill_ntt;
-pub use sampling::sample_ntt;
-pub use sampling::sample_poly_cbd;

@@ -22,13 +22,14 @@ use Rattle.tracing.specs.Told.{toldAnswer, toldValue, leftOf}
 use Rattle.tracing.specs.Trace as trace
 use Rattle.tracing.specs.ToldLaws.{told-none, told-refused, told-over, told-done, ran-value, left-answer, left-value}
 use Rattle.kpke.specs.Parameters.{Parameters, mlKem768}
-use Rattle.kpke.specs.KPke.{concat, matrix, matrixFull}
+use Rattle.vectors.specs.Vector.{concat}
+use Rattle.kpke.specs.KPke.{matrix, matrixFull}
 use Rattle.kpke.specs.Expanded.{Expanded, expanded-concat}
-use Rattle.mlkem.specs.Reduced.{reduced}
+use Rattle.refusals.specs.Reduced.{reduced}
 use Rattle.stages.specs.EntryCounts.{steps}
 use Rattle.stages.specs.Counts768.{counts768}
 use Rattle.stages.specs.Worksheet.{worksheet}
-use Rattle.masked_kpke.specs.Slices.{Long}
+use Rattle.stages.specs.Slices.{Long}
 use Rattle.decapsulation.specs.Calls.{Input, sheet, lengths, rows}
 use Rattle.decapsulation.specs.Calls.{decapsRows, decapsAnswer, decapsShares, Decapsulated}
 use Rattle.decapsulation.specs.Calls.{traceAnswer, traceValue, Traced}

@@ -18,12 +18,12 @@ use Rattle.tracing.specs.Trace as trace
 use Rattle.tracing.specs.ToldLaws.{Refusing, told-refused, told-step, trace-passed}
 use Rattle.kpke.specs.Parameters.{Parameters, ekBytes}
 use Rattle.kpke.specs.KPke.{matrixFull}
-use Rattle.mlkem.specs.Reduced.{reduced}
+use Rattle.refusals.specs.Reduced.{reduced}
 use Rattle.mlkem.specs.Calls.{rhoOf}
-use Rattle.mlkem.specs.SplitKey.{ekOf}
+use Rattle.split_key.specs.SplitKey.{ekOf}
 use Rattle.stages.specs.EntryCounts.{steps}
 use Rattle.stages.specs.WorksheetUses.{uses-worksheet}
-use Rattle.masked_kpke.specs.Slices.{Long}
+use Rattle.stages.specs.Slices.{Long}
 use Rattle.decapsulation.specs.Calls.{Input, sheet, lengths, rows, decapsRows, decapsAnswer, traceAnswer}
 use Rattle.decapsulation.specs.Sized.{Sized}
 

@@ -11,10 +11,10 @@ use Rattle.worksheet.specs.Run.{run}
 use Rattle.worksheet.specs.SharedList.{sharedList, joinedList}
 use Rattle.kpke.specs.Parameters.{mlKem768}
 use Rattle.mlkem.specs.MlKem as fips203
-use Rattle.mlkem.specs.Calls.{Imported}
-use Rattle.mlkem.specs.ImportLaws.{imported-importable}
-use Rattle.mlkem.specs.ReducedLaws.{reduced-below}
-use Rattle.mlkem.specs.SplitKey.{SplitKey}
+use Rattle.split_key.specs.Import.{Imported}
+use Rattle.split_key.specs.ImportLaws.{imported-importable}
+use Rattle.refusals.specs.ReducedLaws.{reduced-below}
+use Rattle.split_key.specs.SplitKey.{SplitKey}
 use Rattle.stages.specs.Fits.{fits768}
 use Rattle.stages.specs.Worksheet.{worksheet}
 use Rattle.meaning.specs.SplitValue.{run-split}

@@ -13,9 +13,9 @@ use Rattle.refusals.specs.Refusals.{number, after, Row, row, answer, Lent, lent
 use Rattle.tracing.specs.Trace as trace
 use Rattle.kpke.specs.Parameters.{Parameters, ctBytes}
 use Rattle.kpke.specs.KPke.{matrixFull}
-use Rattle.mlkem.specs.Reduced.{reduced}
+use Rattle.refusals.specs.Reduced.{reduced}
 use Rattle.mlkem.specs.Calls.{rhoOf}
-use Rattle.mlkem.specs.SplitKey.{SplitKey, splitKey, ekOf, keyLengths, split}
+use Rattle.split_key.specs.SplitKey.{SplitKey, splitKey, ekOf, keyLengths, split}
 use Rattle.stages.specs.Worksheet.{worksheet}
 use Rattle.stages.specs.Counts.{stripWords, stripCoeffs}
 

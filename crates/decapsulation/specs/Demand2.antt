@@ -10,7 +10,7 @@ use Rattle.worksheet.specs.SharedList.{sharedList, joinedList}
 use Rattle.refusals.specs.RefusalLaws.{number-done}
 use Rattle.kpke.specs.Parameters.{mlKem768}
 use Rattle.mlkem.specs.MlKem as fips203
-use Rattle.mlkem.specs.ReducedLaws.{reduced-below}
+use Rattle.refusals.specs.ReducedLaws.{reduced-below}
 use Rattle.stages.specs.Fits.{fits768}
 use Rattle.meaning.specs.JoinedDk.{joinedDk}
 use Rattle.meaning.specs.InOrder.{InOrder}

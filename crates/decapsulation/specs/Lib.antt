@@ -1,4 +1,3 @@
-pub mod StageSized
 pub mod Calls
 pub mod Told
 pub mod Sized

@@ -17,9 +17,9 @@ use Rattle.worksheet.specs.MaskedAnd.{maskedAnd}
 use Rattle.worksheet.specs.Gates.{maskedXor}
 use Rattle.codec.specs.Bytes.{bitsOf}
 use Rattle.codec.specs.Compress.{compress, decompress}
-use Rattle.codec.specs.Sample.{d₁, d₂, accepted, sum, samplePolyCbd}
-use Rattle.ring.specs.Transform.{bitRev7, zeta}
-use Rattle.masked_compression.specs.Adder.{maskPlane, carryStep, sumPlane, adder}
+use Rattle.sampling.specs.Sample.{d₁, d₂, accepted, sum, samplePolyCbd}
+use Rattle.transform.specs.Transform.{bitRev7, zeta}
+use Rattle.masked_adder.specs.Adder.{maskPlane, carryStep, sumPlane, adder}
 use Rattle.masked_compression.specs.Compression.{fixedPoint, maskedCompress}
 use Rattle.masked_sampler.specs.Coefficient.{bitToCoeff, sums, sampler}
 

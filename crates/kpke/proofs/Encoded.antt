@@ -11,8 +11,8 @@ use Rattle.codec.specs.Bytes.{byteEncode}
 use Rattle.codec.specs.BytesLaws.{length-byteEncode}
 use Rattle.codec.specs.Compress.{compress}
 use Rattle.codec.specs.CompressLaws.{below-compress}
-use Rattle.kpke.specs.KPke.{parts, concat}
-use Rattle.kpke.specs.VectorLaws.{part-fits, length-concat, concat-cong}
+use Rattle.vectors.specs.Vector.{parts, concat}
+use Rattle.vectors.specs.VectorLaws.{part-fits, length-concat, concat-cong}
 
 -- what compress_all leaves
 pub below-compressed : (d : ℕ) (l : List ℕ) {w : List ℕ} → w ≡ map (compress d) l → Below (2 ^ d) w

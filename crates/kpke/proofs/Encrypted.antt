@@ -7,10 +7,11 @@ use lib.ListN.{take, drop}
 use Rattle.codec.specs.Bytes.{byteEncode, byteDecode, byteDecode12}
 use Rattle.codec.specs.Compress.{compress, decompress}
 use Rattle.ring.specs.Polynomial.{add}
-use Rattle.ring.specs.Transform.{ntt, inverseNtt}
+use Rattle.transform.specs.Transform.{ntt, inverseNtt}
 use Rattle.kpke.specs.Parameters.{Parameters, vectorBytes}
-use Rattle.kpke.specs.KPke.{parts, concat, noise, firstPart, secondPart, ephemeral, publicVector, encrypt}
-use Rattle.kpke.specs.VectorLaws.{concat-cong, dot-cong}
+use Rattle.vectors.specs.Vector.{parts, concat}
+use Rattle.kpke.specs.KPke.{noise, firstPart, secondPart, ephemeral, publicVector, encrypt}
+use Rattle.vectors.specs.VectorLaws.{concat-cong, dot-cong}
 use Rattle.kpke.specs.Expanded.{placesOf, Expanded}
 use Rattle.kpke.proofs.Parts.{transformed-at, decoded-at, first-at}
 

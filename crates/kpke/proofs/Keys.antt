@@ -5,20 +5,11 @@ use mathlib.Core.List.{List, _++_}
 use Prim.Native.Nat.{ℕ, _+_, _<_}
 use Rattle.codec.specs.Bytes.{byteEncode}
 use Rattle.ring.specs.Polynomial.{add}
-use Rattle.ring.specs.Transform.{ntt}
+use Rattle.transform.specs.Transform.{ntt}
 use Rattle.kpke.specs.Parameters.{Parameters}
-use Rattle.kpke.specs.KPke.{
-  parts,
-  concat,
-  matrix,
-  noise,
-  publicPolynomial,
-  secretVector,
-  errorVector,
-  ekFrom,
-  dkFrom,
-}
-use Rattle.kpke.specs.VectorLaws.{concat-cong, dot-cong}
+use Rattle.vectors.specs.Vector.{parts, concat}
+use Rattle.kpke.specs.KPke.{matrix, noise, publicPolynomial, secretVector, errorVector, ekFrom, dkFrom}
+use Rattle.vectors.specs.VectorLaws.{concat-cong, dot-cong}
 use Rattle.kpke.specs.Expanded.{placesOf, Expanded}
 use Rattle.kpke.proofs.Parts.{transformed-at, public-at}
 

@@ -1,4 +1,3 @@
-pub mod Concatenated
 pub mod Sampled
 pub mod Digest
 pub mod Encoded

@@ -2,29 +2,24 @@
 -- i is its polynomial i, and those that are encoded are below q.
 use mathlib.Core.Path.{_≡_, ap, _∙_}
 use mathlib.Core.List.{List}
-use Prim.Native.Nat.{ℕ, zero, suc, _+_, _*_, _<_}
+use Prim.Native.Nat.{ℕ, _+_, _*_, _<_}
 use native.Mathlib.Nat.{zero-add}
 use native.Mathlib.Omega.{arith}
 use lib.ListN.{length, take}
 use Rattle.words.specs.Bounded.{Below}
-use Rattle.words.specs.BoundedLaws.{below-nil, below-append}
 use Rattle.words.specs.Residue.{q}
 use Rattle.words.specs.Part.{part-take}
 use Rattle.codec.specs.Bytes.{byteDecode12}
 use Rattle.codec.specs.BytesLaws.{length-byteDecode12}
 use Rattle.ring.specs.Sum.{length-add, below-add}
-use Rattle.ring.specs.Linear.{ntt-linear, length-inverseNtt}
-use Rattle.codec.specs.SampleLaws.{length-samplePolyCbd, below-samplePolyCbd}
-use Rattle.ring.specs.Transform.{ntt}
+use Rattle.transform.specs.Linear.{ntt-linear, length-inverseNtt}
+use Rattle.sampling.specs.SampleLaws.{length-samplePolyCbd, below-samplePolyCbd}
+use Rattle.transform.specs.Transform.{ntt}
 use Rattle.kpke.specs.Functions.{PRF}
-use Rattle.kpke.specs.KPke.{parts, concat, noise, firstPart, publicPolynomial}
-use Rattle.kpke.specs.VectorLaws.{part-fits, Each, parts-concat, concat-cong}
-use Rattle.kpke.specs.DotLaws.{length-dot}
-
-pub below-concat : {b : ℕ} (k : ℕ) {f : ℕ → List ℕ} → 0 < b → ((i : ℕ) → Below b (f i)) → Below b (concat k f)
-unfolding concat
-below-concat zero p h = below-nil p
-below-concat (suc k) {f} p h = below-append (concat k f) (below-concat k p h) (h k)
+use Rattle.vectors.specs.Vector.{parts, concat}
+use Rattle.kpke.specs.KPke.{noise, firstPart, publicPolynomial}
+use Rattle.vectors.specs.VectorLaws.{part-fits, Each, parts-concat, concat-cong, below-concat}
+use Rattle.vectors.specs.DotLaws.{length-dot}
 
 each-transformed : (eta k : ℕ) (seed : List ℕ) → Each 256 k (λ i. ntt (noise eta seed i))
 each-transformed eta k seed =
@@ -48,7 +43,7 @@ transformed-at eta k seed e i h = ap (λ (l : List ℕ). parts 256 l i) e ∙ pa
 
 -- a vector of polynomials below q, and transformed noise as one
 pub below-vector : (k : ℕ) (f : ℕ → List ℕ) {v : List ℕ} → v ≡ concat k f → ((i : ℕ) → Below q (f i)) → Below q v
-below-vector k f e h = rw e (below-concat k (omega arith) h)
+below-vector k f e h = rw e (below-concat k (omega arith) (λ i g. h i))
 
 pub below-transformed : (eta : ℕ) (seed : List ℕ) (i : ℕ) → Below q (ntt (noise eta seed i))
 below-transformed eta seed i =
@@ -85,4 +80,4 @@ module _ (k : ℕ) (a : ℕ → ℕ → List ℕ) (s e : ℕ → List ℕ) where
 pub below-public : (k : ℕ) (a : ℕ → ℕ → List ℕ) (s e : ℕ → List ℕ) {t : List ℕ}
     → t ≡ concat k (publicPolynomial k a s e) → Below q t
 unfolding publicPolynomial
-below-public k a s e w = rw w (below-concat k (omega arith) (λ i. below-add _ _))
+below-public k a s e w = rw w (below-concat k (omega arith) (λ i g. below-add _ _))

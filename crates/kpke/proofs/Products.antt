@@ -9,9 +9,10 @@ use lib.ListN.{length}
 use Rattle.codec.specs.Bytes.{byteDecode}
 use Rattle.codec.specs.Compress.{decompress}
 use Rattle.ring.specs.Polynomial.{add}
-use Rattle.ring.specs.Transform.{ntt, inverseNtt}
-use Rattle.kpke.specs.KPke.{parts, dot, noise, publicPolynomial, firstPart, secondPart}
-use Rattle.kpke.specs.VectorLaws.{dot-cong}
+use Rattle.transform.specs.Transform.{ntt, inverseNtt}
+use Rattle.vectors.specs.Vector.{parts, dot}
+use Rattle.kpke.specs.KPke.{noise, publicPolynomial, firstPart, secondPart}
+use Rattle.vectors.specs.VectorLaws.{dot-cong}
 use Rattle.kpke.specs.Expanded.{placesOf}
 use Rattle.kpke.proofs.Encoded.{place-fits}
 

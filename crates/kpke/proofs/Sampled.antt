@@ -7,10 +7,10 @@ use Prim.Native.Nat.{ℕ, _+_, _-_, _*_, _<_, _≤_}
 use borrow.Author.Tests.{not-true, not-false}
 use lib.ListN.{length, take, drop}
 use Rattle.words.specs.Table.{every}
-use Rattle.codec.specs.Results.{Sampling}
+use Rattle.sampling.specs.Results.{Sampling}
 use Rattle.words.specs.Walk.{Walked, walked-start, walked-turn, walked-every, every-false}
-use Rattle.kpke.specs.KPke.{concat}
-use Rattle.kpke.proofs.Concatenated.{Concatenated, concatenated-start, concatenated-turn, concatenated-end}
+use Rattle.vectors.specs.Vector.{concat}
+use Rattle.vectors.proofs.Concatenated.{Concatenated, concatenated-start, concatenated-turn, concatenated-end}
 
 -- p holds at the first i of k places, and the first i parts are those of f
 pub record Sampled (n k : ℕ) (p : ℕ → Bool) (f : ℕ → List ℕ) (l₀ : List ℕ) (i : ℕ) (l : List ℕ) : Type 0 where

@@ -12,11 +12,12 @@ use lib.Seq.{drop-drop}
 use Rattle.words.specs.Part.{part-take}
 use Rattle.words.specs.Table.{every}
 use Rattle.words.specs.TableLaws.{every-at}
-use Rattle.codec.specs.Sample.{full, accepted}
-use Rattle.codec.specs.SampleLaws.{length-sampleNtt}
+use Rattle.sampling.specs.Sample.{full, accepted}
+use Rattle.sampling.specs.SampleLaws.{length-sampleNtt}
 use Rattle.kpke.specs.Functions.{XOF}
-use Rattle.kpke.specs.KPke.{parts, concat, matrix, matrixFull}
-use Rattle.kpke.specs.VectorLaws.{part-fits, Each, length-concat, parts-concat}
+use Rattle.vectors.specs.Vector.{parts, concat}
+use Rattle.kpke.specs.KPke.{matrix, matrixFull}
+use Rattle.vectors.specs.VectorLaws.{part-fits, Each, length-concat, parts-concat}
 
 -- place (i, j) of such a list
 abbrev pub placesOf : ℕ → List ℕ → ℕ → ℕ → List ℕ

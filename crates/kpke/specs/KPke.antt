@@ -2,36 +2,17 @@
 -- and the like are in the transform's domain.
 use mathlib.Core.Bool.{Bool}
 use mathlib.Core.List.{List, [], _∷_, _++_, map}
-use Prim.Native.Nat.{ℕ, zero, suc, _+_, _*_}
-use lib.ListN.{take, drop, replicate}
-use Rattle.words.specs.Iterate.{iterate}
+use Prim.Native.Nat.{ℕ, _+_, _*_}
+use lib.ListN.{drop}
 use Rattle.words.specs.Table.{every}
 use Rattle.codec.specs.Bytes.{byteEncode, byteDecode, byteDecode12}
 use Rattle.codec.specs.Compress.{compress, decompress}
 use Rattle.ring.specs.Polynomial.{add, sub}
-use Rattle.ring.specs.Transform.{ntt, inverseNtt, multiplyNtts}
-use Rattle.codec.specs.Sample.{full, sampleNtt, samplePolyCbd}
+use Rattle.transform.specs.Transform.{ntt, inverseNtt}
+use Rattle.sampling.specs.Sample.{full, sampleNtt, samplePolyCbd}
+use Rattle.vectors.specs.Vector.{parts, concat, dot}
 use Rattle.kpke.specs.Parameters.{Parameters, vectorBytes}
 use Rattle.kpke.specs.Functions.{PRF, G₁, G₂, XOF}
-
--- ---- vectors (sections 2.4.6 and 2.4.7)
-
--- the k parts of n elements of a list
-abbrev pub parts : ℕ → List ℕ → ℕ → List ℕ
-parts n l i = take n (drop (n * i) l)
-
--- f 0, f 1, .., f (k - 1), one after the other
-unfoldable pub concat : ℕ → (ℕ → List ℕ) → List ℕ
-concat zero f = []
-concat (suc k) f = concat k f ++ f k
-
--- the coefficients that an encoded vector holds, as they stand: what the modulus check of section 7.2 looks at
-unfoldable pub coefficients : ℕ → List ℕ → List ℕ
-coefficients k b = concat k (λ i. byteDecode 12 (parts 384 b i))
-
--- the sum of the products, in the transform's domain (2.4.7): a row of a matrix or vector by a vector
-unfoldable pub dot : ℕ → (ℕ → List ℕ) → (ℕ → List ℕ) → List ℕ
-dot k f g = iterate k (λ j s. add s (multiplyNtts (f j) (g j))) (replicate 256 0)
 
 -- A-hat, algorithm 13, lines 3 to 7: place (i, j)
 abbrev pub matrix : List ℕ → ℕ → ℕ → List ℕ

@@ -1,8 +1,6 @@
 pub mod Parameters
 pub mod Functions
 pub mod KPke
-pub mod VectorLaws
-pub mod DotLaws
 pub mod Expanded
 pub mod Sizes
 pub mod KeyMaking

@@ -7,9 +7,9 @@ use Prim.Native.Nat.{ℕ, _+_, _<_}
 use lib.ListN.{drop, take-append-drop}
 use Rattle.fips202.specs.Sponge.{shake128}
 use Rattle.fips202.specs.LongerOutput.{length-shake128, shake128-longer}
-use Rattle.codec.specs.Sample.{full}
-use Rattle.codec.specs.SampleLoop.{ReturnsWithin}
-use Rattle.codec.specs.SampleLoopLaws.{full-returns}
+use Rattle.sampling.specs.Sample.{full}
+use Rattle.sampling.specs.SampleLoop.{ReturnsWithin}
+use Rattle.sampling.specs.SampleLoopLaws.{full-returns}
 use Rattle.kpke.specs.Functions.{XOF}
 use Rattle.kpke.specs.KPke.{matrix, matrixFull}
 use Rattle.kpke.specs.Expanded.{place-full}

@@ -1,7 +1,7 @@
 -- What K-PKE's functions ask of their slices and numbers: a vector is k parts of 256 coefficients, a seed 32 bytes.
 use mathlib.Core.Path.{_≡_}
 use mathlib.Core.List.{List}
-use Prim.Native.Nat.{ℕ, _+_, _*_, _^_, _<_, _≤_}
+use Prim.Native.Nat.{ℕ, _+_, _*_, _<_, _≤_}
 use lib.ListN.{length, drop}
 use Rattle.words.specs.Residue.{q}
 use Rattle.words.specs.Bounded.{Below}
@@ -24,20 +24,6 @@ pub record ExpandInput (rho : List ℕ) (k n : ℕ) (a : List ℕ) : Type 0 wher
   pub seed : length rho ≡ 32
   pub rank : k ≤ 256
   pub room : length a ≡ n
-
--- ByteEncode_d (algorithm 5) of each polynomial of v, to out
-pub record EncodeAllInput (v : List ℕ) (d k : ℕ) (out : List ℕ) : Type 0 where
-  pub vector : length v ≡ 256 * k
-  pub some : 0 < d
-  pub most : d ≤ 12
-  pub below : Below (2 ^ d) v
-  pub bytes : length out ≡ 32 * d * k
-
--- the products (2.4.7) of a's parts start, start + step, .. with the k parts of b, added up in out
-pub record DotInput (a : List ℕ) (start step : ℕ) (b : List ℕ) (k : ℕ) (out : List ℕ) : Type 0 where
-  pub left : (j : ℕ) → j < k → 256 * (start + step * j) + 256 ≤ length a
-  pub right : length b ≡ 256 * k
-  pub polynomial : length out ≡ 256
 
 -- a row (algorithm 13, line 18) or a column (algorithm 14, line 19) of the matrix a times the vector v, and noise
 pub record RowInput (a v seed : List ℕ) (eta k : ℕ) : Type 0 where

@@ -6,20 +6,21 @@ ghost use lib.ListN.{length};
 ghost use Rattle.codec.specs.Bytes.{byteEncode, byteDecode};
 ghost use Rattle.codec.specs.Compress.{compress, decompress};
 ghost use Rattle.kpke.specs.Parameters.{mlKem768};
-ghost use Rattle.kpke.specs.KPke.{parts, concat, firstPart, secondPart, encrypt as encryptOf};
+ghost use Rattle.vectors.specs.Vector.{parts, concat};
+ghost use Rattle.kpke.specs.KPke.{firstPart, secondPart, encrypt as encryptOf};
 ghost use Rattle.kpke.specs.Expanded.{placesOf};
 ghost use Rattle.kpke.specs.Sizes.{RowInput, SecondInput, CiphertextInput, EncryptInput};
 use crate::noise::noise;
 use crate::noise::transformed_noise;
-use crate::vector::decode12_all;
-use crate::vector::dot;
-use crate::vector::encode_all;
 use codec::byte_decode;
 use codec::byte_encode;
 use codec::compress_all;
 use codec::decompress_all;
 use ring::add_to;
-use ring::inverse_ntt;
+use transform::inverse_ntt;
+use vectors::decode12_all;
+use vectors::dot;
+use vectors::encode_all;
 
 // Line 19 at row i, u[i], for the matrix A-hat in a, the vector y-hat in y and the coins r.
 fn first_part(a: &[u16], y: &[u16], r: &[u8], eta: u32, k: usize, i: usize, f: &mut [u16])

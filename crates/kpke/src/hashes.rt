@@ -4,7 +4,7 @@ ghost use mathlib.Core.Path.{_≡_};
 ghost use lib.ListN.{length};
 ghost use Rattle.fips202.specs.Sponge.{sha3-256, sha3-512, shake256};
 ghost use Rattle.kpke.specs.Functions.{XOF};
-use crate::copy::concat_bytes;
+use vectors::copy::concat_bytes;
 
 // H (4.4).
 pub fn hash_h(s: &[u8], out: &mut [u8])

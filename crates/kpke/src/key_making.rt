@@ -4,19 +4,20 @@ ghost use mathlib.Core.Path.{_≡_};
 ghost use Prim.Native.Nat.{_+_, _*_, _<_};
 ghost use lib.ListN.{length};
 ghost use Rattle.codec.specs.Bytes.{byteEncode};
-ghost use Rattle.ring.specs.Transform.{ntt as nttOf};
+ghost use Rattle.transform.specs.Transform.{ntt as nttOf};
 ghost use Rattle.kpke.specs.Parameters.{mlKem768};
-ghost use Rattle.kpke.specs.KPke.{parts, concat, noise as noiseOf, publicPolynomial};
+ghost use Rattle.vectors.specs.Vector.{parts, concat};
+ghost use Rattle.kpke.specs.KPke.{noise as noiseOf, publicPolynomial};
 ghost use Rattle.kpke.specs.KeyMaking.{PkeKeysInput, PkeKeysWritten};
 ghost use Rattle.kpke.specs.Expanded.{placesOf};
 ghost use Rattle.kpke.specs.Sizes.{RowInput, EkInput};
-use crate::copy::copy_bytes;
 use crate::noise::noise;
 use crate::noise::transformed_noise;
-use crate::vector::dot;
-use crate::vector::encode_all;
 use ring::add_to;
-use ring::ntt;
+use transform::ntt;
+use vectors::copy::copy_bytes;
+use vectors::dot;
+use vectors::encode_all;
 
 // Line 18 at row i, t-hat[i], for the matrix A-hat in a and the secret s-hat in s; e is row i of e-hat.
 fn public_polynomial(

@@ -4,13 +4,14 @@ ghost use mathlib.Core.Path.{_≡_};
 ghost use Prim.Native.Nat.{_*_, _<_};
 ghost use lib.ListN.{length};
 ghost use Rattle.words.specs.Table.{every};
-ghost use Rattle.codec.specs.Sample.{full};
-ghost use Rattle.codec.specs.Results.{Sampling};
+ghost use Rattle.sampling.specs.Sample.{full};
+ghost use Rattle.sampling.specs.Results.{Sampling};
 ghost use Rattle.kpke.specs.Functions.{XOF};
-ghost use Rattle.kpke.specs.KPke.{concat, matrix, matrixFull};
+ghost use Rattle.vectors.specs.Vector.{concat};
+ghost use Rattle.kpke.specs.KPke.{matrix, matrixFull};
 ghost use Rattle.kpke.specs.Sizes.{ExpandInput};
 use crate::hashes::xof;
-use codec::fill_ntt;
+use sampling::fill_ntt;
 
 // SampleNTT (algorithm 7) at place (i, j): whether its stream yields 256 coefficients, which f then holds.
 fn sample_place(rho: &[u8], i: u8, j: u8, f: &mut [u16]) -> bool

@@ -2,12 +2,13 @@
 ghost use mathlib.Core.Path.{_≡_};
 ghost use Prim.Native.Nat.{_+_, _*_, _≤_};
 ghost use lib.ListN.{length};
-ghost use Rattle.ring.specs.Transform.{ntt};
-ghost use Rattle.kpke.specs.KPke.{concat, noise as noiseOf};
+ghost use Rattle.transform.specs.Transform.{ntt};
+ghost use Rattle.vectors.specs.Vector.{concat};
+ghost use Rattle.kpke.specs.KPke.{noise as noiseOf};
 ghost use Rattle.kpke.specs.Sizes.{NoiseSeed, NoiseInput};
 use crate::hashes::prf;
-use crate::vector::ntt_all;
-use codec::sample_poly_cbd;
+use sampling::sample_poly_cbd;
+use vectors::ntt_all;
 
 // SamplePolyCBD_eta of PRF_eta(seed, n); b is where the bytes go.
 fn noise_by(seed: &[u8], eta: u32, n: usize, b: &mut [u8], f: &mut [u16])

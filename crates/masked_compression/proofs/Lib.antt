@@ -1,2 +1,1 @@
 pub mod FixedPoint
-pub mod TranspositionLaws

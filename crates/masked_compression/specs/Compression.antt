@@ -6,7 +6,7 @@ use Rattle.words.specs.Plane.{plane}
 use Rattle.words.specs.Residue.{q}
 use Rattle.worksheet.specs.declared.Shares.{Shares}
 use Rattle.worksheet.specs.Prog.{Prog, ret, _>>=_, entry, times}
-use Rattle.masked_compression.specs.Adder.{adder, adderWords}
+use Rattle.masked_adder.specs.Adder.{adder, adderWords}
 
 -- floor(2^(d+13) x / q) plus h, modulo 2^(d+13): fixed point with 13 fraction bits
 unfoldable pub fixedPoint : ℕ → ℕ → ℕ → ℕ

@@ -20,7 +20,7 @@ use Rattle.worksheet.specs.SharingLaws.{Sharing}
 use Rattle.masked_compression.specs.Compression.{fixedPoint, fixedPoints, maskedCompress}
 use Rattle.masked_compression.specs.Compression.{compressWords}
 use Rattle.masked_compression.specs.EntryCounts.{compressEntries}
-use Rattle.masked_compression.specs.AdderLaws.{uses-adder, gives-adder}
+use Rattle.masked_adder.specs.AdderLaws.{uses-adder, gives-adder}
 
 uses-fixedPoints : (d h : ℕ) (x : ℕ → ℕ) → Uses 64 0 0 (fixedPoints d h x)
 unfolding entry

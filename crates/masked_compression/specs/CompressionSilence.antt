@@ -20,10 +20,11 @@ use Rattle.worksheet.specs.SharingLaws.{keep, keep-bits}
 use Rattle.worksheet.specs.SharedList.{SharedList, sharedAt}
 use Rattle.worksheet.specs.Choice.{Kept, KeptList, chosen, SameShares, SameShare, sameShare-at}
 use Rattle.worksheet.specs.PassLaws.{like-entries, silent-entries}
-use Rattle.masked_compression.specs.PlaneSum.{plainSum, plane-add}
-use Rattle.masked_compression.specs.AdderSilence.{like-adder, coupled-adder, silent-adder}
-use Rattle.masked_compression.specs.Adder.{adder}
-use Rattle.masked_compression.specs.EntryCounts.{adderEntries, compressEntries}
+use Rattle.masked_adder.specs.PlaneSum.{plainSum, plane-add}
+use Rattle.masked_adder.specs.AdderSilence.{like-adder, coupled-adder, silent-adder}
+use Rattle.masked_adder.specs.Adder.{adder}
+use Rattle.masked_adder.specs.EntryCounts.{adderEntries}
+use Rattle.masked_compression.specs.EntryCounts.{compressEntries}
 use Rattle.masked_compression.specs.Compression.{fixedPoint, maskedCompress}
 
 plainSum-bits : (v w : ℕ → ℕ) (j : ℕ) → Bits 64 (plainSum (plane 64 v) (plane 64 w) j)

@@ -1,11 +1,5 @@
-pub mod Adder
-pub mod EntryCounts
-pub mod PlaneSum
-pub mod AdderLaws
-pub mod AdderStepsSilence
-pub mod AdderSilence
-pub mod Transposition
 pub mod Compression
+pub mod EntryCounts
 pub mod Lent
 pub mod CompressionReads
 pub mod CompressionLaws

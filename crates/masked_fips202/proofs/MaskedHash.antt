@@ -10,9 +10,9 @@ use Rattle.worksheet.specs.ProgLaws.{bind-assoc}
 use Rattle.worksheet.specs.Ran.{Ran, bind}
 use Rattle.worksheet.specs.Run.{run}
 use Rattle.worksheet.specs.SharedList.{SharedList}
-use Rattle.masked_fips202.specs.MaskedSponge.{maskedAbsorb, maskedSponge}
-use Rattle.masked_fips202.specs.MaskedBytes.{maskedHash}
-use Rattle.masked_fips202.specs.MaskedSteps.{squeezeBytes}
+use Rattle.masked_sponge.specs.MaskedSponge.{maskedAbsorb, maskedSponge}
+use Rattle.masked_sponge.specs.MaskedBytes.{maskedHash}
+use Rattle.masked_sponge.specs.MaskedSteps.{squeezeBytes}
 
 -- the blocks of n bytes are few, so that the masks for them can be counted
 pub blocks-le : (rate n : ℕ) → 8 ≤ rate → n / rate * 8 ≤ n

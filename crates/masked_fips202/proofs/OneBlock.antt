@@ -11,7 +11,7 @@ use Rattle.worksheet.specs.declared.Recorder.{Recorder}
 use Rattle.worksheet.specs.Ran.{Ran, bind, over}
 use Rattle.worksheet.specs.RanLoops.{chain-start}
 use Rattle.worksheet.specs.SharedList.{SharedList, sharedList, sharedAt, unzip}
-use Rattle.masked_fips202.specs.MaskedSponge.{furtherBlocks, maskedSqueeze}
+use Rattle.masked_sponge.specs.MaskedSponge.{furtherBlocks, maskedSqueeze}
 
 -- the first n lanes of a state
 abbrev pub lanesOf : ℕ → List ℕ → List ℕ

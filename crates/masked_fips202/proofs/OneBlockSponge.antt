@@ -7,8 +7,8 @@ use lib.ListN.{length, drop}
 use Rattle.worksheet.specs.declared.Recorder.{Recorder}
 use Rattle.worksheet.specs.Ran.{Ran, bind}
 use Rattle.worksheet.specs.SharedList.{SharedList, sharedList}
-use Rattle.masked_fips202.specs.MaskedSponge.{inputBlocks, maskedAbsorb, maskedSponge, hashMaskWords}
-use Rattle.masked_fips202.specs.MaskedSponge.{spongeMaskWords}
+use Rattle.masked_sponge.specs.MaskedSponge.{inputBlocks, maskedAbsorb, maskedSponge, hashMaskWords}
+use Rattle.masked_sponge.specs.MaskedSponge.{spongeMaskWords}
 use Rattle.masked_fips202.specs.MaskedWordsLaws.{spongeMaskWords-one}
 use Rattle.masked_fips202.proofs.OneBlock.{lanesOf, squeeze-one}
 

@@ -1,14 +1,10 @@
-pub mod MaskedSponge
-pub mod EntryCounts
 pub mod MaskedWords
+pub mod EntryCounts
 pub mod Lent
 pub mod MaskedWordsLaws
 pub mod MaskedSpongeUses
-pub mod MaskedBytes
-pub mod MaskedSteps
 pub mod MaskedCalls
 pub mod XorBytes
 pub mod MaskedSpongeValue
 pub mod MaskedCallsJoin
-pub mod MaskedBlocksSilence
 pub mod MaskedSpongeSilence

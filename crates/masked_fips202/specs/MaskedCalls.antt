@@ -10,8 +10,8 @@ use Rattle.worksheet.specs.SharedList.{SharedList}
 use Rattle.refusals.specs.declared.Answer.{Answer}
 use Rattle.refusals.specs.declared.Answer.the-variants.{WrongLength}
 use Rattle.refusals.specs.Refusals.{number, row, answer, after, Lent, lent, sized}
-use Rattle.masked_fips202.specs.MaskedSponge.{permutations, hashMaskWords}
-use Rattle.masked_fips202.specs.MaskedBytes.{maskedHash}
+use Rattle.masked_sponge.specs.MaskedSponge.{permutations, hashMaskWords}
+use Rattle.masked_sponge.specs.MaskedBytes.{maskedHash}
 
 -- SHA3-512 and SHAKE256 of a message in two shares, the output of d bytes in two shares too
 unfoldable pub maskedSha3-512 : List ℕ → List ℕ → Prog SharedList

@@ -26,11 +26,12 @@ use Rattle.masked_keccak.specs.Silence.{maskedKeccakP-stage, coupled-maskedKecc
 use Rattle.fips202.specs.Sponge.{padded, laneOf}
 use Rattle.fips202.specs.Blocks.{below-padded}
 use Rattle.masked_fips202.specs.XorBytes.{laneOf-bits}
-use Rattle.masked_fips202.specs.MaskedSponge.{sharedBlock, maskedAbsorb, maskedSqueeze, maskedSponge}
-use Rattle.masked_fips202.specs.MaskedSponge.{inputBlocks, furtherBlocks}
-use Rattle.masked_fips202.specs.EntryCounts.{blocksEntries, spongeEntries, sha3-512Entries, shake256Entries}
+use Rattle.masked_sponge.specs.MaskedSponge.{sharedBlock, maskedAbsorb, maskedSqueeze, maskedSponge}
+use Rattle.masked_sponge.specs.MaskedSponge.{inputBlocks, furtherBlocks}
+use Rattle.masked_sponge.specs.EntryCounts.{blocksEntries, spongeEntries}
+use Rattle.masked_fips202.specs.EntryCounts.{sha3-512Entries, shake256Entries}
 use Rattle.masked_fips202.specs.MaskedWords.{maskedSha3-512Words, maskedShake256Words}
-use Rattle.masked_fips202.specs.MaskedBlocksSilence.{BlocksBoth, maskedBlocks-stage}
+use Rattle.masked_sponge.specs.MaskedBlocksSilence.{BlocksBoth, maskedBlocks-stage}
 
 -- ---- n words of output
 

@@ -15,11 +15,12 @@ use Rattle.worksheet.specs.EntryCounts.{xorEntries}
 use Rattle.masked_keccak.specs.MaskedKeccak.{keccakPWords}
 use Rattle.masked_keccak.specs.EntryCounts.{keccakPEntries}
 use Rattle.masked_keccak.specs.MaskedKeccakUses.{uses-maskedKeccakP}
-use Rattle.masked_fips202.specs.MaskedSponge.{start, mixLanes, maskedBlocks, maskedAbsorb, maskedSqueeze}
-use Rattle.masked_fips202.specs.MaskedSponge.{maskedSponge}
-use Rattle.masked_fips202.specs.MaskedSponge.{inputBlocks, furtherBlocks, hashMaskWords}
-use Rattle.masked_fips202.specs.EntryCounts.{blocksEntries, spongeEntries, sha3-512Entries, shake256Entries}
-use Rattle.masked_fips202.specs.MaskedSponge.{spongeMaskWords}
+use Rattle.masked_sponge.specs.MaskedSponge.{start, mixLanes, maskedBlocks, maskedAbsorb, maskedSqueeze}
+use Rattle.masked_sponge.specs.MaskedSponge.{maskedSponge}
+use Rattle.masked_sponge.specs.MaskedSponge.{inputBlocks, furtherBlocks, hashMaskWords}
+use Rattle.masked_sponge.specs.EntryCounts.{blocksEntries, spongeEntries}
+use Rattle.masked_fips202.specs.EntryCounts.{sha3-512Entries, shake256Entries}
+use Rattle.masked_sponge.specs.MaskedSponge.{spongeMaskWords}
 use Rattle.masked_fips202.specs.MaskedWords.{maskedSha3-512Words, sha3-512MaskWords}
 use Rattle.masked_fips202.specs.MaskedWords.{maskedShake256Words, shake256MaskWords}
 

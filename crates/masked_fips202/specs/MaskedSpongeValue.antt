@@ -36,11 +36,11 @@ use Rattle.fips202.specs.Lanes.{laneOf-past, byte-place, block-lt}
 use Rattle.fips202.specs.Words.{spongeWords, sha3-512Words, shake256Words}
 use Rattle.masked_fips202.specs.XorBytes.{xorOf-take, xorOf-drop, xorOf-padded, length-joined, sharing-lane}
 use Rattle.masked_fips202.specs.XorBytes.{byte-xor}
-use Rattle.masked_fips202.specs.MaskedSponge.{start, mixLanes, maskedBlocks, maskedAbsorb, maskedSqueeze}
-use Rattle.masked_fips202.specs.MaskedSponge.{inputBlocks, furtherBlocks, maskedSponge}
+use Rattle.masked_sponge.specs.MaskedSponge.{start, mixLanes, maskedBlocks, maskedAbsorb, maskedSqueeze}
+use Rattle.masked_sponge.specs.MaskedSponge.{inputBlocks, furtherBlocks, maskedSponge}
 use Rattle.fips202.specs.Sizes.{SpongeFits}
 use Rattle.masked_fips202.specs.MaskedWordsLaws.{sha3-512-fits, shake256-fits}
-use Rattle.masked_fips202.specs.MaskedBytes.{sharedBytes, maskedHash}
+use Rattle.masked_sponge.specs.MaskedBytes.{sharedBytes, maskedHash}
 use Rattle.masked_fips202.specs.MaskedWords.{maskedSha3-512Words, maskedShake256Words}
 use Rattle.masked_fips202.specs.MaskedCalls.{maskedSha3-512, maskedShake256}
 

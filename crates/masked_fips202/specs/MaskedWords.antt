@@ -3,7 +3,7 @@ use mathlib.Core.List.{List}
 use Prim.Native.Nat.{ℕ}
 use Rattle.worksheet.specs.Prog.{Prog}
 use Rattle.worksheet.specs.SharedList.{SharedList}
-use Rattle.masked_fips202.specs.MaskedSponge.{maskedSponge, spongeMaskWords}
+use Rattle.masked_sponge.specs.MaskedSponge.{maskedSponge, spongeMaskWords}
 
 -- ---- SHA3-512, eight words
 

@@ -3,7 +3,7 @@ use mathlib.Core.Path.{_≡_, refl}
 use Prim.Native.Nat.{ℕ, _-_, _/_, _<_, _≤_}
 use native.Mathlib.Nat.{div-eq-of-lt}
 use native.Mathlib.Omega.{arith}
-use Rattle.masked_fips202.specs.MaskedSponge.{inputBlocks, furtherBlocks, hashMaskWords, spongeMaskWords}
+use Rattle.masked_sponge.specs.MaskedSponge.{inputBlocks, furtherBlocks, hashMaskWords, spongeMaskWords}
 use Rattle.fips202.specs.Sizes.{SpongeFits}
 
 pub sha3-512-fits : SpongeFits 72 0x06

@@ -1,7 +1,5 @@
 // SHA3-512 and SHAKE256 on two shares.
-pub mod masked_absorb; // a message taken in on two shares
 pub mod masked_hash; // the two hashes
-pub mod masked_squeeze; // output given out on two shares
 pub mod masked_words; // the two hashes, recorded, with output in words
 
 pub use masked_hash::masked_sha3_512;

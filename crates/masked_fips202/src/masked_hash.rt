@@ -9,13 +9,13 @@ ghost use Rattle.worksheet.specs.Run.{run};
 ghost use Rattle.worksheet.specs.SharedList.{sharedList};
 ghost use Rattle.fips202.specs.Sizes.{SpongeFits};
 ghost use Rattle.masked_fips202.specs.Lent.{HashLent};
-ghost use Rattle.masked_fips202.specs.MaskedSponge.{permutations as permutationsOf, hashMaskWords};
-ghost use Rattle.masked_fips202.specs.MaskedBytes.{maskedHash};
+ghost use Rattle.masked_sponge.specs.MaskedSponge.{permutations as permutationsOf, hashMaskWords};
+ghost use Rattle.masked_sponge.specs.MaskedBytes.{maskedHash};
 ghost use Rattle.masked_fips202.specs.MaskedCalls.{hashAnswer, MaskedHashed};
 ghost use Rattle.masked_fips202.specs.MaskedCalls.{maskedSha3-512Call, maskedShake256Call};
-use crate::masked_absorb::masked_absorb;
-use crate::masked_squeeze::further;
-use crate::masked_squeeze::masked_squeeze;
+use masked_sponge::masked_absorb::masked_absorb;
+use masked_sponge::masked_squeeze::further;
+use masked_sponge::masked_squeeze::masked_squeeze;
 use refusals::Answer;
 use worksheet::Recorder;
 

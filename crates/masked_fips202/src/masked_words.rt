@@ -6,12 +6,12 @@ ghost use Rattle.words.specs.Tab.{tab};
 ghost use Rattle.worksheet.specs.Prog.{word};
 ghost use Rattle.worksheet.specs.Ran.{Draws};
 ghost use Rattle.worksheet.specs.SharedList.{sharedList};
-ghost use Rattle.masked_fips202.specs.MaskedSponge.{maskedSponge, spongeMaskWords};
+ghost use Rattle.masked_sponge.specs.MaskedSponge.{maskedSponge, spongeMaskWords};
 ghost use Rattle.masked_fips202.specs.MaskedWords.{maskedSha3-512Words, maskedShake256Words};
 ghost use Rattle.masked_fips202.specs.MaskedWords.{sha3-512MaskWords, shake256MaskWords};
 ghost use Rattle.masked_fips202.specs.Lent.{WordsLent, Sha3-512Lent, Shake256Lent};
-use crate::masked_absorb::masked_absorb;
 use keccak::state::State;
+use masked_sponge::masked_absorb::masked_absorb;
 use worksheet::Recorder;
 
 // The first lanes of a state.

@@ -7,17 +7,18 @@ use Rattle.words.specs.Part.{part-take}
 use Rattle.codec.specs.Bytes.{byteDecode}
 use Rattle.codec.specs.BytesLaws.{length-byteDecode}
 use Rattle.codec.specs.Compress.{decompress}
-use Rattle.ring.specs.Linear.{ntt-linear}
+use Rattle.transform.specs.Linear.{ntt-linear}
 use Rattle.ring.specs.Polynomial.{sub}
 use Rattle.ring.specs.Sum.{length-sub}
-use Rattle.ring.specs.Transform.{ntt, inverseNtt}
+use Rattle.transform.specs.Transform.{ntt, inverseNtt}
 use Rattle.worksheet.specs.declared.Recorder.{Recorder}
 use Rattle.worksheet.specs.Pass.{enterBoth}
 use Rattle.worksheet.specs.Ran.{Makes}
 use Rattle.worksheet.specs.SharedList.{SharedList, sharedList}
 use Rattle.kpke.specs.Parameters.{Parameters}
-use Rattle.kpke.specs.KPke.{parts, concat, dot, firstDecoded, secondDecoded, noisyMessage}
-use Rattle.kpke.specs.VectorLaws.{part-fits, Each, parts-concat, concat-cong, dot-cong}
+use Rattle.vectors.specs.Vector.{parts, concat, dot}
+use Rattle.kpke.specs.KPke.{firstDecoded, secondDecoded, noisyMessage}
+use Rattle.vectors.specs.VectorLaws.{part-fits, Each, parts-concat, concat-cong, dot-cong}
 use Rattle.stages.specs.Worksheet.{stage1}
 
 length-decoded : (d : ℕ) (b : List ℕ) → length (map (decompress d) (byteDecode d b)) ≡ 256

@@ -6,7 +6,7 @@ use Prim.Native.Nat.{ℕ, zero, suc, _+_, _*_}
 use native.Mathlib.Nat.{add-zero, add-suc, mul-zero, mul-suc}
 use Rattle.worksheet.specs.Prog.{Prog, ret, draw, enter, _>>=_, loop, snoc, times}
 use Rattle.worksheet.specs.ProgLaws.{bind-assoc}
-use Rattle.masked_kpke.proofs.Laid.{flatten-append}
+use Rattle.stages.specs.FlattenLaws.{flatten-append}
 
 bind-ret : {A : Type 0} (p : Prog A) → p >>= ret ≡ p
 unfolding _>>=_

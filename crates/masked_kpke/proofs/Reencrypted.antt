@@ -14,9 +14,9 @@ use Rattle.words.specs.Residue.{q}
 use Rattle.words.specs.TabLaws.{getD-tab}
 use Rattle.codec.specs.Bytes.{byteDecode12}
 use Rattle.ring.specs.Polynomial.{add}
-use Rattle.ring.specs.Linear.{length-inverseNtt}
+use Rattle.transform.specs.Linear.{length-inverseNtt}
 use Rattle.ring.specs.Sum.{length-add, below-add}
-use Rattle.ring.specs.Transform.{ntt, inverseNtt}
+use Rattle.transform.specs.Transform.{ntt, inverseNtt}
 use Rattle.worksheet.specs.declared.Recorder.{Recorder}
 use Rattle.worksheet.specs.Pass.{enterBoth}
 use Rattle.worksheet.specs.Prog.{times}
@@ -24,16 +24,17 @@ use Rattle.worksheet.specs.ProgLaws.{times-cong}
 use Rattle.worksheet.specs.Ran.{Ran, Makes}
 use Rattle.worksheet.specs.SharedList.{SharedList, sharedList}
 use Rattle.kpke.specs.Parameters.{Parameters, vectorBytes}
-use Rattle.kpke.specs.KPke.{parts, concat, matrix}
+use Rattle.vectors.specs.Vector.{parts, concat}
+use Rattle.kpke.specs.KPke.{matrix}
 use Rattle.kpke.specs.Expanded.{placesOf, Expanded}
-use Rattle.kpke.specs.VectorLaws.{Each, part-fits, length-concat, parts-concat, concat-cong, dot-cong}
-use Rattle.kpke.proofs.Concatenated.{two-parts}
-use Rattle.kpke.proofs.Parts.{below-concat, decoded-at}
+use Rattle.vectors.specs.VectorLaws.{Each, part-fits, length-concat, parts-concat, concat-cong, below-concat, dot-cong}
+use Rattle.vectors.proofs.Concatenated.{two-parts}
+use Rattle.kpke.proofs.Parts.{decoded-at}
 use Rattle.stages.specs.Moves.{nothing, shares0, shares1}
 use Rattle.stages.specs.Worksheet.{uShare, vShare, uvShare, stage6}
 use Rattle.stages.specs.Layout.{partOf, partsBy, polynomials}
 use Rattle.masked_kpke.specs.Passes.{uPass, vPass, uvPass}
-use Rattle.masked_kpke.proofs.StoredRun.{ran-as}
+use Rattle.stages.specs.StoredRun.{ran-as}
 use Rattle.masked_kpke.proofs.Vectors.{length-y, y-at, e1-at, e2-at}
 
 -- ---- the passes: lengths, bounds, and what they read
@@ -60,7 +61,7 @@ length-uvPass k a t n mu =
 
 pub below-uvPass : (k : ℕ) (a : ℕ → ℕ → List ℕ) (t n : ℕ → List ℕ) (mu : List ℕ) → Below q (uvPass k a t n mu)
 unfolding uvPass uPass vPass
-below-uvPass k a t n mu = below-append _ (below-concat k (omega arith) (λ i. below-add _ _)) (below-add _ _)
+below-uvPass k a t n mu = below-append _ (below-concat k (omega arith) (λ i g. below-add _ _)) (below-add _ _)
 
 module _ (k : ℕ) {y z : ℕ → List ℕ} (h : (j : ℕ) → j < k → y j ≡ z j) where
   uPass-cong : (a b : ℕ → ℕ → List ℕ) {e f : List ℕ} (i : ℕ) → ((j : ℕ) → j < k → a j i ≡ b j i) → e ≡ f

@@ -6,10 +6,10 @@ use native.Mathlib.Omega.{arith}
 use lib.ListN.{length, take, drop}
 use lib.Seq.{length-take-le, drop-drop}
 use Rattle.words.specs.Part.{length-part, part-take}
-use Rattle.ring.specs.Linear.{ntt-linear}
-use Rattle.ring.specs.Transform.{ntt}
-use Rattle.kpke.specs.KPke.{parts, concat, dot}
-use Rattle.kpke.specs.VectorLaws.{Each, part-fits, length-concat, parts-concat, dot-cong}
+use Rattle.transform.specs.Linear.{ntt-linear}
+use Rattle.transform.specs.Transform.{ntt}
+use Rattle.vectors.specs.Vector.{parts, concat, dot}
+use Rattle.vectors.specs.VectorLaws.{Each, part-fits, length-concat, parts-concat, dot-cong}
 
 -- the product with all parts of a
 pub dot-whole : (k : ℕ) (a : List ℕ) (g : ℕ → List ℕ) → dot k (λ j. parts 256 a (0 + 1 * j)) g ≡ dot k (parts 256 a) g

@@ -1,5 +1,4 @@
 pub mod Slices
-pub mod SliceLaws
 pub mod MakesResidues
 pub mod Passes
 pub mod Encryption

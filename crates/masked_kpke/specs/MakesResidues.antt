@@ -4,7 +4,7 @@ use Rattle.worksheet.specs.declared.Recorder.{Recorder}
 use Rattle.worksheet.specs.Prog.{Prog}
 use Rattle.worksheet.specs.Ran.{Makes}
 use Rattle.worksheet.specs.SharedList.{SharedList}
-use Rattle.masked_kpke.specs.Slices.{Residues}
+use Rattle.stages.specs.Slices.{Residues}
 
 -- p gives what f reads from the n coefficients z
 pub record MakesResidues {A : Type 0} (p : Prog A) (r : Recorder) (n : ℕ) (f : SharedList → A) (z : SharedList)

@@ -2,8 +2,8 @@
 use mathlib.Core.List.{List, _++_}
 use Prim.Native.Nat.{ℕ, _+_, _*_}
 use Rattle.ring.specs.Polynomial.{add}
-use Rattle.ring.specs.Transform.{ntt, inverseNtt}
-use Rattle.kpke.specs.KPke.{concat, dot}
+use Rattle.transform.specs.Transform.{ntt, inverseNtt}
+use Rattle.vectors.specs.Vector.{concat, dot}
 
 -- row i of u, for the matrix a, the transformed y and row i of e1
 unfoldable pub uPass : ℕ → (ℕ → ℕ → List ℕ) → (ℕ → List ℕ) → List ℕ → ℕ → List ℕ

@@ -11,8 +11,8 @@ ghost use Rattle.masked_kpke.specs.Encryption.{encryptWith};
 ghost use Rattle.masked_kpke.specs.Slices.{EncryptWithInput, MaskedEncryptInput};
 use crate::compression::stage7;
 use crate::message::stage4;
-use crate::noise::stage5;
 use crate::reencryption::stage6;
+use masked_noise::noise::stage5;
 use worksheet::Recorder;
 
 // Stages 6 and 7, for the matrix a and the noise n0, n1, whose first places u and v take.
@@ -56,8 +56,8 @@ pub fn masked_encrypt(
     planes1: &mut [u64],
 ) -> Recorder
     requires { ⌜
-        MaskedEncryptInput mlKem768 5391 7424 (now ek) (now a) (sharedList (now m0) (now m1)) (sharedList (now r0) (now r1))
-        (now ws) (now cs) (sharedList (now planes0) (now planes1)) ⌝ }
+        MaskedEncryptInput mlKem768 5391 7424 (now ek) (now a) (sharedList (now m0) (now m1))
+        (sharedList (now r0) (now r1)) (now ws) (now cs) (sharedList (now planes0) (now planes1)) ⌝ }
     ensures { λ r. ⌜
         Ran
         (maskedEncrypt mlKem768 (now (ek .entry)) (sharedList (now (m0 .entry)) (now (m1 .entry)))

@@ -3,7 +3,7 @@ ghost use Rattle.worksheet.specs.Prog.{coeff};
 ghost use Rattle.worksheet.specs.Ran.{Draws};
 ghost use Rattle.worksheet.specs.SharedList.{sharedList};
 ghost use Rattle.stages.specs.Worksheet.{stage4 as stage4Of};
-ghost use Rattle.masked_kpke.specs.Slices.{ConvertInput};
+ghost use Rattle.stages.specs.Slices.{ConvertInput};
 use masked_sampler::coefficient::bit_of;
 use masked_sampler::coefficient::bit_to_coeff;
 use worksheet::Recorder;

@@ -3,20 +3,20 @@ ghost use mathlib.Core.Path.{_≡_};
 ghost use lib.ListN.{take};
 ghost use Rattle.worksheet.specs.SharedList.{sharedList};
 ghost use Rattle.kpke.specs.Parameters.{mlKem768};
-ghost use Rattle.kpke.specs.KPke.{parts, concat};
+ghost use Rattle.vectors.specs.Vector.{parts, concat};
 ghost use Rattle.kpke.specs.Expanded.{placesOf};
 ghost use Rattle.stages.specs.Worksheet.{stage6 as stage6Of};
 ghost use Rattle.stages.specs.Layout.{polynomials};
 ghost use Rattle.masked_kpke.specs.Passes.{uPass, vPass, uvPass};
 ghost use Rattle.masked_kpke.specs.MakesResidues.{MakesResidues};
 ghost use Rattle.masked_kpke.specs.Slices.{RowsInput, LastInput, ShareInput, PassInput, ReencryptInput};
-use crate::passes::enter_polynomials;
-use kpke::copy::copy_coefficients;
-use kpke::vector::decode12_all;
-use kpke::vector::dot;
-use kpke::vector::ntt_all;
+use masked_polynomials::passes::enter_polynomials;
 use ring::add_to;
-use ring::inverse_ntt;
+use transform::inverse_ntt;
+use vectors::copy::copy_coefficients;
+use vectors::decode12_all;
+use vectors::dot;
+use vectors::ntt_all;
 use worksheet::Recorder;
 
 // Row i of u, for the matrix a, the transformed y and row i of e1.

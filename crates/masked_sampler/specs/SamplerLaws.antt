@@ -14,7 +14,7 @@ use Rattle.words.specs.TabLaws.{getD-tab, tab-add, tab-cong, tab-part}
 use Rattle.ring.specs.Polynomial.{minus}
 use Rattle.codec.specs.Bytes.{bitsOf}
 use Rattle.codec.specs.BytesLaws.{length-bitsOf}
-use Rattle.codec.specs.Sample.{sum, samplePolyCbd}
+use Rattle.sampling.specs.Sample.{sum, samplePolyCbd}
 use Rattle.worksheet.specs.declared.Shares.{Shares}
 use Rattle.worksheet.specs.Prog.{entry}
 use Rattle.worksheet.specs.ProgLaws.{loop-cong, times-cong}

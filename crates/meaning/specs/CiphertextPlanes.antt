@@ -15,12 +15,14 @@ use Rattle.codec.specs.Bytes.{byteEncode, byteDecode}
 use Rattle.codec.specs.BytesLaws.{length-byteEncode, below-byteEncode, length-byteDecode, below-byteDecode}
 use Rattle.codec.specs.BytesLaws.{byteDecode-byteEncode, byteEncode-byteDecode}
 use Rattle.kpke.specs.Parameters.{Parameters, ctBytes}
-use Rattle.kpke.specs.KPke.{parts, concat}
-use Rattle.kpke.specs.VectorLaws.{Each, part-fits, length-concat, concat-cong, concat-parts, parts-concat}
+use Rattle.vectors.specs.Vector.{parts, concat}
+use Rattle.vectors.specs.VectorLaws.{Each, part-fits, length-concat, below-concat}
+use Rattle.vectors.specs.VectorLaws.{concat-cong, concat-parts, parts-concat}
 use Rattle.stages.specs.Worksheet.{planesOf, ciphertextPlanes, wordCount}
-use Rattle.meaning.specs.FlattenLaws.{below-concat, length-flatten, flatten-cancel}
-use Rattle.meaning.specs.FlattenLaws.{append-cancel-front, append-cancel-back}
-use Rattle.meaning.specs.PlanesValue.{Numbers, length-planesOf, ext-planesOf}
+use Rattle.stages.specs.FlattenLaws.{length-flatten, flatten-cancel}
+use Rattle.stages.specs.FlattenLaws.{append-cancel-front, append-cancel-back}
+use Rattle.stages.specs.PlanesLaws.{length-planesOf}
+use Rattle.meaning.specs.PlanesValue.{Numbers, ext-planesOf}
 
 -- a string of a ciphertext's length
 pub record Ciphertext (p : Parameters) (c : List ℕ) : Type 0 where

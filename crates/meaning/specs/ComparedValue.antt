@@ -13,7 +13,7 @@ use Rattle.kpke.specs.Parameters.{Parameters, ctBytes}
 use Rattle.kpke.specs.KPke.{encrypt, decrypt}
 use Rattle.refusals.specs.Same.{same}
 use Rattle.mlkem.specs.MlKem.{secretPart, publicPart, hashPart}
-use Rattle.mlkem.specs.SplitKey.{SplitKey, ekOf, hOf}
+use Rattle.split_key.specs.SplitKey.{SplitKey, ekOf, hOf}
 use Rattle.stages.specs.Fits.{Fits}
 use Rattle.stages.specs.Worksheet.{Compared, maskedDecrypt, compared}
 use Rattle.meaning.specs.JoinedDk.{joinedDk}

@@ -8,13 +8,13 @@ use lib.ListN.{drop}
 use Rattle.codec.specs.Bytes.{byteEncode, byteDecode}
 use Rattle.codec.specs.Compress.{compress, decompress}
 use Rattle.ring.specs.Polynomial.{add}
-use Rattle.ring.specs.Transform.{ntt, inverseNtt}
+use Rattle.transform.specs.Transform.{ntt, inverseNtt}
 use Rattle.worksheet.specs.Turns.{Each}
 use Rattle.worksheet.specs.Gives.{Gives, ret-g, gives-bind, gives-times}
 use Rattle.worksheet.specs.SharedList.{SharedList}
 use Rattle.kpke.specs.Parameters.{Parameters, vectorBytes}
 use Rattle.kpke.specs.KPke.{matrix, firstPart, secondPart, ephemeral, publicVector, encrypt}
-use Rattle.kpke.specs.VectorLaws.{concat-cong, dot-cong}
+use Rattle.vectors.specs.VectorLaws.{concat-cong, dot-cong}
 use Rattle.stages.specs.Fits.{Fits}
 use Rattle.stages.specs.Moves.{nothing}
 use Rattle.stages.specs.Worksheet.{uShare, vShare, uvShare, planesOf, stage7, ciphertextPlanes, maskedEncrypt}

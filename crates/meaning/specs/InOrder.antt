@@ -4,7 +4,7 @@ use Prim.Native.Nat.{_+_, _*_, _^_}
 use lib.ListN.{length}
 use Rattle.words.specs.Bounded.{Below}
 use Rattle.kpke.specs.Parameters.{Parameters, ekBytes}
-use Rattle.mlkem.specs.SplitKey.{SplitKey, hOf}
+use Rattle.split_key.specs.SplitKey.{SplitKey, hOf}
 
 pub record InOrder (p : Parameters) (key : SplitKey) : Type 0 where
   pub s0 : length (key .s .s0) ≡ 256 * p .k

@@ -6,8 +6,8 @@ use Rattle.codec.specs.Bytes.{byteEncode}
 use Rattle.ring.specs.Polynomial.{add}
 use Rattle.worksheet.specs.SharedList.{SharedList, joinedList}
 use Rattle.kpke.specs.Parameters.{Parameters}
-use Rattle.kpke.specs.KPke.{parts, concat}
-use Rattle.mlkem.specs.SplitKey.{SplitKey}
+use Rattle.vectors.specs.Vector.{parts, concat}
+use Rattle.split_key.specs.SplitKey.{SplitKey}
 
 -- the sums modulo q of two shares of coefficients
 abbrev pub joinedCoeffs : SharedList → List ℕ

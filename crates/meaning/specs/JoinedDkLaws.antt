@@ -15,14 +15,15 @@ use Rattle.codec.specs.BytesLaws.{length-byteEncode, byteDecode12-byteEncode}
 use Rattle.codec.specs.Compress.{compress}
 use Rattle.ring.specs.Polynomial.{sub}
 use Rattle.ring.specs.Sum.{below-add, length-add}
-use Rattle.ring.specs.Transform.{inverseNtt}
+use Rattle.transform.specs.Transform.{inverseNtt}
 use Rattle.worksheet.specs.SharedList.{joinedList}
 use Rattle.kpke.specs.Parameters.{Parameters, vectorBytes, ekBytes}
-use Rattle.kpke.specs.KPke.{parts, concat, secondDecoded, noisyMessage, decrypt}
-use Rattle.kpke.specs.VectorLaws
-use Rattle.kpke.specs.VectorLaws.{part-fits, length-concat, parts-concat, dot-cong}
+use Rattle.vectors.specs.Vector.{parts, concat}
+use Rattle.kpke.specs.KPke.{secondDecoded, noisyMessage, decrypt}
+use Rattle.vectors.specs.VectorLaws
+use Rattle.vectors.specs.VectorLaws.{part-fits, length-concat, parts-concat, dot-cong}
 use Rattle.mlkem.specs.MlKem.{secretPart, publicPart, hashPart, zPart}
-use Rattle.mlkem.specs.SplitKey.{SplitKey, ekOf, hOf}
+use Rattle.split_key.specs.SplitKey.{SplitKey, ekOf, hOf}
 use Rattle.meaning.specs.JoinedDk.{joinedCoeffs, joinedDk}
 use Rattle.meaning.specs.InOrder.{InOrder}
 

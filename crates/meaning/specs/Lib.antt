@@ -1,5 +1,4 @@
 pub mod WordBits
-pub mod FlattenLaws
 pub mod JoinedDk
 pub mod InOrder
 pub mod JoinedDkLaws

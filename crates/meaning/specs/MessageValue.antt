@@ -25,7 +25,8 @@ use Rattle.masked_sampler.specs.CoefficientLaws.{gives-bitToCoeff, bit-1665}
 use Rattle.stages.specs.Moves.{stringBit}
 use Rattle.stages.specs.Worksheet.{planesOf, stage2, stage4}
 use Rattle.meaning.specs.WordBits.{bitsOf-wordsToBytes, getD-bitsOf, ext-bytes}
-use Rattle.meaning.specs.PlanesValue.{planeOf, digit-planeOf, length-planesOf, gives-compressPoly}
+use Rattle.stages.specs.PlanesLaws.{length-planesOf}
+use Rattle.meaning.specs.PlanesValue.{planeOf, digit-planeOf, gives-compressPoly}
 use Rattle.meaning.specs.StageSharing.{PolySharing, BytesSharing}
 use Rattle.meaning.specs.StageSharingLaws.{polySharing-length, polySharing-unzip, wordSharing-unzip}
 use Rattle.meaning.specs.StageSharingLaws.{bytesSharing-length, joined-stringBit}

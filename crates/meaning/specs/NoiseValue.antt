@@ -14,8 +14,8 @@ use Rattle.words.specs.TabLaws.{tab-cong, tab-of}
 use Rattle.words.specs.DigitLaws.{digit-lt}
 use Rattle.codec.specs.Bytes.{bitsOf}
 use Rattle.ring.specs.Polynomial.{minus}
-use Rattle.codec.specs.Sample.{sum, samplePolyCbd}
-use Rattle.codec.specs.SampleLaws.{length-samplePolyCbd}
+use Rattle.sampling.specs.Sample.{sum, samplePolyCbd}
+use Rattle.sampling.specs.SampleLaws.{length-samplePolyCbd}
 use Rattle.fips202.specs.Sponge.{shake256}
 use Rattle.worksheet.specs.Turns.{Each}
 use Rattle.worksheet.specs.Flatten.{each-append}

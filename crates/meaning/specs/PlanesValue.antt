@@ -22,9 +22,9 @@ use Rattle.worksheet.specs.Gives.{Gives, ret-g, gives-bind, gives-weaken, gives
 use Rattle.worksheet.specs.SharedList.{SharedList, sharedAt}
 use Rattle.masked_compression.specs.Compression.{maskedCompress}
 use Rattle.masked_compression.specs.CompressionLaws.{gives-maskedCompress}
-use Rattle.kpke.specs.VectorLaws
+use Rattle.vectors.specs.VectorLaws
 use Rattle.stages.specs.Worksheet.{planesOf, compressPoly}
-use Rattle.meaning.specs.FlattenLaws.{length-flatten, flatten-cancel}
+use Rattle.stages.specs.FlattenLaws.{flatten-cancel}
 use Rattle.meaning.specs.StageSharing.{PolySharing, SharingList}
 use Rattle.meaning.specs.StageSharingLaws.{polySharing-at, sharingList-tab, sharingList-flatten}
 
@@ -65,10 +65,6 @@ ext-planes d {f} {h} a b r =
 module _ (d : ℕ) where
   each-group : (f : List ℕ) → VectorLaws.Each d 4 (λ g. tab d (planeOf f g))
   each-group f = record { long = λ g h. length-tab d (planeOf f g) }
-
-  pub length-planesOf : (f : List ℕ) → length (planesOf d f) ≡ 4 * d
-  unfolding planesOf
-  length-planesOf f = length-flatten (each-group f) ∙ omega arith
 
   pub ext-planesOf : {f h : List ℕ} → Numbers d f → Numbers d h → planesOf d f ≡ planesOf d h → f ≡ h
   unfolding planesOf

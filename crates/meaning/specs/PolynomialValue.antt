@@ -12,9 +12,9 @@ use Rattle.codec.specs.BytesLaws.{length-byteDecode, length-byteDecode12}
 use Rattle.codec.specs.Compress.{decompress}
 use Rattle.ring.specs.Polynomial.{add, sub}
 use Rattle.ring.specs.Sum.{length-add, length-sub, add-swap, part-add, sub-shares}
-use Rattle.codec.specs.Sample.{sampleNtt, accepted}
-use Rattle.ring.specs.Transform.{ntt, inverseNtt}
-use Rattle.ring.specs.Linear.{ntt-linear, inverseNtt-linear}
+use Rattle.sampling.specs.Sample.{sampleNtt, accepted}
+use Rattle.transform.specs.Transform.{ntt, inverseNtt}
+use Rattle.transform.specs.Linear.{ntt-linear, inverseNtt-linear}
 use Rattle.worksheet.specs.Pass.{enterBoth}
 use Rattle.worksheet.specs.PassLaws.{gives-enterBoth}
 use Rattle.worksheet.specs.Turns.{Each}
@@ -22,9 +22,10 @@ use Rattle.worksheet.specs.Gives.{Gives, gives-weaken, gives-times}
 use Rattle.worksheet.specs.SharedList.{SharedList}
 use Rattle.kpke.specs.Parameters.{Parameters, vectorBytes}
 use Rattle.kpke.specs.Functions.{XOF}
-use Rattle.kpke.specs.KPke.{parts, dot, matrix, firstDecoded, secondDecoded, noisyMessage}
-use Rattle.kpke.specs.VectorLaws.{part-fits, dot-cong}
-use Rattle.kpke.specs.DotLaws.{length-dot, dot-add-left, dot-add-right}
+use Rattle.vectors.specs.Vector.{parts, dot}
+use Rattle.kpke.specs.KPke.{matrix, firstDecoded, secondDecoded, noisyMessage}
+use Rattle.vectors.specs.VectorLaws.{part-fits, dot-cong}
+use Rattle.vectors.specs.DotLaws.{length-dot, dot-add-left, dot-add-right}
 use Rattle.stages.specs.Moves.{nothing, shares0, shares1}
 use Rattle.stages.specs.Worksheet.{stage1, uShare, vShare, uvShare, stage6}
 use Rattle.meaning.specs.JoinedDk.{joinedCoeffs}

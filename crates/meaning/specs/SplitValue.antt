@@ -21,13 +21,13 @@ use Rattle.worksheet.specs.Run.{run}
 use Rattle.worksheet.specs.SharedList.{sharedList, joinedList}
 use Rattle.masked_fips202.specs.XorBytes.{laneOf-bits}
 use Rattle.kpke.specs.Parameters.{Parameters, vectorBytes, ekBytes, ctBytes}
-use Rattle.kpke.specs.KPke.{parts, concat, coefficients}
-use Rattle.kpke.specs.VectorLaws
-use Rattle.kpke.specs.VectorLaws.{part-fits, length-concat, concat-cong, concat-parts, parts-concat}
+use Rattle.vectors.specs.Vector.{parts, concat, coefficients}
+use Rattle.vectors.specs.VectorLaws
+use Rattle.vectors.specs.VectorLaws.{part-fits, length-concat, concat-cong, concat-parts, parts-concat}
 use Rattle.mlkem.specs.MlKem.{secretPart, publicPart, hashPart, zPart, decaps}
-use Rattle.mlkem.specs.SplitKey.{secondCoeffs, secondWords, split}
-use Rattle.mlkem.specs.Importable.{Importable}
-use Rattle.mlkem.specs.AcceptedLaws.{join-coefficients, join-words}
+use Rattle.split_key.specs.SplitKey.{secondCoeffs, secondWords, split}
+use Rattle.split_key.specs.Importable.{Importable}
+use Rattle.split_key.specs.AcceptedLaws.{join-coefficients, join-words}
 use Rattle.stages.specs.Fits.{Fits}
 use Rattle.stages.specs.Worksheet.{worksheet}
 use Rattle.meaning.specs.JoinedDk.{joinedDk}

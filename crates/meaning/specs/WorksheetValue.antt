@@ -25,7 +25,7 @@ use Rattle.kpke.specs.Parameters.{Parameters, ctBytes}
 use Rattle.kpke.specs.Functions.{J}
 use Rattle.refusals.specs.Same.{same}
 use Rattle.mlkem.specs.MlKem.{decaps}
-use Rattle.mlkem.specs.SplitKey.{SplitKey}
+use Rattle.split_key.specs.SplitKey.{SplitKey}
 use Rattle.stages.specs.Fits.{Fits}
 use Rattle.stages.specs.Worksheet.{stage10, worksheet}
 use Rattle.meaning.specs.JoinedDk.{joinedDk}

@@ -3,10 +3,10 @@ use mathlib.Core.Path.{_≡_, refl, sym, ap, _∙_}
 use mathlib.Core.Bool.{Bool, true, false, cond}
 use mathlib.Core.List.{List, [], _∷_}
 use Prim.Native.Nat.{ℕ}
-use Rattle.codec.specs.declared.sampling.Sampled.{Sampled}
-use Rattle.codec.specs.declared.sampling.Sampled.the-variants.{Full, Short}
-use Rattle.codec.specs.Sample.{full, sampleNtt}
-use Rattle.codec.specs.SampleAnswer.{answerOf}
+use Rattle.sampling.specs.declared.Sampled.{Sampled}
+use Rattle.sampling.specs.declared.Sampled.the-variants.{Full, Short}
+use Rattle.sampling.specs.Sample.{full, sampleNtt}
+use Rattle.sampling.specs.SampleAnswer.{answerOf}
 use Rattle.refusals.specs.declared.Answer.{Answer}
 use Rattle.refusals.specs.declared.Answer.the-variants.{Done, WrongLength, ShortStream}
 use Rattle.refusals.specs.Refusals.{number, lent, sized}

@@ -1,30 +1,21 @@
--- What sampling, key making, encapsulation and import answer and leave in the lent buffers, for a parameter set. What a
--- call leaves is a record of what was lent (₀ where it changes), the answer's number n, and the buffers as they are
--- then (₁).
+-- What sampling, key making and encapsulation answer and leave in the lent buffers, for a parameter set. What a call
+-- leaves is a record of what was lent (₀ where it changes), the answer's number n, and the buffers as they are then
+-- (₁).
 use mathlib.Core.Path.{_≡_}
 use mathlib.Core.Bool.{not}
 use mathlib.Core.List.{List, [], _∷_, _++_}
-use Prim.Native.Nat.{ℕ, _*_}
-use lib.ListN.{length, take, drop}
-use Rattle.codec.specs.Sample.{full, sampleNtt}
+use Prim.Native.Nat.{ℕ}
+use lib.ListN.{take, drop}
+use Rattle.sampling.specs.Sample.{full, sampleNtt}
 use Rattle.refusals.specs.declared.Answer.{Answer}
-use Rattle.refusals.specs.declared.Answer.the-variants.{
-  Done,
-  WrongLength,
-  PublicKeyRange,
-  WrongHash,
-  SecretRange,
-  MaskRange,
-  ShortStream,
-}
+use Rattle.refusals.specs.declared.Answer.the-variants.{WrongLength, PublicKeyRange, ShortStream}
 use Rattle.kpke.specs.Parameters.{Parameters, vectorBytes, ekBytes, dkBytes, ctBytes}
-use Rattle.kpke.specs.Functions.{H, G₁}
-use Rattle.kpke.specs.KPke.{coefficients, matrixFull}
-use Rattle.refusals.specs.Same.{same}
-use Rattle.mlkem.specs.MlKem.{keyGenEk, keyGenDk, encapsKey, encapsCt, secretPart, publicPart, hashPart}
-use Rattle.refusals.specs.Refusals.{number, Row, row, answer, after, lent, sized}
-use Rattle.mlkem.specs.Reduced.{reduced}
-use Rattle.mlkem.specs.SplitKey.{SplitKey, keyLengths, split}
+use Rattle.kpke.specs.Functions.{G₁}
+use Rattle.vectors.specs.Vector.{coefficients}
+use Rattle.kpke.specs.KPke.{matrixFull}
+use Rattle.mlkem.specs.MlKem.{keyGenEk, keyGenDk, encapsKey, encapsCt}
+use Rattle.refusals.specs.Refusals.{number, row, answer, after, lent, sized}
+use Rattle.refusals.specs.Reduced.{reduced}
 
 -- ---- sampling (FIPS 203, algorithm 7)
 
@@ -69,31 +60,3 @@ module _ (p : Parameters) where
     pub answer : n ≡ number (encapsAnswer ek m ct₀ k₀)
     pub ct : ct₁ ≡ after n (encapsCt p ek m) ct₀
     pub k : k₁ ≡ after n (encapsKey p ek m) k₀
-
-  -- ---- import
-
-  -- rows 2 to 4, which ask of the key alone
-  unfoldable pub keyRows : List ℕ → List Row
-  keyRows dk =
-      row (not (reduced (coefficients (p .k) (take (vectorBytes p) (publicPart p dk))))) PublicKeyRange
-      ∷ row (not (same (hashPart p dk) (H (publicPart p dk)))) WrongHash
-      ∷ row (not (reduced (coefficients (p .k) (secretPart p dk)))) SecretRange
-      ∷ []
-
-  -- of the key dk, the masks, and the buffers lent for the split key
-  unfoldable pub importAnswer : List ℕ → List ℕ → List ℕ → SplitKey → Answer
-  importAnswer dk maskCoeffs maskWords key =
-      answer
-      (row
-      (not (sized (lent dk (dkBytes p) ∷ lent maskCoeffs (256 * p .k) ∷ lent maskWords 4 ∷ keyLengths p key)))
-      WrongLength
-      ∷ (keyRows dk ++ row (not (reduced maskCoeffs)) MaskRange ∷ []))
-
-  pub record Imported (dk maskCoeffs maskWords : List ℕ) (key₀ : SplitKey) (n : ℕ) (key₁ : SplitKey) : Type 0 where
-    pub answer : n ≡ number (importAnswer dk maskCoeffs maskWords key₀)
-    pub key : key₁ ≡ after n (split p dk maskCoeffs maskWords) key₀
-
-  -- a key that import does not refuse, its other arguments being in order
-  pub record Accepted (dk : List ℕ) : Type 0 where
-    pub long : length dk ≡ dkBytes p
-    pub rows : answer (keyRows dk) ≡ Done

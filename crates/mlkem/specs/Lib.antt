@@ -1,11 +1,5 @@
 pub mod MlKem
-pub mod Reduced
-pub mod ReducedLaws
-pub mod SplitKey
 pub mod Calls
-pub mod Importable
 pub mod Sized
 pub mod CallLaws
-pub mod AcceptedLaws
 pub mod Written
-pub mod ImportLaws

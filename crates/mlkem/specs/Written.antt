@@ -1,17 +1,14 @@
--- What the functions that write the results of key making, encapsulation and import ask, and what they leave.
+-- What the functions that write the results of key making and encapsulation ask, and what they leave.
 use mathlib.Core.Path.{_≡_}
-use mathlib.Core.Bool.{true}
 use mathlib.Core.List.{List}
-use Prim.Native.Nat.{ℕ, _*_}
+use Prim.Native.Nat.{ℕ}
 use lib.ListN.{length, take, drop}
 use Rattle.kpke.specs.Parameters.{Parameters, ekBytes, dkBytes}
-use Rattle.kpke.specs.KPke.{coefficients, ekFrom, dkFrom}
+use Rattle.kpke.specs.KPke.{ekFrom, dkFrom}
 use Rattle.kpke.specs.Expanded.{Expanded}
-use Rattle.mlkem.specs.MlKem.{wholeDk, encapsKey, encapsCt, secretPart}
-use Rattle.mlkem.specs.Reduced.{reduced}
-use Rattle.mlkem.specs.SplitKey.{SplitKey}
+use Rattle.mlkem.specs.MlKem.{wholeDk, encapsKey, encapsCt}
 use Rattle.mlkem.specs.Calls.{rhoOf}
-use Rattle.mlkem.specs.Sized.{EncapsSized, ImportSized}
+use Rattle.mlkem.specs.Sized.{EncapsSized}
 
 module _ (p : Parameters) where
   -- ---- key making, for rho || sigma in g and the matrix of rho in a
@@ -36,18 +33,3 @@ module _ (p : Parameters) where
   pub record SecretWritten (ek m ct₁ k₁ : List ℕ) : Type 0 where
     pub ct : ct₁ ≡ encapsCt p ek m
     pub k : k₁ ≡ encapsKey p ek m
-
-  -- ---- import, for the key's coefficients in s
-
-  pub record SplitInput (dk s maskCoeffs maskWords : List ℕ) (key : SplitKey) : Type 0 where
-    pub sized : ImportSized p dk maskCoeffs maskWords key
-    pub long : length s ≡ 256 * p .k
-    pub secret : s ≡ coefficients (p .k) (secretPart p dk)
-    pub range : reduced maskCoeffs ≡ true
-
--- x has m elements, the masks and both shares n
-pub record SharingInput (m n : ℕ) (x₀ masks₀ share0₀ share1₀ : List ℕ) : Type 0 where
-  pub x : length x₀ ≡ m
-  pub masks : length masks₀ ≡ n
-  pub share0 : length share0₀ ≡ n
-  pub share1 : length share1₀ ≡ n

@@ -1,17 +1,18 @@
 -- Laws of the rows, and of row 1's lengths.
-use mathlib.Core.Path.{_≡_, refl, ap, ap₂}
+use mathlib.Core.Path.{_≡_, refl, sym, ap, ap₂, _∙_}
 use mathlib.Core.Bool.{Bool, true, false, not, cond, _&&_}
 use mathlib.Core.List.{List, [], _∷_, _++_}
 use Prim.Native.Nat.{ℕ, _<_}
 use native.Mathlib.Omega.{arith}
-use borrow.Author.Tests.{eqb-true, eq-eqb, ne-eqb}
+use borrow.Author.Tests.{eqb-true, eq-eqb, ne-eqb, not-false}
 use lib.Dec.{eqb}
-use lib.ListN.{length}
+use lib.ListN.{length, getD}
 use Rattle.refusals.specs.declared.Answer.{Answer}
 use Rattle.refusals.specs.declared.Answer.the-variants.{Done, WrongLength, PublicKeyRange, WrongHash, SecretRange}
 use Rattle.refusals.specs.declared.Answer.the-variants.{MaskRange, ShareRange, ShortStream, NoSuchStep}
 use Rattle.refusals.specs.Refusals.{number, Row, row, answer, after, Lent, sized}
-use Rattle.refusals.specs.SameLaws.{and-left, and-right}
+use Rattle.refusals.specs.Same.{same}
+use Rattle.refusals.specs.SameLaws.{and-left, and-right, same-true}
 
 -- the answer is that of the first row whose test b fails
 module _ (a : Answer) (rs : List Row) {b : Bool} where
@@ -54,7 +55,16 @@ after-done {A} n new old e = ap (λ (b : Bool). cond b new old) (eq-eqb n 0 e)
 pub after-refused : {A : Type 0} (n : ℕ) (new old : A) → (n ≡ 0 → ⊥) → after n new old ≡ old
 after-refused {A} n new old h = ap (λ (b : Bool). cond b new old) (ne-eqb n 0 h)
 
+-- a buffer that a refused call leaves as it was
+pub after-kept : {A : Type 0} (r : Answer) (new old : A) → 0 < number r → old ≡ after (number r) new old
+after-kept {A} r new old h = sym (after-refused (number r) new old (λ z. omega arith))
+
 -- ---- lengths
+
+-- the lengths that `exact` compared, one by one
+pub exact-at : (has wants : List ℕ) {r : Bool} → r ≡ same has wants → not r ≡ false → (i : ℕ)
+    → getD has i 0 ≡ getD wants i 0
+exact-at has wants {r} e t i = ap (λ (l : List ℕ). getD l i 0) (same-true has wants (sym e ∙ not-false r t))
 
 -- each lent buffer has its length
 abbrev pub Exact : List Lent → Type 0

@@ -1,9 +1,11 @@
-// A call's answer, document 01's number for it, and the test of lengths (row 1).
+// A call's answer, document 01's number for it, and the tests of its rows.
 ghost use mathlib.Core.Path.{_≡_};
 ghost use Prim.Native.Nat.{_≤_};
 ghost use lib.ListN.{length};
 ghost use Rattle.refusals.specs.Refusals.{number as numberOf};
 ghost use Rattle.refusals.specs.Same.{same};
+
+pub mod conditions; // coefficients below q, and equal strings
 
 pub enum Answer {
     Done,

@@ -1,5 +1,1 @@
-pub mod Powers
-pub mod Butterflies
-pub mod Layers
-pub mod Products
 pub mod Shoup

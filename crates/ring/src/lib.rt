@@ -1,16 +1,16 @@
-// FIPS 203's arithmetic on plain values: coefficients modulo q, polynomials, transform, product (sections 2.4, 4.3).
-mod multiply;
+// FIPS 203's arithmetic on plain values: coefficients modulo q and polynomials (section 2.4).
 mod polynomial;
 mod residue;
-mod tables;
-mod transform;
 
-pub use multiply::multiply_add;
 pub use polynomial::add_to;
 pub use polynomial::sub_from;
 pub use residue::difference;
+pub use residue::multiple;
+pub use residue::product;
 pub use residue::quotient;
 pub use residue::reduce;
 pub use residue::reduce_short;
-pub use transform::inverse_ntt;
-pub use transform::ntt;
+pub use residue::reduced_difference;
+pub use residue::reduced_sum;
+pub use residue::remainder;
+pub use residue::shoup_quotient;

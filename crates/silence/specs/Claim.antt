@@ -12,8 +12,9 @@ use Rattle.worksheet.specs.Count.{tally, strips, hit}
 use Rattle.kpke.specs.Parameters.{mlKem768}
 use Rattle.mlkem.specs.MlKem.{publicPart}
 use Rattle.kpke.specs.KPke.{matrixFull}
-use Rattle.mlkem.specs.Calls.{rhoOf, Accepted}
-use Rattle.mlkem.specs.SplitKey.{split}
+use Rattle.mlkem.specs.Calls.{rhoOf}
+use Rattle.split_key.specs.Import.{Accepted}
+use Rattle.split_key.specs.SplitKey.{split}
 use Rattle.stages.specs.Worksheet.{worksheet}
 use Rattle.refusals.specs.Refusals.{number}
 use Rattle.decapsulation.specs.Calls.{Input, imported, traceAnswer, traceValue}

@@ -5,7 +5,7 @@ use mathlib.Core.Bool.{Bool, true}
 use mathlib.Core.List.{List, flatten}
 use lib.ListN.{getD, replicate}
 use Rattle.ring.specs.Polynomial.{sub}
-use Rattle.ring.specs.Transform.{ntt, inverseNtt}
+use Rattle.transform.specs.Transform.{ntt, inverseNtt}
 use Rattle.worksheet.specs.declared.Shares.{Shares}
 use Rattle.worksheet.specs.Couple.{Coupled, coupled-map}
 use Rattle.worksheet.specs.CoupleLoops.{coupled-times}
@@ -18,7 +18,8 @@ use Rattle.worksheet.specs.PassLaws.{pass-stage}
 use Rattle.masked_compression.specs.CompressionSilence.{coupled-maskedCompress, groups-stage}
 use Rattle.masked_sampler.specs.PolynomialSilence.{Anything}
 use Rattle.kpke.specs.Parameters.{Parameters}
-use Rattle.kpke.specs.KPke.{parts, dot, firstDecoded, noisyMessage}
+use Rattle.vectors.specs.Vector.{parts, dot}
+use Rattle.kpke.specs.KPke.{firstDecoded, noisyMessage}
 use Rattle.stages.specs.EntryCounts.{compressPolyEntries, stage1Entries, stage2Entries, decryptEntries}
 use Rattle.stages.specs.Worksheet.{compressPoly, stage1, stage2, maskedDecrypt}
 

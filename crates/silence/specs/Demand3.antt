@@ -26,11 +26,11 @@ use Rattle.stages.specs.Fits.{fits768}
 use Rattle.mlkem.specs.MlKem.{publicPart, hashPart}
 use Rattle.kpke.specs.KPke.{matrixFull}
 use Rattle.mlkem.specs.Calls.{rhoOf}
-use Rattle.mlkem.specs.SplitKey.{SplitKey, splitKey, secondCoeffs, secondWords, split}
+use Rattle.split_key.specs.SplitKey.{SplitKey, splitKey, secondCoeffs, secondWords, split}
 use Rattle.stages.specs.Counts768.{counts768}
 use Rattle.stages.specs.Worksheet.{worksheet}
 use Rattle.stages.specs.WorksheetUses.{uses-worksheet}
-use Rattle.mlkem.specs.AcceptedLaws.{accepted-secret}
+use Rattle.split_key.specs.AcceptedLaws.{accepted-secret}
 use Rattle.silence.specs.Claim.{Key, Ciphertext, gives, choices}
 use Rattle.silence.specs.WorksheetSilence.{worksheet-stage}
 use Rattle.silence.specs.SplitSilence.{coupled-firsts}

@@ -9,7 +9,7 @@ use borrow.Author.Tests.{ltb-true}
 use lib.Dec.{ltb}
 use lib.ListN.{getD}
 use Rattle.ring.specs.Polynomial.{add}
-use Rattle.ring.specs.Transform.{ntt, inverseNtt}
+use Rattle.transform.specs.Transform.{ntt, inverseNtt}
 use Rattle.worksheet.specs.declared.Shares.{Shares}
 use Rattle.worksheet.specs.Couple.{Coupled}
 use Rattle.worksheet.specs.CoupleLoops.{coupled-times}
@@ -20,7 +20,7 @@ use Rattle.worksheet.specs.Turns.{Turns}
 use Rattle.worksheet.specs.Choice.{KeptList, SameShare, listShare}
 use Rattle.worksheet.specs.PassLaws.{pass-stage, coupled-pass}
 use Rattle.kpke.specs.Parameters.{Parameters}
-use Rattle.kpke.specs.VectorLaws.{dot-cong}
+use Rattle.vectors.specs.VectorLaws.{dot-cong}
 use Rattle.stages.specs.EntryCounts.{polyEntries, stage6Entries, stage7Entries, compressPolyEntries}
 use Rattle.stages.specs.Moves.{nothing, shares0, shares1}
 use Rattle.stages.specs.Worksheet.{uShare, vShare, uvShare, compressPoly, stage6, stage7, wordCount}

@@ -23,8 +23,8 @@ use Rattle.worksheet.specs.SharedList.{sharedList}
 use Rattle.worksheet.specs.Choice.{SameShare}
 use Rattle.kpke.specs.Parameters.{Parameters}
 use Rattle.mlkem.specs.MlKem.{secretPart}
-use Rattle.kpke.specs.KPke.{coefficients}
-use Rattle.mlkem.specs.SplitKey.{secondCoeffs}
+use Rattle.vectors.specs.Vector.{coefficients}
+use Rattle.split_key.specs.SplitKey.{secondCoeffs}
 
 -- ---- one coefficient X, whose first share is x
 

@@ -26,9 +26,9 @@ use Rattle.refusals.specs.Refusals.{number}
 use Rattle.kpke.specs.Parameters.{mlKem768}
 use Rattle.kpke.specs.KPke.{matrixFull}
 use Rattle.mlkem.specs.MlKem.{publicPart, hashPart}
-use Rattle.mlkem.specs.ReducedLaws.{below-reduced}
+use Rattle.refusals.specs.ReducedLaws.{below-reduced}
 use Rattle.mlkem.specs.Calls.{rhoOf}
-use Rattle.mlkem.specs.SplitKey.{secondCoeffs, secondWords, split}
+use Rattle.split_key.specs.SplitKey.{secondCoeffs, secondWords, split}
 use Rattle.stages.specs.Counts768.{counts768}
 use Rattle.tracing.specs.Trace as trace
 use Rattle.decapsulation.specs.Calls.{Input, sheet, imported, traceAnswer, traceValue}

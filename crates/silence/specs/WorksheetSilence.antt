@@ -16,7 +16,7 @@ use Rattle.worksheet.specs.Choice.{Kept, KeptList, KeptShared, SameShare}
 use Rattle.masked_sampler.specs.PolynomialSilence.{Anything}
 use Rattle.masked_comparison.specs.SelectionSilence.{Operands, selects-stage}
 use Rattle.kpke.specs.Parameters.{Parameters, ekBytes, ctBytes}
-use Rattle.mlkem.specs.SplitKey.{SplitKey}
+use Rattle.split_key.specs.SplitKey.{SplitKey}
 use Rattle.stages.specs.EntryCounts.{stage3Entries, stage8Entries, stage9Entries, stage10Entries}
 use Rattle.stages.specs.EntryCounts.{encryptEntries, comparedEntries, steps}
 use Rattle.stages.specs.Fits.{Fits}

@@ -3,7 +3,8 @@ use mathlib.Core.Path.{_≡_, refl}
 use Rattle.masked_fips202.specs.MaskedWords.{sha3-512MaskWords}
 use Rattle.masked_fips202.specs.EntryCounts.{sha3-512Entries, shake256Entries}
 use Rattle.masked_fips202.specs.MaskedWords.{shake256MaskWords}
-use Rattle.masked_compression.specs.EntryCounts.{adderEntries, compressEntries}
+use Rattle.masked_adder.specs.EntryCounts.{adderEntries}
+use Rattle.masked_compression.specs.EntryCounts.{compressEntries}
 use Rattle.masked_sampler.specs.EntryCounts.{samplerEntries}
 use Rattle.masked_comparison.specs.EntryCounts.{allZeroEntries}
 use Rattle.kpke.specs.Parameters.{mlKem768}

@@ -3,7 +3,7 @@ use mathlib.Core.List.{List}
 use Prim.Native.Nat.{ℕ}
 use Rattle.words.specs.Tab.{tab}
 use Rattle.worksheet.specs.SharedList.{SharedList, sharedList}
-use Rattle.kpke.specs.KPke.{parts}
+use Rattle.vectors.specs.Vector.{parts}
 
 -- part i of n elements of both shares
 abbrev pub partOf : ℕ → SharedList → ℕ → SharedList

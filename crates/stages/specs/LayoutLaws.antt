@@ -10,8 +10,8 @@ use Rattle.words.specs.Part.{part-take, part-append}
 use Rattle.words.specs.Tab.{tab}
 use Rattle.words.specs.TabLaws.{tab-cong}
 use Rattle.worksheet.specs.SharedList.{SharedList, sharedList}
-use Rattle.kpke.specs.KPke.{parts}
-use Rattle.kpke.specs.VectorLaws.{part-fits}
+use Rattle.vectors.specs.Vector.{parts}
+use Rattle.vectors.specs.VectorLaws.{part-fits}
 use Rattle.stages.specs.Layout.{partOf, partsBy}
 
 -- l, its part i of n elements now r

@@ -1,6 +1,7 @@
 pub mod Moves
 pub mod MovesLaws
 pub mod Worksheet
+pub mod FlattenLaws
 pub mod PlanesLaws
 pub mod Counts
 pub mod EntryCounts
@@ -9,3 +10,7 @@ pub mod WorksheetUses
 pub mod Layout
 pub mod LayoutLaws
 pub mod Fits
+pub mod Slices
+pub mod SliceLaws
+pub mod Laid
+pub mod StoredRun

@@ -1,16 +1,22 @@
--- The words of planes are words of 64 bits.
+-- The words of planes: their number, and that they are words of 64 bits.
+use mathlib.Core.Path.{_≡_, _∙_}
 use mathlib.Core.List.{List, [], _∷_, flatten}
 use Prim.Native.Nat.{ℕ, suc, _+_, _*_, _^_, _<_}
 use native.Mathlib.Decide.{decLt}
 use native.Mathlib.Omega.{arith}
-use lib.ListN.{getD, List·getD-eq-default}
+use lib.ListN.{length, getD, List·getD-eq-default}
 use Rattle.words.specs.Bounded.{Below}
 use Rattle.words.specs.BoundedLaws.{below-nil, below-append, below-tab}
 use Rattle.words.specs.PlaneLaws.{plane-bits}
 use Rattle.words.specs.Tab.{tab}
 use Rattle.words.specs.TabLaws.{length-tab, getD-tab}
 use Rattle.kpke.specs.Parameters.{Parameters}
+use Rattle.stages.specs.FlattenLaws.{length-flatten}
 use Rattle.stages.specs.Worksheet.{planesOf, ciphertextPlanes}
+
+pub length-planesOf : (d : ℕ) (f : List ℕ) → length (planesOf d f) ≡ 4 * d
+unfolding planesOf
+length-planesOf d f = length-flatten {n = d} {k = 4} (record { long = λ g h. length-tab d _ }) ∙ omega arith
 
 module _ {b : ℕ} (pos : 0 < b) where
   below-flatten : (l : List (List ℕ)) → ((i : ℕ) → Below b (getD l i [])) → Below b (flatten l)

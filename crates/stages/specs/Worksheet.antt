@@ -9,7 +9,7 @@ use Rattle.words.specs.Plane.{plane}
 use Rattle.words.specs.Tab.{tab}
 use Rattle.codec.specs.Bytes.{byteDecode, byteDecode12}
 use Rattle.ring.specs.Polynomial.{add, sub}
-use Rattle.ring.specs.Transform.{ntt, inverseNtt}
+use Rattle.transform.specs.Transform.{ntt, inverseNtt}
 use Rattle.worksheet.specs.declared.Shares.{Shares}
 use Rattle.worksheet.specs.Prog.{Prog, ret, _>>=_, times}
 use Rattle.worksheet.specs.Sharing.{none}
@@ -20,8 +20,9 @@ use Rattle.masked_compression.specs.Compression.{maskedCompress}
 use Rattle.masked_sampler.specs.Coefficient.{bitToCoeff, sampler}
 use Rattle.masked_comparison.specs.Comparison.{addPublic, allZero, select}
 use Rattle.kpke.specs.Parameters.{Parameters, vectorBytes}
-use Rattle.kpke.specs.KPke.{parts, dot, matrix, firstDecoded, noisyMessage}
-use Rattle.mlkem.specs.SplitKey.{SplitKey, ekOf, hOf}
+use Rattle.vectors.specs.Vector.{parts, dot}
+use Rattle.kpke.specs.KPke.{matrix, firstDecoded, noisyMessage}
+use Rattle.split_key.specs.SplitKey.{SplitKey, ekOf, hOf}
 use Rattle.stages.specs.Moves.{nothing, shares0, shares1, stringBit, withPublic, coinsOf}
 
 -- ---- parts common to several stages

@@ -19,7 +19,7 @@ use Rattle.masked_sampler.specs.SamplerLaws.{uses-sampler}
 use Rattle.masked_comparison.specs.Comparison.{allZeroWords}
 use Rattle.masked_comparison.specs.ComparisonLaws.{uses-addPublic, uses-allZero, uses-select}
 use Rattle.kpke.specs.Parameters.{Parameters, ctBytes}
-use Rattle.mlkem.specs.SplitKey.{SplitKey, ekOf, hOf}
+use Rattle.split_key.specs.SplitKey.{SplitKey, ekOf, hOf}
 use Rattle.stages.specs.Moves.{withPublic, coinsOf}
 use Rattle.stages.specs.MovesLaws.{length-withPublic}
 use Rattle.stages.specs.Worksheet.{compressPoly, noisePoly, wordCount, stage1, stage2, stage3, stage4, stage5}

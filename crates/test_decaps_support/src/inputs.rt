@@ -7,10 +7,10 @@ use crate::case::Ciphertext;
 use crate::case::Fault;
 use crate::case::Part;
 use refusals::Answer;
+use test_keys::turn;
 use test_support::bytes::set_coefficients;
 use test_support::masks;
 use test_support::masks::Masks;
-use test_support::turn;
 
 fn damage(ct: &mut [u8], at: usize, bits: u8) {
     if at < ct.len() {
@@ -61,7 +61,7 @@ fn make_split(
     let mut mask_words = [0u64; 4];
     masks::coefficients(kind, b's', &mut mask_coeffs);
     masks::words(kind, b'z', &mut mask_words);
-    mlkem::import(
+    split_key::import(
         dk,
         &mask_coeffs,
         &mask_words,

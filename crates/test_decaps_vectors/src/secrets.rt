@@ -2,7 +2,7 @@
 ghost use mathlib.Core.Path.{_≡_};
 ghost use Prim.Native.Nat.{_≤_};
 ghost use lib.ListN.{length};
-use mlkem::conditions::same;
+use refusals::conditions::same;
 use test_decaps_support::calls::decaps_joined;
 use test_decaps_support::case::Case;
 use test_decaps_support::case::Ciphertext;

@@ -74,7 +74,7 @@ fn import(
     z1: &mut [u64],
     public: &mut [u8],
 ) {
-    let answer = mlkem::import(dk, mask_coeffs, mask_words, s0, s1, z0, z1, public);
+    let answer = split_key::import(dk, mask_coeffs, mask_words, s0, s1, z0, z1, public);
     print_refusal(answer, import_unchanged(s0, s1, z0, z1, public));
 }
 

@@ -2,17 +2,17 @@
 ghost use mathlib.Core.Path.{_≡_};
 ghost use Prim.Native.Nat.{_+_, _<_, _≤_};
 ghost use lib.ListN.{length};
-use kpke::copy::copy_bytes;
 use refusals::number;
+use test_keys::import::fixed_coefficients;
+use test_keys::import::fixed_words;
+use test_keys::import::import;
+use test_keys::import::import_masked;
 use test_support::answers::print_number;
 use test_support::bytes::unchanged;
 use test_support::hashes::print_hash;
-use test_support::import::fixed_coefficients;
-use test_support::import::fixed_words;
-use test_support::import::import;
-use test_support::import::import_masked;
 use text::print;
 use text::print_decimal;
+use vectors::copy::copy_bytes;
 
 // What is changed, and the call that gets it.
 enum Part {

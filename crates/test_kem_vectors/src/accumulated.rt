@@ -2,17 +2,17 @@
 ghost use mathlib.Core.Path.{_≡_};
 ghost use Prim.Native.Nat.{_<_, _≤_};
 ghost use lib.ListN.{length};
-use kpke::copy::copy_bytes;
-use mlkem::conditions::same;
+use refusals::conditions::same;
 use test_decaps_support::calls::decaps_joined;
 use test_decaps_support::case::Case;
 use test_decaps_support::case::Ciphertext;
 use test_decaps_support::case::right;
+use test_keys::turn::make;
 use test_support::masks::Masks;
-use test_support::turn::make;
 use text::print;
 use text::print_decimal;
 use text::print_hex;
+use vectors::copy::copy_bytes;
 
 // The turn's key, under masks that have the turn's number.
 fn drawn(turn: usize, ciphertext: Ciphertext) -> Case {

@@ -1,8 +1,8 @@
 // Key making, encapsulation and import on the seeds of ten turns.
+use test_keys::import::import_masked;
+use test_keys::turn::make;
 use test_support::answers::print_number;
 use test_support::hashes::print_hash;
-use test_support::import::import_masked;
-use test_support::turn::make;
 use text::print;
 use text::print_hex;
 

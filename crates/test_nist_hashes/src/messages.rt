@@ -4,7 +4,7 @@ ghost use Prim.Native.Nat.{_≤_};
 ghost use lib.ListN.{length};
 use crate::hash::Hash;
 use crate::hash::digest;
-use mlkem::conditions::same;
+use refusals::conditions::same;
 use test_records::Found;
 use test_records::Tally;
 use test_records::add;

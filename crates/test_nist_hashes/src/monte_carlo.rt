@@ -7,7 +7,7 @@ ghost use lib.ListN.{length};
 ghost use Rattle.test_nist_hashes.specs.Chains.{InRange, Fits};
 use crate::hash::Hash;
 use crate::hash::digest;
-use mlkem::conditions::same;
+use refusals::conditions::same;
 use test_records::Found;
 use test_records::Tally;
 use test_records::add;

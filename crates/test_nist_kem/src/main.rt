@@ -4,7 +4,7 @@ ghost use mathlib.Core.Path.{_≡_};
 ghost use Prim.Native.Nat.{_≤_};
 ghost use lib.ListN.{length};
 use masked::decaps;
-use mlkem::conditions::same;
+use refusals::conditions::same;
 use refusals::number;
 use test_records::Found;
 use test_records::Tally;

@@ -21,7 +21,7 @@ fn import(
     let mut words = [0u64; 4];
     masks::coefficients(kind, b's', &mut coeffs);
     masks::words(kind, b'z', &mut words);
-    number(mlkem::import(dk, &coeffs, &words, s0, s1, z0, z1, public))
+    number(split_key::import(dk, &coeffs, &words, s0, s1, z0, z1, public))
 }
 
 // The number of decapsulation's.

@@ -3,7 +3,5 @@ pub mod answers; // answers of calls, printed
 pub mod bytes; // buffers, filled and tested
 pub mod edges; // lengths of lent buffers
 pub mod hashes; // hashes, printed
-pub mod import; // import under fixed masks
 pub mod masked_hashes; // the masked hashes on shares of a message
 pub mod masks; // masks of a kind
-pub mod turn; // keys, a ciphertext and a secret

@@ -3,7 +3,7 @@ use mathlib.Core.Path.{sym, _∙_}
 use native.Mathlib.Omega.{arith}
 use borrow.Author.Tests.{not-false}
 use borrow.Author.Needs.{needs}
-use Rattle.mlkem.specs.ReducedLaws.{reduced-below}
+use Rattle.refusals.specs.ReducedLaws.{reduced-below}
 use Rattle.bench_calls.proofs.gadget_calls.bench_sampler.Statement.{statement}
 use Rattle.bench_calls.proofs.gadget_calls.bench_sampler.Tie as tie
 

@@ -7,8 +7,8 @@ use lib.ListN.{length, take, drop}
 use Rattle.refusals.specs.declared.Answer.the-variants.{Done, MaskRange, ShareRange, ShortStream}
 use Rattle.refusals.specs.Refusals.{answer}
 use Rattle.kpke.specs.KPke.{matrixFull}
-use Rattle.mlkem.specs.Reduced.{reduced}
-use Rattle.mlkem.specs.ReducedLaws.{reduced-below}
+use Rattle.refusals.specs.Reduced.{reduced}
+use Rattle.refusals.specs.ReducedLaws.{reduced-below}
 use Rattle.stages.specs.Counts768.{counts768}
 use Rattle.decapsulation.specs.Calls.{Input, input, sheet, decapsRows}
 use Rattle.decapsulation.specs.AnswerLaws.{sheet-steps}

@@ -6,8 +6,8 @@ use Rattle.worksheet.specs.Ran.{bind, part-words}
 use Rattle.worksheet.specs.SharedList.{SharedList, sharedList}
 use Rattle.stages.specs.Counts768.{counts768}
 use Rattle.stages.specs.Worksheet.{worksheet}
-use Rattle.masked_kpke.specs.Slices.{Long}
-use Rattle.masked_kpke.proofs.StoredRun.{length-rest}
+use Rattle.stages.specs.Slices.{Long}
+use Rattle.stages.specs.StoredRun.{length-rest}
 use Rattle.decapsulation.proofs.worksheet_run.run.Statement.{statement}
 use Rattle.decapsulation.proofs.worksheet_run.run.Tie as tie
 

@@ -2,9 +2,10 @@
 use borrow.Author.Needs.{needs}
 use Prim.Native.Nat.{_-_}
 use native.Mathlib.Omega.{arith}
-use Rattle.kpke.specs.KPke.{parts, firstPart}
+use Rattle.vectors.specs.Vector.{parts}
+use Rattle.kpke.specs.KPke.{firstPart}
 use Rattle.kpke.specs.Expanded.{placesOf}
-use Rattle.kpke.proofs.Concatenated.{
+use Rattle.vectors.proofs.Concatenated.{
   Concatenated,
   length-span,
   concatenated-start,

@@ -2,10 +2,11 @@
 use borrow.Author.Needs.{needs}
 use Prim.Native.Nat.{_+_, _-_}
 use native.Mathlib.Omega.{arith}
-use Rattle.ring.specs.Transform.{ntt}
-use Rattle.kpke.specs.KPke.{parts, noise, publicPolynomial}
+use Rattle.transform.specs.Transform.{ntt}
+use Rattle.vectors.specs.Vector.{parts}
+use Rattle.kpke.specs.KPke.{noise, publicPolynomial}
 use Rattle.kpke.specs.Expanded.{placesOf}
-use Rattle.kpke.proofs.Concatenated.{
+use Rattle.vectors.proofs.Concatenated.{
   Concatenated,
   length-span,
   concatenated-start,

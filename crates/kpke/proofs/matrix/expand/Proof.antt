@@ -5,10 +5,11 @@ use mathlib.Core.Path.{_≡_, refl}
 use Prim.Native.Nat.{_-_, _*_}
 use native.Mathlib.Omega.{arith}
 use Rattle.words.specs.Table.{every}
-use Rattle.codec.specs.Sample.{full}
+use Rattle.sampling.specs.Sample.{full}
 use Rattle.kpke.specs.Functions.{XOF}
-use Rattle.kpke.specs.KPke.{matrix, concat, matrixFull}
-use Rattle.kpke.proofs.Concatenated.{length-span, concatenated-fits}
+use Rattle.vectors.specs.Vector.{concat}
+use Rattle.kpke.specs.KPke.{matrix, matrixFull}
+use Rattle.vectors.proofs.Concatenated.{length-span, concatenated-fits}
 use Rattle.kpke.proofs.Sampled.{Sampled, sampled-start, sampled-turn, sampled-stop, sampled-end}
 use Rattle.kpke.proofs.matrix.expand.Statement.{statement}
 use Rattle.kpke.proofs.matrix.expand.Tie as tie

@@ -3,10 +3,10 @@
 use borrow.Author.Needs.{needs}
 use Prim.Native.Nat.{_-_}
 use native.Mathlib.Omega.{arith}
-use Rattle.codec.specs.Sample.{full}
+use Rattle.sampling.specs.Sample.{full}
 use Rattle.kpke.specs.Functions.{XOF}
 use Rattle.kpke.specs.KPke.{matrix}
-use Rattle.kpke.proofs.Concatenated.{length-span}
+use Rattle.vectors.proofs.Concatenated.{length-span}
 use Rattle.kpke.proofs.Sampled.{Sampled, sampled-start, sampled-turn, sampled-stop, sampled-end}
 use Rattle.kpke.proofs.matrix.expand_row.Statement.{statement}
 use Rattle.kpke.proofs.matrix.expand_row.Tie as tie

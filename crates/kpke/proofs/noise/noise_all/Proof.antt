@@ -3,7 +3,7 @@ use borrow.Author.Needs.{needs}
 use Prim.Native.Nat.{_+_, _-_}
 use native.Mathlib.Omega.{arith}
 use Rattle.kpke.specs.KPke.{noise}
-use Rattle.kpke.proofs.Concatenated.{
+use Rattle.vectors.proofs.Concatenated.{
   Concatenated,
   length-span,
   concatenated-start,

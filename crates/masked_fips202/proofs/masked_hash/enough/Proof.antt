@@ -5,7 +5,7 @@ use mathlib.Core.Bool.{true, false}
 use borrow.Author.Tests.{eq-eqb, ne-eqb}
 use native.Mathlib.Omega.{arith}
 use lib.Dec.{eqb}
-use Rattle.masked_fips202.specs.MaskedSponge.{hashMaskWords}
+use Rattle.masked_sponge.specs.MaskedSponge.{hashMaskWords}
 use Rattle.masked_fips202.proofs.masked_hash.enough.Statement.{statement}
 use Rattle.masked_fips202.proofs.masked_hash.enough.Tie as tie
 

@@ -8,7 +8,7 @@ use lib.Dec.{eqb}
 use lib.ListN.{length}
 use Rattle.refusals.specs.Refusals.{answer, sized}
 use Rattle.worksheet.specs.SharedList.{SharedList}
-use Rattle.masked_fips202.specs.MaskedSponge.{permutations, hashMaskWords}
+use Rattle.masked_sponge.specs.MaskedSponge.{permutations, hashMaskWords}
 use Rattle.masked_fips202.specs.MaskedCalls.{hashAnswer}
 use Rattle.masked_fips202.proofs.masked_hash.masked_hash.Statement.{statement}
 use Rattle.masked_fips202.proofs.masked_hash.masked_hash.Tie as tie

@@ -4,7 +4,7 @@ use native.Mathlib.Omega.{arith}
 use borrow.Author.Needs.{needs}
 use lib.ListN.{length}
 use Rattle.words.specs.Part.{part-rest}
-use Rattle.masked_fips202.specs.MaskedSponge.{inputBlocks, hashMaskWords}
+use Rattle.masked_sponge.specs.MaskedSponge.{inputBlocks, hashMaskWords}
 use Rattle.masked_fips202.proofs.MaskedHash.{hash-value}
 use Rattle.masked_fips202.proofs.masked_hash.masked_sponge.Statement.{statement}
 use Rattle.masked_fips202.proofs.masked_hash.masked_sponge.Tie as tie

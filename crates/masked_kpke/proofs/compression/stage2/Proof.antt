@@ -5,8 +5,8 @@ use Rattle.worksheet.specs.Sharing.{none}
 use Rattle.worksheet.specs.SharedList.{SharedList, sharedList}
 use Rattle.worksheet.specs.SharedListLaws.{unzip-zip}
 use Rattle.stages.specs.Worksheet.{compressPoly, stage2}
-use Rattle.masked_kpke.proofs.Laid.{flatten-zips}
-use Rattle.masked_kpke.proofs.StoredRun.{ran-as}
+use Rattle.stages.specs.Laid.{flatten-zips}
+use Rattle.stages.specs.StoredRun.{ran-as}
 use native.Mathlib.Omega.{arith}
 use borrow.Author.Needs.{needs}
 use Rattle.masked_kpke.proofs.compression.stage2.Statement.{statement}

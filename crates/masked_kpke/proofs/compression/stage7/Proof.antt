@@ -2,9 +2,10 @@
 -- v's words stand behind theirs.
 use mathlib.Core.Path.{_≡_, refl, sym, ap, _∙_}
 use mathlib.Core.List.{List, _++_, flatten}
-use Prim.Native.Nat.{_+_, _*_}
+use Prim.Native.Nat.{_+_, _*_, _≤_, zero-le}
+use native.Mathlib.Nat.{le-refl}
 use native.Mathlib.Omega.{arith}
-use lib.ListN.{getD, take}
+use lib.ListN.{length, getD, take}
 use lib.Seq.{length-take-le}
 use Rattle.worksheet.specs.declared.Shares.{Shares}
 use Rattle.worksheet.specs.Prog.{Prog, ret, _>>=_, times}
@@ -16,12 +17,13 @@ use Rattle.masked_compression.specs.Compression.{maskedCompress}
 use Rattle.stages.specs.Moves.{nothing}
 use Rattle.stages.specs.Layout.{polynomials}
 use Rattle.stages.specs.Worksheet.{compressPoly, stage7}
-use Rattle.masked_kpke.specs.SliceLaws.{residues-part, residues-rest}
-use Rattle.masked_kpke.proofs.Compressed.{group-of}
+use Rattle.stages.specs.SliceLaws.{residues-part, residues-rest}
+use Rattle.masked_polynomials.proofs.Compressed.{group-of}
 use Rattle.masked_kpke.proofs.Groups.{bind-map, times-bundles}
-use Rattle.masked_kpke.proofs.Laid.{front-polynomial, last-polynomial, zip-append, flatten-zips}
-use Rattle.masked_kpke.proofs.Laid.{Front, Whole, front-long, rest-long, whole, same-length0, same-length1}
-use Rattle.masked_kpke.proofs.StoredRun.{length-rest, ran-as}
+use Rattle.stages.specs.Laid.{front-polynomial, last-polynomial, zip-append, flatten-zips}
+use Rattle.stages.specs.Laid.{Front, Whole, front-long, rest-long, whole}
+use Rattle.stages.specs.Laid.{front-within0, front-within1, same-length0, same-length1}
+use Rattle.stages.specs.StoredRun.{length-rest, ran-as}
 use Rattle.masked_kpke.proofs.compression.stage7.Statement.{statement}
 use Rattle.masked_kpke.proofs.compression.stage7.Tie as tie
 
@@ -36,26 +38,29 @@ v c = c .before
 abbrev lent : tie.After-compress-groups-arg9 → tie.After-compress-groups-arg6
 lent c = c .before .before .before
 
-abbrev written : tie.After-compress-groups-arg6 → tie.After-planes1
-written c = c .before .before .before
+abbrev stored : tie.After-slice-known4 → tie.After-slice-known3
+stored c = c .before .before
 
-abbrev u : tie.After-planes1 → tie.After-compress-groups
-u c = c .before .before .before
+abbrev u : tie.After-slice-known4 → tie.After-compress-groups
+u c = stored c .before .before
+
+abbrev written : tie.After-compress-groups-arg6 → tie.After-compress-groups
+written c = u (c .before .before)
 
 abbrev parts-lent : tie.After-compress-groups-arg4 → tie.After-compress-groups-arg
 parts-lent c = c .before .before .before
 
-abbrev inputs : tie.After-compress-groups-arg → tie.After-shared-slice-known3
-inputs c = c .before .before .before
+abbrev inputs : tie.After-slice-known2 → tie.After-shared-slice-known3
+inputs c = c .before .before
 
-abbrev start : tie.After-shared-slice-known3 → tie.Start
-start c = c .before .before .before
+abbrev start : tie.After-slice-known2 → tie.Start
+start c = inputs c .before .before .before
 
 abbrev start-of : tie.After-compress-groups → tie.Start
-start-of c = start (inputs (parts-lent (c .before)))
+start-of c = start (parts-lent (c .before) .before)
 
 abbrev first : tie.After-compress-groups2 → tie.After-compress-groups
-first c = u (written (lent (c .before)))
+first c = written (lent (c .before))
 
 -- ---- slices: the lent ones, u's planes in front, and v's behind them
 
@@ -70,6 +75,23 @@ v-planes c = let o = c .compress-groups2 .last .1 .1 .1 .1 .1 .1 in sharedList (
 
 -- ---- facts
 
+-- what is lent reaches beyond u's parts
+module _ (s : tie.Start) where
+  u-reach0 : 768 ≤ length (s .args .uv0 .now)
+  u-reach0 = omega arith
+
+  u-reach1 : 768 ≤ length (s .args .uv1 .now)
+  u-reach1 = omega arith
+
+  words-reach : 816 ≤ length (s .args .ws .now)
+  words-reach = omega arith
+
+  planes-reach0 : 120 ≤ length (s .args .planes0 .now)
+  planes-reach0 = omega arith
+
+  planes-reach1 : 120 ≤ length (s .args .planes1 .now)
+  planes-reach1 = omega arith
+
 front : (c : tie.After-compress-groups) → Front 120 136 (planes (start-of c)) (u-planes c)
 front c =
     let k = c .compress-groups .kept .1 .1 .1 .1 .1 .1 in
@@ -82,7 +104,7 @@ both c =
 
 compress-groups-requires : tie.Need-compress-groups-requires
 compress-groups-requires c κs =
-    let s = start (inputs (parts-lent c)) in
+    let s = start (parts-lent c .before) in
     let p = s .pre in
     record {
       depth = omega arith;
@@ -90,14 +112,14 @@ compress-groups-requires c κs =
       words = omega (arith, p .words);
       out =
           record {
-            long0 = length-take-le 120 (s .args .planes0 .now) (omega (arith, p .out .long0));
-            long1 = length-take-le 120 (s .args .planes1 .now) (omega (arith, p .out .long1));
+            long0 = length-take-le 120 (s .args .planes0 .now) (planes-reach0 s);
+            long1 = length-take-le 120 (s .args .planes1 .now) (planes-reach1 s);
           };
     }
 
 compress-groups-requires-2 : tie.Need-compress-groups-requires-2
 compress-groups-requires-2 c κs =
-    let uc = u (written (lent c)) in
+    let uc = written (lent c) in
     let s = start-of uc in
     record {
       depth = omega arith;
@@ -147,34 +169,34 @@ pub stage7-spec : {M : Type 1} → statement M
 stage7-spec =
     tie.close
     (tie.spec
-    (λ c. omega arith)
-    (λ c. omega arith)
-    (λ c. omega arith)
-    (λ c. omega arith)
-    (λ c. omega arith)
-    (λ c. omega arith)
-    (λ c. omega arith)
-    (λ c. omega arith)
-    (λ c. omega arith)
-    (λ c. omega arith)
-    (λ c. omega arith)
-    (λ c. omega arith)
+    (λ c. zero-le)
+    (λ c. zero-le)
+    (λ c. u-reach0 (start c))
+    (λ c. zero-le)
+    (λ c. zero-le)
+    (λ c. u-reach1 (start (c .before)))
+    (λ c. zero-le)
+    (λ c. zero-le)
+    (λ c. planes-reach0 (start (c .before .before)))
+    (λ c. zero-le)
+    (λ c. zero-le)
+    (λ c. planes-reach1 (start (c .before .before .before)))
     compress-groups-requires
-    (λ c. omega arith)
-    (λ c. omega arith)
-    (λ c. omega arith)
-    (λ c. omega arith)
-    (λ c. omega arith)
-    (λ c. omega arith)
-    (λ c. omega arith)
-    (λ c. omega arith)
-    (λ c. omega arith)
-    (λ c. omega arith)
-    (λ c. omega arith)
-    (λ c. omega arith)
-    (λ c. omega arith)
-    (λ c. omega arith)
-    (λ c. omega arith)
+    (λ c. u-reach0 (start-of (u c)))
+    (λ c. u-reach0 (start-of (u c)))
+    (λ c. le-refl _)
+    (λ c. u-reach1 (start-of (u (c .before))))
+    (λ c. u-reach1 (start-of (u (c .before))))
+    (λ c. le-refl _)
+    (λ c. words-reach (start-of (written c)))
+    (λ c. words-reach (start-of (written c)))
+    (λ c. le-refl _)
+    (λ c. front-within0 (front (written (c .before))))
+    (λ c. front-within0 (front (written (c .before))))
+    (λ c. le-refl _)
+    (λ c. front-within1 (front (written (c .before .before))))
+    (λ c. front-within1 (front (written (c .before .before))))
+    (λ c. le-refl _)
     compress-groups-requires-2
     (λ c. same-length0 (both (v (filled c))))
     (λ c. same-length1 (both (v (filled c))))

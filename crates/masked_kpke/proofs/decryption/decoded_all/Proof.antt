@@ -4,10 +4,10 @@ use Prim.Native.Nat.{ℕ, _+_, _-_, _*_, _≤_}
 use native.Mathlib.Omega.{arith}
 use Rattle.codec.specs.Bytes.{byteDecode}
 use Rattle.codec.specs.Compress.{decompress}
-use Rattle.kpke.specs.KPke.{parts}
-use Rattle.kpke.specs.VectorLaws.{part-fits}
-use Rattle.kpke.proofs.Concatenated.{Concatenated, length-span}
-use Rattle.kpke.proofs.Concatenated.{concatenated-start, concatenated-read, concatenated-end}
+use Rattle.vectors.specs.Vector.{parts}
+use Rattle.vectors.specs.VectorLaws.{part-fits}
+use Rattle.vectors.proofs.Concatenated.{Concatenated, length-span}
+use Rattle.vectors.proofs.Concatenated.{concatenated-start, concatenated-read, concatenated-end}
 use Rattle.masked_kpke.proofs.decryption.decoded_all.Statement.{statement}
 use Rattle.masked_kpke.proofs.decryption.decoded_all.Tie as tie
 

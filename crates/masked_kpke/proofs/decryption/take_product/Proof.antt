@@ -1,7 +1,7 @@
 -- The sum of the products, its transform back and the difference are the definition's own steps.
 use mathlib.Core.Path.{refl, ap, ap₂, _∙_}
 use Rattle.ring.specs.Polynomial.{sub}
-use Rattle.ring.specs.Transform.{inverseNtt}
+use Rattle.transform.specs.Transform.{inverseNtt}
 use Rattle.masked_kpke.proofs.Vectors.{dot-whole}
 use native.Mathlib.Omega.{arith}
 use borrow.Author.Needs.{needs}

@@ -5,8 +5,8 @@ use lib.ListN.{drop}
 use Rattle.worksheet.specs.Ran.{bind, part-words, part-coeffs}
 use Rattle.stages.specs.Worksheet.{maskedEncrypt}
 use Rattle.masked_kpke.specs.Encryption.{encryptWith}
-use Rattle.masked_kpke.specs.SliceLaws.{masks-rest}
-use Rattle.masked_kpke.proofs.StoredRun.{length-rest}
+use Rattle.stages.specs.SliceLaws.{masks-rest}
+use Rattle.stages.specs.StoredRun.{length-rest}
 use borrow.Author.Needs.{needs}
 use Rattle.masked_kpke.proofs.encryption.masked_encrypt.Statement.{statement}
 use Rattle.masked_kpke.proofs.encryption.masked_encrypt.Tie as tie

@@ -4,9 +4,9 @@ use Prim.Native.Nat.{_*_}
 use native.Mathlib.Nat.{add-comm}
 use native.Mathlib.Omega.{arith}
 use Rattle.ring.specs.Polynomial.{add}
-use Rattle.ring.specs.Transform.{inverseNtt}
-use Rattle.kpke.specs.KPke.{parts}
-use Rattle.kpke.specs.VectorLaws.{dot-cong}
+use Rattle.transform.specs.Transform.{inverseNtt}
+use Rattle.vectors.specs.Vector.{parts}
+use Rattle.vectors.specs.VectorLaws.{dot-cong}
 use Rattle.kpke.proofs.Encoded.{place-fits}
 use Rattle.masked_kpke.specs.Passes.{uPass}
 use borrow.Author.Needs.{needs}

@@ -3,10 +3,10 @@ use mathlib.Core.Path.{ap, _∙_}
 use mathlib.Core.List.{List}
 use Prim.Native.Nat.{ℕ, _-_, _*_}
 use native.Mathlib.Omega.{arith}
-use Rattle.kpke.specs.KPke.{parts}
+use Rattle.vectors.specs.Vector.{parts}
 use Rattle.kpke.specs.Expanded.{placesOf}
-use Rattle.kpke.proofs.Concatenated.{Concatenated, part-span, length-span, concatenated-start, concatenated-turn}
-use Rattle.kpke.proofs.Concatenated.{concatenated-end}
+use Rattle.vectors.proofs.Concatenated.{Concatenated, part-span, length-span, concatenated-start, concatenated-turn}
+use Rattle.vectors.proofs.Concatenated.{concatenated-end}
 use Rattle.masked_kpke.specs.Passes.{uPass}
 use Rattle.masked_kpke.proofs.reencryption.u_passes.Statement.{statement}
 use Rattle.masked_kpke.proofs.reencryption.u_passes.Tie as tie

@@ -1,6 +1,6 @@
 -- y is the first three polynomials of n and is transformed there, e1 the next three and e2 the last; u is written in
 -- front of v.
-use Rattle.kpke.specs.KPke.{parts}
+use Rattle.vectors.specs.Vector.{parts}
 use Rattle.kpke.specs.Expanded.{placesOf}
 use Rattle.masked_kpke.proofs.Reencrypted.{uv-written-in}
 use native.Mathlib.Omega.{arith}

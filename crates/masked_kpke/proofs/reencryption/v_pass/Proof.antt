@@ -1,7 +1,7 @@
 -- t times y, transformed back, plus e2 and mu, call by call as the definition says.
 use mathlib.Core.Path.{refl, ap, ap₂, _∙_}
 use Rattle.ring.specs.Polynomial.{add}
-use Rattle.ring.specs.Transform.{inverseNtt}
+use Rattle.transform.specs.Transform.{inverseNtt}
 use Rattle.masked_kpke.specs.Passes.{vPass}
 use Rattle.masked_kpke.proofs.Vectors.{dot-whole}
 use native.Mathlib.Omega.{arith}

@@ -7,9 +7,9 @@ use Rattle.kpke.specs.Parameters.{mlKem768}
 use Rattle.refusals.specs.declared.Answer.the-variants.{WrongLength}
 use Rattle.refusals.specs.Same.{same}
 use Rattle.refusals.specs.Refusals.{sized}
-use Rattle.refusals.specs.RefusalLaws.{refused}
+use Rattle.refusals.specs.RefusalLaws.{refused, exact-at}
 use Rattle.mlkem.specs.Calls.{encapsAnswer}
-use Rattle.mlkem.specs.CallLaws.{exact-at, encaps-refused}
+use Rattle.mlkem.specs.CallLaws.{encaps-refused}
 use Rattle.mlkem.proofs.encapsulation.encaps.Statement.{statement}
 use Rattle.mlkem.proofs.encapsulation.encaps.Tie as tie
 

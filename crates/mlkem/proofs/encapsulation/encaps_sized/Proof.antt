@@ -10,12 +10,13 @@ use native.Mathlib.Omega.{arith}
 use lib.ListN.{take, drop}
 use Rattle.words.specs.Part.{part-rest}
 use Rattle.kpke.specs.Parameters.{mlKem768}
-use Rattle.kpke.specs.KPke.{concat, coefficients, matrix, matrixFull}
+use Rattle.vectors.specs.Vector.{concat, coefficients}
+use Rattle.kpke.specs.KPke.{matrix, matrixFull}
 use Rattle.kpke.specs.Expanded.{expanded-concat}
 use Rattle.refusals.specs.declared.Answer.the-variants.{Done, PublicKeyRange, ShortStream}
 use Rattle.refusals.specs.Refusals.{number}
 use Rattle.refusals.specs.RefusalLaws.{refused, passed, no-row}
-use Rattle.mlkem.specs.Reduced.{reduced}
+use Rattle.refusals.specs.Reduced.{reduced}
 use Rattle.mlkem.specs.CallLaws.{encaps-answer, encaps-refused}
 use Rattle.mlkem.proofs.encapsulation.encaps_sized.Statement.{statement}
 use Rattle.mlkem.proofs.encapsulation.encaps_sized.Tie as tie

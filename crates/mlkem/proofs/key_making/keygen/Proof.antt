@@ -7,9 +7,9 @@ use Rattle.kpke.specs.Parameters.{mlKem768}
 use Rattle.refusals.specs.declared.Answer.the-variants.{WrongLength}
 use Rattle.refusals.specs.Same.{same}
 use Rattle.refusals.specs.Refusals.{sized}
-use Rattle.refusals.specs.RefusalLaws.{refused}
+use Rattle.refusals.specs.RefusalLaws.{refused, exact-at}
 use Rattle.mlkem.specs.Calls.{keyGenAnswer}
-use Rattle.mlkem.specs.CallLaws.{exact-at, keygen-refused}
+use Rattle.mlkem.specs.CallLaws.{keygen-refused}
 use Rattle.mlkem.proofs.key_making.keygen.Statement.{statement}
 use Rattle.mlkem.proofs.key_making.keygen.Tie as tie
 

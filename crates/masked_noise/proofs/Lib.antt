@@ -1,0 +1,2 @@
+pub mod SharedInput
+pub mod Sampled

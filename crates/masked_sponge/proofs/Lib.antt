@@ -1,0 +1,3 @@
+pub mod MaskedLanes
+pub mod MaskedBlocks
+pub mod MaskedOutput

@@ -1,0 +1,6 @@
+pub mod MaskedSponge
+pub mod EntryCounts
+pub mod Lent
+pub mod MaskedBytes
+pub mod MaskedSteps
+pub mod MaskedBlocksSilence

@@ -1,0 +1,2 @@
+pub mod Transposition
+pub mod Lent

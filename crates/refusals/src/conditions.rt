@@ -1,0 +1,30 @@
+// The conditions of rows 2 to 6: coefficients below q, and equal strings.
+ghost use mathlib.Core.Path.{_≡_};
+ghost use lib.ListN.{length};
+ghost use Rattle.refusals.specs.Reduced.{reduced as reducedOf};
+ghost use Rattle.refusals.specs.Same.{same as sameOf};
+
+// Each coefficient is below q.
+pub fn reduced(f: &[u16]) -> bool
+    ensures { λ r. ⌜ r ≡ reducedOf (now (f .entry)) ⌝ }
+{
+    for i in 0..f.len() {
+        if f[i] >= 3329 {
+            return false;
+        }
+    }
+    true
+}
+
+// Two strings of one length are equal.
+pub fn same(a: &[u8], b: &[u8]) -> bool
+    requires { ⌜ length (now a) ≡ length (now b) ⌝ }
+    ensures { λ r. ⌜ r ≡ sameOf (now (a .entry)) (now (b .entry)) ⌝ }
+{
+    for i in 0..a.len() {
+        if a[i] != b[i] {
+            return false;
+        }
+    }
+    true
+}

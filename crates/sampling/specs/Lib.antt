@@ -1,0 +1,8 @@
+pub mod Sample
+pub mod SampleAnswer
+pub mod SampleLaws
+pub mod SampleLoop
+pub mod SampleLoopLaws
+pub mod Collect
+pub mod Sizes
+pub mod Results

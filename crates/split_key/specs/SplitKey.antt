@@ -1,0 +1,55 @@
+-- Document 01, The work and its edge: a split key, and the split that import makes of a key.
+use mathlib.Core.List.{List, [], _∷_, _++_}
+use Prim.Native.Nat.{ℕ, _+_, _-_, _*_, _%_}
+use lib.ListN.{getD, take, drop}
+use Rattle.words.specs.Word.{xor}
+use Rattle.words.specs.Residue.{q}
+use Rattle.words.specs.Tab.{tab}
+use Rattle.fips202.specs.Sponge.{laneOf}
+use Rattle.worksheet.specs.SharedList.{SharedList, sharedList}
+use Rattle.refusals.specs.Refusals.{Lent, lent}
+use Rattle.kpke.specs.Parameters.{Parameters, ekBytes}
+use Rattle.vectors.specs.Vector.{coefficients}
+use Rattle.mlkem.specs.MlKem.{secretPart, publicPart, hashPart, zPart}
+
+-- the secret's shares, z's shares, and the public key followed by h
+pub record SplitKey : Type 0 where
+  pub s : SharedList
+  pub z : SharedList
+  pub public : List ℕ
+
+-- by the five buffers that hold it
+abbrev pub splitKey : List ℕ → List ℕ → List ℕ → List ℕ → List ℕ → SplitKey
+splitKey s0 s1 z0 z1 public = record { s = sharedList s0 s1; z = sharedList z0 z1; public = public }
+
+module _ (p : Parameters) where
+  -- the public key and h, as stored
+  abbrev pub ekOf : SplitKey → List ℕ
+  ekOf key = take (ekBytes p) (key .public)
+
+  abbrev pub hOf : SplitKey → List ℕ
+  hOf key = drop (ekBytes p) (key .public)
+
+  -- the lengths that the five buffers must have
+  abbrev pub keyLengths : SplitKey → List Lent
+  keyLengths key =
+      lent (key .s .s0) (256 * p .k)
+      ∷ lent (key .s .s1) (256 * p .k)
+      ∷ lent (key .z .s0) 4
+      ∷ lent (key .z .s1) 4
+      ∷ lent (key .public) (ekBytes p + 32)
+      ∷ []
+
+  -- ---- import's split of dk: the first shares are the masks
+
+  unfoldable pub secondCoeffs : List ℕ → List ℕ → List ℕ
+  secondCoeffs dk maskCoeffs =
+      tab (256 * p .k) (λ i. (getD (coefficients (p .k) (secretPart p dk)) i 0 + (q - getD maskCoeffs i 0)) % q)
+
+  unfoldable pub secondWords : List ℕ → List ℕ → List ℕ
+  secondWords dk maskWords = tab 4 (λ i. xor (laneOf (zPart p dk) i) (getD maskWords i 0))
+
+  unfoldable pub split : List ℕ → List ℕ → List ℕ → SplitKey
+  split dk maskCoeffs maskWords =
+      splitKey maskCoeffs (secondCoeffs dk maskCoeffs) maskWords (secondWords dk maskWords)
+      (publicPart p dk ++ hashPart p dk)

@@ -1,0 +1,4 @@
+pub mod Powers
+pub mod Butterflies
+pub mod Layers
+pub mod Products

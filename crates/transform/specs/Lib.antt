@@ -1,0 +1,4 @@
+pub mod Transform
+pub mod Sizes
+pub mod Linear
+pub mod MultiplyLaws

@@ -1,0 +1,4 @@
+pub mod Vector
+pub mod VectorLaws
+pub mod DotLaws
+pub mod Sizes

@@ -1,0 +1,80 @@
+-- Laws of vectors (FIPS 203, section 2.4.6): k parts of n elements, one after the other.
+use mathlib.Core.Path.{_≡_, refl, sym, ap, ap₂, _∙_}
+use mathlib.Core.List.{List, _++_}
+use Prim.Native.Nat.{ℕ, zero, suc, _+_, _*_, _<_, _≤_}
+use native.Mathlib.Nat.{mul-zero, mul-suc, mul-le-mul-left}
+use native.Mathlib.Decide.{decLt}
+use native.Mathlib.Omega.{arith}
+use lib.ListN.{length, take, drop, replicate, length-append}
+use lib.Seq.{take-length, take-add, drop-at}
+use Rattle.words.specs.Bounded.{Below}
+use Rattle.words.specs.BoundedLaws.{below-nil, below-append}
+use Rattle.words.specs.IterateLaws.{iterate-cong}
+use Rattle.words.specs.Part.{part-append}
+use Rattle.ring.specs.Polynomial.{add}
+use Rattle.transform.specs.Transform.{multiplyNtts}
+use Rattle.vectors.specs.Vector.{parts, concat, dot}
+
+-- part i of k parts of n elements lies within them
+pub part-fits : (n : ℕ) {i k : ℕ} → i < k → n * i + n ≤ n * k
+part-fits n {i} {k} h =
+    let e = mul-suc n i in
+    let g = mul-le-mul-left {m = suc i} {n = k} n (omega arith) in
+    omega arith
+
+-- each of the k parts has n elements
+pub record Each (n k : ℕ) (f : ℕ → List ℕ) : Type 0 where
+  pub long : (i : ℕ) → i < k → length (f i) ≡ n
+
+each-less : {n k : ℕ} {f : ℕ → List ℕ} → Each n (suc k) f → Each n k f
+each-less e = record { long = λ i h. e .long i (omega arith) }
+
+pub length-concat : {n k : ℕ} {f : ℕ → List ℕ} → Each n k f → length (concat k f) ≡ n * k
+unfolding concat
+length-concat {n} {k = zero} e = sym (mul-zero n)
+length-concat {n} {k = suc k} {f} e =
+    length-append (concat k f) (f k)
+    ∙ ap₂ (λ (x y : ℕ). x + y) (length-concat (each-less e)) (e .long k (omega arith))
+    ∙ sym (mul-suc n k)
+
+pub concat-cong : (k : ℕ) {f g : ℕ → List ℕ} → ((i : ℕ) → i < k → f i ≡ g i) → concat k f ≡ concat k g
+unfolding concat
+concat-cong zero h = refl
+concat-cong (suc k) h =
+    ap₂ (λ (x y : List ℕ). x ++ y) (concat-cong k (λ i g. h i (omega arith))) (h k (omega arith))
+
+pub parts-concat : {n k : ℕ} {f : ℕ → List ℕ} → Each n k f → (i : ℕ) → i < k → parts n (concat k f) i ≡ f i
+unfolding concat
+parts-concat {n} {k = zero} e i h = absurd (omega arith)
+parts-concat {n} {k = suc k} {f} e i h = go (decLt i k) (parts-concat (each-less e) i)
+  where
+    go : Dec (i < k) → (i < k → parts n (concat k f) i ≡ f i) → parts n (concat k f ++ f k) i ≡ f i
+    go (yes g) r =
+        part-append (n * i) n (concat k f) (f k) (omega (arith, part-fits n g, length-concat (each-less e))) ∙ r g
+    go (no g) r =
+        let w : i ≡ k = omega arith in
+        rw w
+        (ap (take n) (drop-at (concat k f) (f k) (n * k) (length-concat (each-less e)))
+        ∙ ap (λ (m : ℕ). take m (f k)) (sym (e .long k (omega arith)))
+        ∙ take-length (f k))
+
+pub below-concat : {b : ℕ} (k : ℕ) {f : ℕ → List ℕ} → 0 < b → ((i : ℕ) → i < k → Below b (f i)) → Below b (concat k f)
+unfolding concat
+below-concat zero p h = below-nil p
+below-concat (suc k) {f} p h =
+    below-append (concat k f) (below-concat k p (λ i g. h i (omega arith))) (h k (omega arith))
+
+-- the parts of a list one after the other
+pub concat-parts : (n k : ℕ) (l : List ℕ) → concat k (parts n l) ≡ take (n * k) l
+unfolding concat
+concat-parts n zero l = rw (mul-zero n)
+concat-parts n (suc k) l =
+    ap (λ (m : List ℕ). m ++ take n (drop (n * k) l)) (concat-parts n k l)
+    ∙ sym (take-add (n * k) n l)
+    ∙ ap (λ (m : ℕ). take m l) (sym (mul-suc n k))
+
+pub dot-cong : (k : ℕ) {f g u v : ℕ → List ℕ} → ((j : ℕ) → j < k → f j ≡ u j) → ((j : ℕ) → j < k → g j ≡ v j)
+    → dot k f g ≡ dot k u v
+unfolding dot
+dot-cong k h e =
+    iterate-cong k (replicate 256 0) (λ j l s. ap₂ (λ (x y : List ℕ). add s (multiplyNtts x y)) (h j l) (e j l))
