@@ -12,8 +12,8 @@ from models.parameters import ML_KEM_768 as P
 EXPAND, COMPRESS, NOISE, ABSORB = MARKS = (
     "kpke::matrix::expand",
     "masked_polynomials::groups::compress_groups",
-    "masked_noise::noise::noise_polys",
-    "masked_sponge::masked_absorb::masked_absorb",
+    "masked_noise::noise_polys",
+    "masked_sponge::absorb::masked_absorb",
 )
 # where each stage ends: at which event, the so-manieth
 ENDS = [

@@ -2,10 +2,10 @@
 use mathlib.Core.Path.{_≡_, ap, _∙_}
 use mathlib.Core.List.{List}
 use Prim.Native.Nat.{ℕ, _+_, _-_, _*_, _<_}
-use lib.ListN.{length, take, drop, set}
+use lib.ListN.{take, drop, set}
 use Rattle.words.specs.Fill.{Filled, filled-turn}
 use Rattle.words.specs.Numeral.{value}
-use Rattle.vectors.proofs.Concatenated.{part-span}
+use Rattle.words.specs.Part.{part-span}
 use Rattle.buffers.specs.LittleEndian.{numberAt}
 
 pub read-turn : {m : ℕ} (n : ℕ) (b : List ℕ) {i v : ℕ} {out : List ℕ} → Filled m (numberAt n b) i out → i < m

@@ -8,7 +8,7 @@ use crate::little_endian::get_coefficients;
 use crate::little_endian::get_words;
 use crate::little_endian::put_coefficients;
 use crate::little_endian::put_words;
-use vectors::copy::copy_bytes;
+use slices::copy_bytes;
 
 fn pack_coefficients(s0: &[u16], s1: &[u16], out: &mut [u8])
     requires { ⌜ (length (now s0) ≡ 768) × (length (now s1) ≡ 768) × (length (now out) ≡ 3072) ⌝ }

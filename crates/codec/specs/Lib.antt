@@ -2,4 +2,4 @@ pub mod Bytes
 pub mod BytesLaws
 pub mod Compress
 pub mod CompressLaws
-pub mod Sizes
+pub mod Lent

@@ -1,7 +1,7 @@
 // Numbers by their bits, for the functions of FIPS 203's section 4.2.
 ghost use mathlib.Core.Path.{_≡_};
 ghost use Prim.Native.Nat.{_+_, _*_, _/_, _%_, _^_, _≤_};
-ghost use Rattle.codec.specs.Sizes.{AboveInput};
+ghost use Rattle.codec.specs.Lent.{AboveInput};
 
 pub fn wide16(x: u16) -> u32
     ensures { λ r. ⌜ r ≡ x ⌝ }

@@ -9,7 +9,7 @@ ghost use mathlib.Core.List.{map};
 ghost use Prim.Native.Nat.{_^_, _≤_};
 ghost use Rattle.words.specs.Bounded.{Below};
 ghost use Rattle.codec.specs.Compress.{compress, decompress};
-ghost use Rattle.codec.specs.Sizes.{DecompressInput};
+ghost use Rattle.codec.specs.Lent.{DecompressInput};
 
 // Compress_d, (4.7): (2 a + q) / (2 q) is (a + 1664) / q.
 pub fn compress(x: u16, d: u32) -> u16

@@ -12,7 +12,7 @@ ghost use Prim.Native.Nat.{_%_};
 ghost use lib.ListN.{length};
 ghost use Rattle.words.specs.Residue.{q};
 ghost use Rattle.codec.specs.Bytes.{byteEncode, byteDecode, byteDecode12};
-ghost use Rattle.codec.specs.Sizes.{EncodeInput, DecodeInput};
+ghost use Rattle.codec.specs.Lent.{EncodeInput, DecodeInput};
 
 // Algorithm 5, ByteEncode_d: each turn loads a coefficient or stores a byte.
 pub fn byte_encode(f: &[u16], d: u32, out: &mut [u8])

@@ -10,7 +10,7 @@ use Rattle.words.specs.Tab.{tab}
 use Rattle.words.specs.TabLaws.{tab-of}
 use Rattle.worksheet.specs.SharedList.{sharedList, unzip}
 use Rattle.stages.specs.Moves.{coinsOf}
-use Rattle.stages.specs.Slices.{Long}
+use Rattle.stages.specs.Lent.{Long}
 
 last-four : (l : List ℕ) → length l ≡ 8 → take 4 (drop 4 l) ≡ tab 4 (λ i. getD l (4 + i) 0)
 last-four l e =

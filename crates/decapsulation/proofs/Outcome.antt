@@ -29,7 +29,7 @@ use Rattle.refusals.specs.Reduced.{reduced}
 use Rattle.stages.specs.EntryCounts.{steps}
 use Rattle.stages.specs.Counts768.{counts768}
 use Rattle.stages.specs.Worksheet.{worksheet}
-use Rattle.stages.specs.Slices.{Long}
+use Rattle.stages.specs.Lent.{Long}
 use Rattle.decapsulation.specs.Calls.{Input, sheet, lengths, rows}
 use Rattle.decapsulation.specs.Calls.{decapsRows, decapsAnswer, decapsShares, Decapsulated}
 use Rattle.decapsulation.specs.Calls.{traceAnswer, traceValue, Traced}

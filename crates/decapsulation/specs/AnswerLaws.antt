@@ -23,7 +23,7 @@ use Rattle.mlkem.specs.Calls.{rhoOf}
 use Rattle.split_key.specs.SplitKey.{ekOf}
 use Rattle.stages.specs.EntryCounts.{steps}
 use Rattle.stages.specs.WorksheetUses.{uses-worksheet}
-use Rattle.stages.specs.Slices.{Long}
+use Rattle.stages.specs.Lent.{Long}
 use Rattle.decapsulation.specs.Calls.{Input, sheet, lengths, rows, decapsRows, decapsAnswer, traceAnswer}
 use Rattle.decapsulation.specs.Sized.{Sized}
 

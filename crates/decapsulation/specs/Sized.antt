@@ -1,4 +1,4 @@
--- The lengths of what is lent to a call and to the runs under it.
+-- What is lent to a call: its lengths; and to the runs under it: also the range of masks, and the matrix.
 use mathlib.Core.Path.{_≡_}
 use mathlib.Core.List.{List}
 use Prim.Native.Nat.{ℕ, _+_, _*_, _≤_}
@@ -10,7 +10,7 @@ use Rattle.kpke.specs.Parameters.{Parameters, mlKem768, vectorBytes, ekBytes, c
 use Rattle.kpke.specs.Expanded.{Expanded}
 use Rattle.split_key.specs.Sized.{SplitSized}
 use Rattle.stages.specs.Counts.{stripWords, stripCoeffs}
-use Rattle.stages.specs.Slices.{Long, Masks}
+use Rattle.stages.specs.Lent.{Long, Masks}
 use Rattle.decapsulation.specs.Calls.{Input}
 
 pub record Sized (p : Parameters) (g : Input) : Type 0 where

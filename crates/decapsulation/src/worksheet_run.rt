@@ -6,14 +6,14 @@ ghost use Rattle.kpke.specs.Parameters.{mlKem768};
 ghost use Rattle.split_key.specs.SplitKey.{splitKey};
 ghost use Rattle.stages.specs.Worksheet.{compared as comparedOf, worksheet as worksheetOf};
 ghost use Rattle.decapsulation.specs.Calls.{input};
-ghost use Rattle.masked_mlkem.specs.Sized.{GivesBit};
+ghost use Rattle.masked_mlkem.specs.Lent.{GivesBit};
 ghost use Rattle.decapsulation.specs.Sized.{Runnable, CompareInput};
-use masked_kpke::decryption::masked_decrypt;
-use masked_kpke::encryption::masked_encrypt;
+use masked_comparison::selection::select_all;
+use masked_decryption::masked_decrypt;
+use masked_encryption::masked_encrypt;
 use masked_mlkem::comparison::stage8;
 use masked_mlkem::hashing::stage3;
 use masked_mlkem::hashing::stage9;
-use masked_mlkem::selection::stage10;
 use worksheet::EnteredShares;
 use worksheet::Recorder;
 
@@ -106,8 +106,9 @@ pub fn run(
         &mut rejected0,
         &mut rejected1,
     );
-    stage10(
+    select_all(
         rec,
+        4,
         b.value,
         &g0,
         &g1,

@@ -7,4 +7,4 @@ pub mod Lanes
 pub mod Words
 pub mod OutputLaws
 pub mod LongerOutput
-pub mod Sizes
+pub mod Lent

@@ -3,7 +3,7 @@ ghost use mathlib.Core.List.{_++_};
 ghost use mathlib.Core.Path.{_≡_};
 ghost use Prim.Native.Nat.{_-_, _%_, _<_, _≤_};
 ghost use lib.ListN.{length, take, replicate};
-ghost use Rattle.fips202.specs.Sizes.{SpongeFits};
+ghost use Rattle.fips202.specs.Lent.{SpongeFits};
 ghost use Rattle.fips202.specs.Sponge.{padding, padded, mixed, absorbed};
 use crate::bytes;
 use keccak::state::State;

@@ -4,7 +4,7 @@ ghost use Prim.Native.Nat.{_-_, _*_, _%_, _<_};
 ghost use lib.ListN.{length};
 ghost use Rattle.refusals.specs.Refusals.{number};
 ghost use Rattle.fips202.specs.Calls.{sizedAnswer, Hashed, sha3-256Call, sha3-512Call};
-ghost use Rattle.fips202.specs.Sizes.{SpongeFits};
+ghost use Rattle.fips202.specs.Lent.{SpongeFits};
 ghost use Rattle.fips202.specs.Sponge.{sponge as spongeOf, shake128 as shake128Of, shake256 as shake256Of};
 use crate::absorb::absorb;
 use crate::squeeze::squeeze;

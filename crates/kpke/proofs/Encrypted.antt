@@ -12,8 +12,9 @@ use Rattle.kpke.specs.Parameters.{Parameters, vectorBytes}
 use Rattle.vectors.specs.Vector.{parts, concat}
 use Rattle.kpke.specs.KPke.{noise, firstPart, secondPart, ephemeral, publicVector, encrypt}
 use Rattle.vectors.specs.VectorLaws.{concat-cong, dot-cong}
+use Rattle.vectors.specs.TransformedVector.{transformed-at}
 use Rattle.kpke.specs.Expanded.{placesOf, Expanded}
-use Rattle.kpke.proofs.Parts.{transformed-at, decoded-at, first-at}
+use Rattle.kpke.proofs.Parts.{each-noise, decoded-at, first-at}
 
 module _ (p : Parameters) (ek m r : List ℕ) {a t y u v ct : List ℕ}
     (x : Expanded (p .k) (drop (vectorBytes p) ek) a) where
@@ -27,7 +28,7 @@ module _ (p : Parameters) (ek m r : List ℕ) {a t y u v ct : List ℕ}
       → ct ≡ encrypt p ek m r
   unfolding encrypt ephemeral publicVector firstPart secondPart
   encrypt-parts et ey eu ev ec =
-      let y-at = transformed-at (p .eta1) (p .k) r ey in
+      let y-at = transformed-at (each-noise (p .eta1) (p .k) r) ey in
       let first : (i : ℕ) → i < p .k → _ = λ i h. dot-cong (p .k) (λ j g. x .at j i g h) y-at in
       ec
       ∙ ap₂ (λ (k l : List ℕ). k ++ l)

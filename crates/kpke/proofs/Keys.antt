@@ -10,14 +10,15 @@ use Rattle.kpke.specs.Parameters.{Parameters}
 use Rattle.vectors.specs.Vector.{parts, concat}
 use Rattle.kpke.specs.KPke.{matrix, noise, publicPolynomial, secretVector, errorVector, ekFrom, dkFrom}
 use Rattle.vectors.specs.VectorLaws.{concat-cong, dot-cong}
+use Rattle.vectors.specs.TransformedVector.{transformed-at}
 use Rattle.kpke.specs.Expanded.{placesOf, Expanded}
-use Rattle.kpke.proofs.Parts.{transformed-at, public-at}
+use Rattle.kpke.proofs.Parts.{each-noise, public-at}
 
 module _ (p : Parameters) (sigma : List ℕ) {s : List ℕ} (es : s ≡ concat (p .k) (λ i. ntt (noise (p .eta1) sigma i)))
   where
     secret-at : (i : ℕ) → i < p .k → parts 256 s i ≡ secretVector p sigma i
     unfolding secretVector
-    secret-at i h = transformed-at (p .eta1) (p .k) sigma es i h
+    secret-at i h = transformed-at (each-noise (p .eta1) (p .k) sigma) es i h
 
     public-polynomial-at : {rho a : List ℕ} → Expanded (p .k) rho a → (i : ℕ) → i < p .k
         → publicPolynomial (p .k) (placesOf (p .k) a) (parts 256 s) (λ j. ntt (noise (p .eta1) sigma (p .k + j))) i

@@ -1,5 +1,4 @@
 pub mod Sampled
-pub mod Digest
 pub mod Encoded
 pub mod Parts
 pub mod Products

@@ -8,22 +8,21 @@ use native.Mathlib.Omega.{arith}
 use lib.ListN.{length, take}
 use Rattle.words.specs.Bounded.{Below}
 use Rattle.words.specs.Residue.{q}
-use Rattle.words.specs.Part.{part-take}
+use Rattle.words.specs.Part.{part-take, part-fits}
 use Rattle.codec.specs.Bytes.{byteDecode12}
 use Rattle.codec.specs.BytesLaws.{length-byteDecode12}
 use Rattle.ring.specs.Sum.{length-add, below-add}
 use Rattle.transform.specs.Linear.{ntt-linear, length-inverseNtt}
 use Rattle.sampling.specs.SampleLaws.{length-samplePolyCbd, below-samplePolyCbd}
 use Rattle.transform.specs.Transform.{ntt}
-use Rattle.kpke.specs.Functions.{PRF}
+use Rattle.hash_functions.specs.Functions.{PRF}
 use Rattle.vectors.specs.Vector.{parts, concat}
 use Rattle.kpke.specs.KPke.{noise, firstPart, publicPolynomial}
-use Rattle.vectors.specs.VectorLaws.{part-fits, Each, parts-concat, concat-cong, below-concat}
+use Rattle.vectors.specs.VectorLaws.{Each, parts-concat, concat-cong, below-concat}
 use Rattle.vectors.specs.DotLaws.{length-dot}
 
-each-transformed : (eta k : ℕ) (seed : List ℕ) → Each 256 k (λ i. ntt (noise eta seed i))
-each-transformed eta k seed =
-    record { long = λ i h. ntt-linear .long (noise eta seed i) (length-samplePolyCbd eta (PRF eta seed i)) }
+pub each-noise : (eta k : ℕ) (seed : List ℕ) → Each 256 k (noise eta seed)
+each-noise eta k seed = record { long = λ i h. length-samplePolyCbd eta (PRF eta seed i) }
 
 -- noise, transformed part by part
 pub transformed-noise : (eta k : ℕ) (seed : List ℕ) {v w : List ℕ} → v ≡ concat k (λ i. noise eta seed (0 + i))
@@ -36,10 +35,6 @@ transformed-noise eta k seed e g =
     (ap (λ (l : List ℕ). parts 256 l i) e
     ∙ parts-concat (record { long = λ j f. length-samplePolyCbd eta _ }) i h
     ∙ ap (noise eta seed) (zero-add i)))
-
-pub transformed-at : (eta k : ℕ) (seed : List ℕ) {v : List ℕ} → v ≡ concat k (λ i. ntt (noise eta seed i)) → (i : ℕ)
-    → i < k → parts 256 v i ≡ ntt (noise eta seed i)
-transformed-at eta k seed e i h = ap (λ (l : List ℕ). parts 256 l i) e ∙ parts-concat (each-transformed eta k seed) i h
 
 -- a vector of polynomials below q, and transformed noise as one
 pub below-vector : (k : ℕ) (f : ℕ → List ℕ) {v : List ℕ} → v ≡ concat k f → ((i : ℕ) → Below q (f i)) → Below q v

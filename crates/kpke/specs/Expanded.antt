@@ -9,15 +9,15 @@ use borrow.Author.Tests.{leb-true}
 use lib.Dec.{T}
 use lib.ListN.{length, take, drop}
 use lib.Seq.{drop-drop}
-use Rattle.words.specs.Part.{part-take}
+use Rattle.words.specs.Part.{part-take, part-fits}
 use Rattle.words.specs.Table.{every}
 use Rattle.words.specs.TableLaws.{every-at}
 use Rattle.sampling.specs.Sample.{full, accepted}
 use Rattle.sampling.specs.SampleLaws.{length-sampleNtt}
-use Rattle.kpke.specs.Functions.{XOF}
+use Rattle.hash_functions.specs.Functions.{XOF}
 use Rattle.vectors.specs.Vector.{parts, concat}
 use Rattle.kpke.specs.KPke.{matrix, matrixFull}
-use Rattle.vectors.specs.VectorLaws.{part-fits, Each, length-concat, parts-concat}
+use Rattle.vectors.specs.VectorLaws.{Each, length-concat, parts-concat}
 
 -- place (i, j) of such a list
 abbrev pub placesOf : ℕ → List ℕ → ℕ → ℕ → List ℕ

@@ -12,7 +12,7 @@ use Rattle.transform.specs.Transform.{ntt, inverseNtt}
 use Rattle.sampling.specs.Sample.{full, sampleNtt, samplePolyCbd}
 use Rattle.vectors.specs.Vector.{parts, concat, dot}
 use Rattle.kpke.specs.Parameters.{Parameters, vectorBytes}
-use Rattle.kpke.specs.Functions.{PRF, G₁, G₂, XOF}
+use Rattle.hash_functions.specs.Functions.{PRF, G₁, G₂, XOF}
 
 -- A-hat, algorithm 13, lines 3 to 7: place (i, j)
 abbrev pub matrix : List ℕ → ℕ → ℕ → List ℕ

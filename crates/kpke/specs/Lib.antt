@@ -1,7 +1,6 @@
 pub mod Parameters
-pub mod Functions
 pub mod KPke
 pub mod Expanded
-pub mod Sizes
+pub mod Lent
 pub mod KeyMaking
 pub mod MatrixLoop

@@ -10,7 +10,7 @@ use Rattle.fips202.specs.LongerOutput.{length-shake128, shake128-longer}
 use Rattle.sampling.specs.Sample.{full}
 use Rattle.sampling.specs.SampleLoop.{ReturnsWithin}
 use Rattle.sampling.specs.SampleLoopLaws.{full-returns}
-use Rattle.kpke.specs.Functions.{XOF}
+use Rattle.hash_functions.specs.Functions.{XOF}
 use Rattle.kpke.specs.KPke.{matrix, matrixFull}
 use Rattle.kpke.specs.Expanded.{place-full}
 

@@ -9,7 +9,7 @@ ghost use Rattle.kpke.specs.Parameters.{mlKem768};
 ghost use Rattle.vectors.specs.Vector.{parts, concat};
 ghost use Rattle.kpke.specs.KPke.{firstPart, secondPart, encrypt as encryptOf};
 ghost use Rattle.kpke.specs.Expanded.{placesOf};
-ghost use Rattle.kpke.specs.Sizes.{RowInput, SecondInput, CiphertextInput, EncryptInput};
+ghost use Rattle.kpke.specs.Lent.{RowInput, SecondInput, CiphertextInput, EncryptInput};
 use crate::noise::noise;
 use crate::noise::transformed_noise;
 use codec::byte_decode;

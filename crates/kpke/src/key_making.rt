@@ -10,12 +10,12 @@ ghost use Rattle.vectors.specs.Vector.{parts, concat};
 ghost use Rattle.kpke.specs.KPke.{noise as noiseOf, publicPolynomial};
 ghost use Rattle.kpke.specs.KeyMaking.{PkeKeysInput, PkeKeysWritten};
 ghost use Rattle.kpke.specs.Expanded.{placesOf};
-ghost use Rattle.kpke.specs.Sizes.{RowInput, EkInput};
+ghost use Rattle.kpke.specs.Lent.{RowInput, EkInput};
 use crate::noise::noise;
 use crate::noise::transformed_noise;
 use ring::add_to;
+use slices::copy_bytes;
 use transform::ntt;
-use vectors::copy::copy_bytes;
 use vectors::dot;
 use vectors::encode_all;
 

@@ -6,11 +6,11 @@ ghost use lib.ListN.{length};
 ghost use Rattle.words.specs.Table.{every};
 ghost use Rattle.sampling.specs.Sample.{full};
 ghost use Rattle.sampling.specs.Results.{Sampling};
-ghost use Rattle.kpke.specs.Functions.{XOF};
+ghost use Rattle.hash_functions.specs.Functions.{XOF};
 ghost use Rattle.vectors.specs.Vector.{concat};
 ghost use Rattle.kpke.specs.KPke.{matrix, matrixFull};
-ghost use Rattle.kpke.specs.Sizes.{ExpandInput};
-use crate::hashes::xof;
+ghost use Rattle.kpke.specs.Lent.{ExpandInput};
+use hash_functions::xof;
 use sampling::fill_ntt;
 
 // SampleNTT (algorithm 7) at place (i, j): whether its stream yields 256 coefficients, which f then holds.

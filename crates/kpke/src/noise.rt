@@ -5,8 +5,8 @@ ghost use lib.ListN.{length};
 ghost use Rattle.transform.specs.Transform.{ntt};
 ghost use Rattle.vectors.specs.Vector.{concat};
 ghost use Rattle.kpke.specs.KPke.{noise as noiseOf};
-ghost use Rattle.kpke.specs.Sizes.{NoiseSeed, NoiseInput};
-use crate::hashes::prf;
+ghost use Rattle.kpke.specs.Lent.{NoiseSeed, NoiseInput};
+use hash_functions::prf;
 use sampling::sample_poly_cbd;
 use vectors::ntt_all;
 

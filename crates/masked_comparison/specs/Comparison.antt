@@ -1,10 +1,12 @@
 -- Folding of words to one bit, and selection (document 01, stages 8 and 10).
 use mathlib.Core.List.{List}
 use Prim.Native.Nat.{ℕ, _+_, _-_, _*_, _/_, _^_}
+use lib.ListN.{getD}
 use Rattle.words.specs.Word.{xor, low}
 use Rattle.worksheet.specs.declared.Shares.{Shares}
 use Rattle.worksheet.specs.Prog.{Prog, ret, _>>=_, entry, loop, times}
-use Rattle.worksheet.specs.Sharing.{shares}
+use Rattle.worksheet.specs.Sharing.{shares, none}
+use Rattle.worksheet.specs.SharedList.{SharedList, sharedAt, unzip}
 use Rattle.worksheet.specs.MaskedAnd.{maskedAnd}
 use Rattle.worksheet.specs.Gates.{maskedNot, maskedXor, maskedOr}
 
@@ -46,6 +48,12 @@ select b x y = do
   z ← maskedAnd 64 (copies b) d
   maskedXor y z
 
--- its mask words
+-- n words, each by the same bit
+unfoldable pub selectAll : ℕ → Shares → SharedList → SharedList → Prog SharedList
+selectAll n b x y = do
+  o ← times n (λ j. select b (sharedAt x j) (sharedAt y j))
+  ret (unzip n (λ j. getD o j none))
+
+-- the mask words of one
 abbrev pub selectWords : ℕ
 selectWords = 1

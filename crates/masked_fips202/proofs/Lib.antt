@@ -1,3 +1,4 @@
 pub mod MaskedHash
 pub mod OneBlock
 pub mod OneBlockSponge
+pub mod SharedInput

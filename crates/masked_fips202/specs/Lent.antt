@@ -1,9 +1,9 @@
 -- What the hashes on shares ask of a rate, a suffix and the buffers lent to them.
 use mathlib.Core.Path.{_≡_}
 use mathlib.Core.List.{List}
-use Prim.Native.Nat.{ℕ, _*_, _/_, _%_, _<_, _≤_}
+use Prim.Native.Nat.{ℕ, _/_, _≤_}
 use lib.ListN.{length}
-use Rattle.fips202.specs.Sizes.{SpongeFits}
+use Rattle.fips202.specs.Lent.{SpongeFits}
 use Rattle.masked_sponge.specs.MaskedSponge.{permutations, hashMaskWords, spongeMaskWords}
 use Rattle.masked_fips202.specs.MaskedWords.{sha3-512MaskWords, shake256MaskWords}
 

@@ -2,7 +2,7 @@
 -- FIPS 202's hash of what its two inputs join to, whatever masks are lent. Lengths follow from the answer. Bytes are
 -- below 256 and words below 2^64: at a call the types of the slices say so, and of lists it is asked.
 use mathlib.Core.Path.{_≡_, sym, ap, ap₂, _∙_}
-use mathlib.Core.List.{List, [], _∷_}
+use mathlib.Core.List.{List, []}
 use Prim.Native.Nat.{ℕ, _^_}
 use native.Mathlib.Omega.{arith}
 use lib.ListN.{length}

@@ -1,5 +1,5 @@
 -- The sponge on two shares makes as many entries and draws as many words as its counts say, whatever is drawn.
-use Prim.Native.Nat.{ℕ, _-_, _*_, _/_}
+use Prim.Native.Nat.{ℕ, _*_, _/_}
 use mathlib.Core.Path.{refl, _∙_}
 use mathlib.Core.List.{List}
 use native.Mathlib.Nat.{zero-add, mul-zero}

@@ -2,7 +2,7 @@
 use mathlib.Core.Path.{_≡_, refl, sym, ap, ap₂, _∙_}
 use mathlib.Core.Bool.{cond}
 use mathlib.Core.List.{List, []}
-use Prim.Native.Nat.{ℕ, suc, _+_, _-_, _*_, _/_, _%_, _^_, _<_, _≤_}
+use Prim.Native.Nat.{ℕ, suc, _+_, _*_, _/_, _%_, _^_, _<_, _≤_}
 use borrow.Author.Tests.{lt-ltb, le-ltb}
 use native.Mathlib.Decide.{decLt}
 use native.Mathlib.Nat.{mod-lt, mul-div-cancel, div-mul-le-self, lt-div-mul-add}
@@ -38,7 +38,7 @@ use Rattle.masked_fips202.specs.XorBytes.{xorOf-take, xorOf-drop, xorOf-
 use Rattle.masked_fips202.specs.XorBytes.{byte-xor}
 use Rattle.masked_sponge.specs.MaskedSponge.{start, mixLanes, maskedBlocks, maskedAbsorb, maskedSqueeze}
 use Rattle.masked_sponge.specs.MaskedSponge.{inputBlocks, furtherBlocks, maskedSponge}
-use Rattle.fips202.specs.Sizes.{SpongeFits}
+use Rattle.fips202.specs.Lent.{SpongeFits}
 use Rattle.masked_fips202.specs.MaskedWordsLaws.{sha3-512-fits, shake256-fits}
 use Rattle.masked_sponge.specs.MaskedBytes.{sharedBytes, maskedHash}
 use Rattle.masked_fips202.specs.MaskedWords.{maskedSha3-512Words, maskedShake256Words}

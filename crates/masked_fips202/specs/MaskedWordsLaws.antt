@@ -1,10 +1,10 @@
 -- The two sponges fit, and a sponge whose output is one block at most draws what taking in draws.
 use mathlib.Core.Path.{_≡_, refl}
-use Prim.Native.Nat.{ℕ, _-_, _/_, _<_, _≤_}
+use Prim.Native.Nat.{ℕ, _/_, _<_, _≤_}
 use native.Mathlib.Nat.{div-eq-of-lt}
 use native.Mathlib.Omega.{arith}
 use Rattle.masked_sponge.specs.MaskedSponge.{inputBlocks, furtherBlocks, hashMaskWords, spongeMaskWords}
-use Rattle.fips202.specs.Sizes.{SpongeFits}
+use Rattle.fips202.specs.Lent.{SpongeFits}
 
 pub sha3-512-fits : SpongeFits 72 0x06
 sha3-512-fits = record { positive = omega arith; fits = omega arith; whole = refl; short = omega arith }

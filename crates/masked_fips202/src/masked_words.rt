@@ -11,7 +11,7 @@ ghost use Rattle.masked_fips202.specs.MaskedWords.{maskedSha3-512Words, 
 ghost use Rattle.masked_fips202.specs.MaskedWords.{sha3-512MaskWords, shake256MaskWords};
 ghost use Rattle.masked_fips202.specs.Lent.{WordsLent, Sha3-512Lent, Shake256Lent};
 use keccak::state::State;
-use masked_sponge::masked_absorb::masked_absorb;
+use masked_sponge::absorb::masked_absorb;
 use worksheet::Recorder;
 
 // The first lanes of a state.

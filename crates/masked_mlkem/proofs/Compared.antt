@@ -8,7 +8,7 @@ use lib.Seq.{getD-take, getD-drop}
 use Rattle.words.specs.Bounded.{Below}
 use Rattle.words.specs.BoundedLaws.{below-nil}
 use Rattle.words.specs.Digit.{digit}
-use Rattle.words.specs.Part.{part-take, part-rest}
+use Rattle.words.specs.Part.{part-take, part-rest, part-fits}
 use Rattle.words.specs.Plane.{plane}
 use Rattle.words.specs.PlaneLaws.{plane-cong}
 use Rattle.words.specs.Tab.{tab}
@@ -29,8 +29,7 @@ use Rattle.masked_comparison.specs.ComparisonReads.{addPublic-cong, allZero-con
 use Rattle.masked_comparison.specs.ComparisonLaws.{gives-allZero}
 use Rattle.kpke.specs.Parameters.{Parameters}
 use Rattle.vectors.specs.Vector.{parts}
-use Rattle.vectors.specs.VectorLaws.{part-fits}
-use Rattle.vectors.proofs.Concatenated.{two-parts}
+use Rattle.words.specs.Overwrite.{two-parts}
 use Rattle.stages.specs.Worksheet.{planesOf, ciphertextPlanes, wordCount, stage8}
 use Rattle.stages.specs.FlattenLaws.{length-flatten}
 use Rattle.stages.specs.PlanesLaws.{length-planesOf}

@@ -3,11 +3,11 @@ ghost use Rattle.worksheet.specs.Prog.{word};
 ghost use Rattle.worksheet.specs.Ran.{Draws};
 ghost use Rattle.worksheet.specs.SharedList.{sharedList};
 ghost use Rattle.stages.specs.Worksheet.{stage3 as stage3Of, stage9 as stage9Of};
-ghost use Rattle.stages.specs.Slices.{HashInput};
+ghost use Rattle.stages.specs.Lent.{HashInput};
 use masked_fips202::masked_words::masked_sha3_512_words;
 use masked_fips202::masked_words::masked_shake256_words;
-use masked_noise::shared_input::with_public;
-use masked_noise::shared_input::with_zeros;
+use masked_fips202::shared_input::with_public;
+use masked_fips202::shared_input::with_zeros;
 use worksheet::Recorder;
 
 // K' and the coins, from m' and h.

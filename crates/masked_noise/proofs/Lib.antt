@@ -1,2 +1,1 @@
-pub mod SharedInput
 pub mod Sampled

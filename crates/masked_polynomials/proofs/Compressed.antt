@@ -18,12 +18,12 @@ use Rattle.worksheet.specs.Zip.{zip}
 use Rattle.worksheet.specs.SharedListLaws.{zip-zero, zip-set}
 use Rattle.masked_compression.specs.Compression.{maskedCompress}
 use Rattle.masked_compression.specs.CompressionReads.{maskedCompress-cong}
-use Rattle.vectors.proofs.Concatenated.{length-span}
+use Rattle.words.specs.Part.{length-span}
 use Rattle.stages.specs.Layout.{partOf}
-use Rattle.stages.specs.Slices.{Residues, CompressInput}
-use Rattle.stages.specs.SliceLaws.{residues-span}
-use Rattle.stages.specs.Laid.{sharedAt-part}
-use Rattle.stages.specs.StoredRun.{Written, OnWords, fits0, fits1, fits-words, length-rest}
+use Rattle.stages.specs.Lent.{Residues, CompressInput}
+use Rattle.stages.specs.LentLaws.{residues-span}
+use Rattle.stages.proofs.Laid.{sharedAt-part}
+use Rattle.stages.proofs.StoredRun.{Written, OnWords, fits0, fits1, fits-words, length-rest}
 
 -- the first j elements of l and m are those of s from a on
 pub record Copied (a : ℕ) (s : SharedList) (l m : List ℕ) (j : ℕ) : Type 0 where

@@ -8,7 +8,7 @@ ghost use Rattle.worksheet.specs.SharedList.{sharedList, sharedAt};
 ghost use Rattle.worksheet.specs.Zip.{zip};
 ghost use Rattle.masked_compression.specs.Compression.{maskedCompress};
 ghost use Rattle.stages.specs.Layout.{partsBy};
-ghost use Rattle.stages.specs.Slices.{Long, CompressInput};
+ghost use Rattle.stages.specs.Lent.{Long, CompressInput};
 use masked_adder::Planes;
 use masked_compression::masked_compress;
 use worksheet::Recorder;

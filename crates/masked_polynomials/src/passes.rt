@@ -8,7 +8,7 @@ ghost use Rattle.worksheet.specs.Ran.{Makes};
 ghost use Rattle.worksheet.specs.SharedList.{sharedList};
 ghost use Rattle.vectors.specs.Vector.{parts};
 ghost use Rattle.stages.specs.Layout.{polynomials};
-ghost use Rattle.stages.specs.Slices.{Long};
+ghost use Rattle.stages.specs.Lent.{Long};
 use worksheet::Recorder;
 
 fn enter_share(rec: Recorder, f: &[u16]) -> Recorder

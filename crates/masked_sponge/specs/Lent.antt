@@ -3,7 +3,7 @@ use mathlib.Core.Path.{_≡_}
 use mathlib.Core.List.{List}
 use Prim.Native.Nat.{ℕ, _*_, _/_, _%_, _<_, _≤_}
 use lib.ListN.{length}
-use Rattle.fips202.specs.Sizes.{SpongeFits}
+use Rattle.fips202.specs.Lent.{SpongeFits}
 use Rattle.masked_keccak.specs.MaskedKeccak.{keccakPWords}
 use Rattle.masked_sponge.specs.MaskedSponge.{inputBlocks, furtherBlocks, hashMaskWords}
 

@@ -8,7 +8,7 @@ use lib.ListN.{length, drop, take-append-drop, length-append, length-drop}
 use lib.Seq.{drop-at}
 use Rattle.words.specs.Bounded.{Below}
 use Rattle.words.specs.BoundedLaws.{below-append, below-take, below-drop}
-use Rattle.words.specs.Part.{length-part, part-append}
+use Rattle.words.specs.Part.{length-part, part-append, part-fits}
 use Rattle.words.specs.Tab.{tab}
 use Rattle.words.specs.TabLaws.{tab-cong}
 use Rattle.codec.specs.Bytes.{byteEncode, byteDecode}
@@ -16,7 +16,7 @@ use Rattle.codec.specs.BytesLaws.{length-byteEncode, below-byteEncode, length-b
 use Rattle.codec.specs.BytesLaws.{byteDecode-byteEncode, byteEncode-byteDecode}
 use Rattle.kpke.specs.Parameters.{Parameters, ctBytes}
 use Rattle.vectors.specs.Vector.{parts, concat}
-use Rattle.vectors.specs.VectorLaws.{Each, part-fits, length-concat, below-concat}
+use Rattle.vectors.specs.VectorLaws.{Each, length-concat, below-concat}
 use Rattle.vectors.specs.VectorLaws.{concat-cong, concat-parts, parts-concat}
 use Rattle.stages.specs.Worksheet.{planesOf, ciphertextPlanes, wordCount}
 use Rattle.stages.specs.FlattenLaws.{length-flatten, flatten-cancel}

@@ -7,17 +7,17 @@ use lib.ListN.{length, getD, drop, replicate, length-append, length-drop, length
 use lib.Seq.{getD-drop}
 use Rattle.words.specs.Word.{xor}
 use Rattle.words.specs.Bounded.{Below}
-use Rattle.words.specs.BoundedLaws.{below-append, below-zeros}
 use Rattle.words.specs.LittleEndian.{wordsToBytes}
-use Rattle.words.specs.LittleEndianLaws.{length-wordsToBytes, below-wordsToBytes, drop-wordsToBytes}
+use Rattle.words.specs.LittleEndianLaws.{length-wordsToBytes, drop-wordsToBytes}
 use Rattle.words.specs.TabLaws.{length-tab, getD-tab, tab-of}
 use Rattle.worksheet.specs.Gives.{Gives}
 use Rattle.worksheet.specs.SharedList.{SharedList, sharedList, sharedAt, joinedList}
 use Rattle.worksheet.specs.SharedListLaws.{sharedAt-unzip}
 use Rattle.fips202.specs.Sponge.{sha3-512, shake256}
 use Rattle.masked_fips202.specs.MaskedWords.{maskedShake256Words}
-use Rattle.kpke.specs.Functions.{J}
+use Rattle.hash_functions.specs.Functions.{J}
 use Rattle.stages.specs.Moves.{four, withPublic, coinsOf}
+use Rattle.stages.specs.MovesLaws.{below-withPublic0, below-withPublic1}
 use Rattle.stages.specs.Worksheet.{stage3, stage9}
 use Rattle.meaning.specs.HashWords.{gives-maskedSha3-512Words, gives-maskedShake256Words}
 use Rattle.meaning.specs.JoinedLists.{joined-append, joined-bytes, joined-zeros}
@@ -55,24 +55,16 @@ module _ {b : List ℕ} {s : SharedList} (public : List ℕ) (bytes : Below 256 
       ∙ ap₂ (λ (x y : ℕ). x + y)
       (length-bytes (s .s1) ∙ sym (length-bytes (s .s0))) (length-replicate {A = ℕ} (length public) 0))
 
-  bytes0 : Below 256 (withPublic s public .s0)
-  bytes0 = below-append (wordsToBytes 8 (four (s .s0))) (below-wordsToBytes 8 (four (s .s0))) bytes
-
-  bytes1 : Below 256 (withPublic s public .s1)
-  bytes1 =
-      below-append (wordsToBytes 8 (four (s .s1))) (below-wordsToBytes 8 (four (s .s1)))
-      (below-zeros (length public) (omega arith))
-
   -- SHAKE256 of shared words and a public string, n words of output
   pub gives-shake : (n : ℕ) → Gives (BytesSharing n (shake256 (b ++ public) (8 * n)))
       (maskedShake256Words (withPublic s public .s0) (withPublic s public .s1) n)
-  gives-shake n = rw joined-withPublic at (gives-maskedShake256Words same-length bytes0 bytes1 n)
+  gives-shake n = rw joined-withPublic at (gives-maskedShake256Words same-length (below-withPublic0 s public bytes) (below-withPublic1 s public) n)
 
   -- ---- the stages
 
   pub gives-stage3 : Gives (BytesSharing 8 (sha3-512 (b ++ public))) (stage3 s public)
   unfolding stage3
-  gives-stage3 = rw joined-withPublic at (gives-maskedSha3-512Words same-length bytes0 bytes1)
+  gives-stage3 = rw joined-withPublic at (gives-maskedSha3-512Words same-length (below-withPublic0 s public bytes) (below-withPublic1 s public))
 
   pub gives-stage9 : Gives (BytesSharing 4 (J (b ++ public))) (stage9 s public)
   unfolding stage9

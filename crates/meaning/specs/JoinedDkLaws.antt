@@ -9,7 +9,7 @@ use Rattle.words.specs.BoundedLaws.{below-take, below-drop}
 use Rattle.words.specs.LittleEndian.{wordsToBytes}
 use Rattle.words.specs.LittleEndianLaws.{length-wordsToBytes}
 use Rattle.words.specs.TabLaws.{length-tab}
-use Rattle.words.specs.Part.{length-part}
+use Rattle.words.specs.Part.{length-part, part-fits}
 use Rattle.codec.specs.Bytes.{byteEncode, byteDecode12}
 use Rattle.codec.specs.BytesLaws.{length-byteEncode, byteDecode12-byteEncode}
 use Rattle.codec.specs.Compress.{compress}
@@ -21,7 +21,7 @@ use Rattle.kpke.specs.Parameters.{Parameters, vectorBytes, ekBytes}
 use Rattle.vectors.specs.Vector.{parts, concat}
 use Rattle.kpke.specs.KPke.{secondDecoded, noisyMessage, decrypt}
 use Rattle.vectors.specs.VectorLaws
-use Rattle.vectors.specs.VectorLaws.{part-fits, length-concat, parts-concat, dot-cong}
+use Rattle.vectors.specs.VectorLaws.{length-concat, parts-concat, dot-cong}
 use Rattle.mlkem.specs.MlKem.{secretPart, publicPart, hashPart, zPart}
 use Rattle.split_key.specs.SplitKey.{SplitKey, ekOf, hOf}
 use Rattle.meaning.specs.JoinedDk.{joinedCoeffs, joinedDk}

@@ -6,7 +6,7 @@ use native.Mathlib.Decide.{decLt}
 use native.Mathlib.Omega.{arith}
 use borrow.Author.Tests.{lt-ltb, le-ltb}
 use lib.ListN.{length, getD, drop, replicate, length-map, length-replicate, length-take}
-use Rattle.words.specs.Part.{length-part}
+use Rattle.words.specs.Part.{length-part, part-fits}
 use Rattle.codec.specs.Bytes.{byteDecode, byteDecode12}
 use Rattle.codec.specs.BytesLaws.{length-byteDecode, length-byteDecode12}
 use Rattle.codec.specs.Compress.{decompress}
@@ -21,10 +21,10 @@ use Rattle.worksheet.specs.Turns.{Each}
 use Rattle.worksheet.specs.Gives.{Gives, gives-weaken, gives-times}
 use Rattle.worksheet.specs.SharedList.{SharedList}
 use Rattle.kpke.specs.Parameters.{Parameters, vectorBytes}
-use Rattle.kpke.specs.Functions.{XOF}
+use Rattle.hash_functions.specs.Functions.{XOF}
 use Rattle.vectors.specs.Vector.{parts, dot}
 use Rattle.kpke.specs.KPke.{matrix, firstDecoded, secondDecoded, noisyMessage}
-use Rattle.vectors.specs.VectorLaws.{part-fits, dot-cong}
+use Rattle.vectors.specs.VectorLaws.{dot-cong}
 use Rattle.vectors.specs.DotLaws.{length-dot, dot-add-left, dot-add-right}
 use Rattle.stages.specs.Moves.{nothing, shares0, shares1}
 use Rattle.stages.specs.Worksheet.{stage1, uShare, vShare, uvShare, stage6}

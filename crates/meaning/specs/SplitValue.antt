@@ -11,7 +11,7 @@ use Rattle.words.specs.BoundedLaws.{below-append, below-take, below-drop, below
 use Rattle.words.specs.LittleEndian.{wordsToBytes}
 use Rattle.words.specs.LittleEndianLaws.{wordsToBytes-words}
 use Rattle.words.specs.TabLaws.{length-tab, tab-cong}
-use Rattle.words.specs.Part.{length-part}
+use Rattle.words.specs.Part.{length-part, part-fits}
 use Rattle.codec.specs.Bytes.{byteEncode, byteDecode}
 use Rattle.codec.specs.BytesLaws.{length-byteDecode, byteEncode-byteDecode}
 use Rattle.ring.specs.Polynomial.{add}
@@ -23,7 +23,7 @@ use Rattle.masked_fips202.specs.XorBytes.{laneOf-bits}
 use Rattle.kpke.specs.Parameters.{Parameters, vectorBytes, ekBytes, ctBytes}
 use Rattle.vectors.specs.Vector.{parts, concat, coefficients}
 use Rattle.vectors.specs.VectorLaws
-use Rattle.vectors.specs.VectorLaws.{part-fits, length-concat, concat-cong, concat-parts, parts-concat}
+use Rattle.vectors.specs.VectorLaws.{length-concat, concat-cong, concat-parts, parts-concat}
 use Rattle.mlkem.specs.MlKem.{secretPart, publicPart, hashPart, zPart, decaps}
 use Rattle.split_key.specs.SplitKey.{secondCoeffs, secondWords, split}
 use Rattle.split_key.specs.Importable.{Importable}

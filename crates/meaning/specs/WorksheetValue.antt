@@ -19,10 +19,11 @@ use Rattle.worksheet.specs.Sharing.{joined, none}
 use Rattle.worksheet.specs.SharingLaws.{Sharing, sharing-joined}
 use Rattle.worksheet.specs.SharedList.{SharedList, sharedAt, joinedList}
 use Rattle.worksheet.specs.SharedListLaws.{joinedList-unzip}
+use Rattle.masked_comparison.specs.Comparison.{selectAll}
 use Rattle.masked_comparison.specs.ComparisonLaws.{isZero}
 use Rattle.masked_comparison.specs.SelectionLaws.{gives-select}
 use Rattle.kpke.specs.Parameters.{Parameters, ctBytes}
-use Rattle.kpke.specs.Functions.{J}
+use Rattle.hash_functions.specs.Functions.{J}
 use Rattle.refusals.specs.Same.{same}
 use Rattle.mlkem.specs.MlKem.{decaps}
 use Rattle.split_key.specs.SplitKey.{SplitKey}
@@ -56,7 +57,7 @@ module _ {x y : List ℕ} {g rejected : SharedList} (a : BytesSharing 8 x g) (r 
 gives-stage10 : (b : Bool) {x y : List ℕ} {q : Shares} {g rejected : SharedList}
     → Sharing 1 (cond b 1 0) q → BytesSharing 8 x g → BytesSharing 4 y rejected
     → Gives (λ K. wordsToBytes 8 (joinedList K) ≡ cond b (take 32 x) y) (stage10 q g rejected)
-unfolding stage10
+unfolding stage10 selectAll
 gives-stage10 b s a r =
     gives-bind
     (gives-times _ 4 (λ j h. gives-select s (a .sharing .at j (omega arith)) (r .sharing .at j h))) (λ o e.

@@ -6,7 +6,7 @@ use mathlib.Core.List.{List, [], _∷_, _++_}
 use Prim.Native.Nat.{ℕ, _<_}
 use lib.ListN.{take}
 use Rattle.kpke.specs.Parameters.{Parameters, vectorBytes}
-use Rattle.kpke.specs.Functions.{G₁}
+use Rattle.hash_functions.specs.Functions.{G₁}
 use Rattle.vectors.specs.Vector.{coefficients}
 use Rattle.kpke.specs.KPke.{matrixFull}
 use Rattle.refusals.specs.declared.Answer.{Answer}

@@ -10,7 +10,7 @@ use Rattle.sampling.specs.Sample.{full, sampleNtt}
 use Rattle.refusals.specs.declared.Answer.{Answer}
 use Rattle.refusals.specs.declared.Answer.the-variants.{WrongLength, PublicKeyRange, ShortStream}
 use Rattle.kpke.specs.Parameters.{Parameters, vectorBytes, ekBytes, dkBytes, ctBytes}
-use Rattle.kpke.specs.Functions.{G₁}
+use Rattle.hash_functions.specs.Functions.{G₁}
 use Rattle.vectors.specs.Vector.{coefficients}
 use Rattle.kpke.specs.KPke.{matrixFull}
 use Rattle.mlkem.specs.MlKem.{keyGenEk, keyGenDk, encapsKey, encapsCt}

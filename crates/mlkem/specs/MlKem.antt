@@ -5,7 +5,7 @@ use Prim.Native.Nat.{ℕ, _+_}
 use lib.ListN.{take, drop}
 use Rattle.refusals.specs.Same.{same}
 use Rattle.kpke.specs.Parameters.{Parameters, vectorBytes, ekBytes}
-use Rattle.kpke.specs.Functions.{H, J, G₁, G₂}
+use Rattle.hash_functions.specs.Functions.{H, J, G₁, G₂}
 use Rattle.kpke.specs.KPke.{ekPke, dkPke, encrypt, decrypt}
 
 -- Algorithm 16, line 3: dk, from K-PKE's dk, ek and z

@@ -9,12 +9,12 @@ ghost use Rattle.mlkem.specs.Calls.{KeysMade};
 ghost use Rattle.mlkem.specs.Sized.{KeyGenSized};
 ghost use Rattle.mlkem.specs.Written.{KeysInput, KeysWritten};
 ghost use Rattle.refusals.specs.Refusals.{number};
-use kpke::hashes::hash_g_seed;
-use kpke::hashes::hash_h;
+use hash_functions::hash_g_seed;
+use hash_functions::hash_h;
 use kpke::matrix::expand;
 use refusals::Answer;
 use refusals::exact;
-use vectors::copy::copy_bytes;
+use slices::copy_bytes;
 
 // Line 3, what follows K-PKE's key: ek || H(ek) || z.
 fn write_rest(ek: &[u8], z: &[u8], rest: &mut [u8])

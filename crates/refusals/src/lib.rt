@@ -1,4 +1,4 @@
-// A call's answer, document 01's number for it, and the tests of its rows.
+// A call's answer, document 01's number for it, and the tests of lengths, of coefficients and of equal strings.
 ghost use mathlib.Core.Path.{_≡_};
 ghost use Prim.Native.Nat.{_≤_};
 ghost use lib.ListN.{length};

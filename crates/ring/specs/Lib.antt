@@ -1,3 +1,3 @@
 pub mod Polynomial
 pub mod Sum
-pub mod Sizes
+pub mod Lent

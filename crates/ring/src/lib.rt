@@ -1,4 +1,4 @@
-// FIPS 203's arithmetic on plain values: coefficients modulo q and polynomials (section 2.4).
+// FIPS 203's arithmetic on plain values: coefficients modulo q and polynomials (sections 2.4.4, 2.4.5).
 mod polynomial;
 mod residue;
 

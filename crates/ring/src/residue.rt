@@ -3,7 +3,7 @@ ghost use mathlib.Core.Path.{_≡_};
 ghost use Prim.Native.Nat.{_+_, _*_, _/_, _%_, _^_, _<_, _≤_};
 ghost use Rattle.words.specs.Residue.{q};
 ghost use Rattle.ring.specs.Polynomial.{minus};
-ghost use Rattle.ring.specs.Sizes.{Factor};
+ghost use Rattle.ring.specs.Lent.{Factor};
 
 // Barrett's quotient: 2^38 is 82570714 q + 38.
 pub fn quotient(x: u32) -> u32

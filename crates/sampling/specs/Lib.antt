@@ -4,5 +4,5 @@ pub mod SampleLaws
 pub mod SampleLoop
 pub mod SampleLoopLaws
 pub mod Collect
-pub mod Sizes
+pub mod Lent
 pub mod Results

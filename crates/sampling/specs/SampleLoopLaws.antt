@@ -9,7 +9,7 @@ use native.Mathlib.Nat.{add-zero, add-suc}
 use native.Mathlib.Omega.{arith}
 use borrow.Author.Tests.{lt-ltb, le-ltb, le-leb, leb-true}
 use lib.Dec.{ltb}
-use lib.ListN.{length, getD, take, length-append, length-take, List·getD-append}
+use lib.ListN.{length, take, length-append, length-take, List·getD-append}
 use lib.Seq.{take-all, take-append-le}
 use Rattle.words.specs.Residue.{q}
 use Rattle.sampling.specs.Sample.{d₁, d₂, kept, accepted, sampleNtt, full}

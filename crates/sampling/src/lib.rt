@@ -14,7 +14,7 @@ ghost use Rattle.sampling.specs.Sample.{kept, accepted, full, sampleNtt,
 ghost use Rattle.sampling.specs.SampleAnswer.{answerOf};
 ghost use Rattle.sampling.specs.SampleLaws.{centred};
 ghost use Rattle.sampling.specs.Collect.{Collected};
-ghost use Rattle.sampling.specs.Sizes.{CentredInput, CbdInput};
+ghost use Rattle.sampling.specs.Lent.{CentredInput, CbdInput};
 ghost use Rattle.sampling.specs.Results.{KeptCount, BitCount, Sampling};
 
 pub enum Sampled {

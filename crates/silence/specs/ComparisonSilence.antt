@@ -1,5 +1,5 @@
 -- Stage 8 of the worksheet: the words of the planes with the ciphertext's, folded to the equal bit.
-use Prim.Native.Nat.{ℕ, _-_}
+use Prim.Native.Nat.{ℕ}
 use mathlib.Core.List.{List}
 use native.Mathlib.Omega.{arith}
 use lib.ListN.{getD}

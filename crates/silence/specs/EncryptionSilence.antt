@@ -1,6 +1,6 @@
 -- Stages 4 to 7 of the worksheet, re-encryption, as one: nothing is asked of m' and the coins, and each word of the
 -- planes can keep either share.
-use Prim.Native.Nat.{ℕ, _+_, _*_}
+use Prim.Native.Nat.{ℕ, _+_}
 use mathlib.Core.Bool.{true}
 use mathlib.Core.List.{List}
 use Rattle.worksheet.specs.declared.Shares.{Shares}
@@ -12,7 +12,7 @@ use Rattle.masked_sampler.specs.PolynomialSilence.{Anything}
 use Rattle.kpke.specs.Parameters.{Parameters}
 use Rattle.stages.specs.EntryCounts.{stage5Entries, stage6Entries, stage7Entries, encryptEntries}
 use Rattle.stages.specs.Fits.{Fits}
-use Rattle.stages.specs.Worksheet.{stage4, stage5, stage6, stage7, maskedEncrypt, wordCount}
+use Rattle.stages.specs.Worksheet.{stage5, stage6, stage7, maskedEncrypt, wordCount}
 use Rattle.silence.specs.NoiseSilence.{SamePolys, stage4-stage, stage5-stage}
 use Rattle.silence.specs.ReencryptionSilence.{stage6-stage, stage7-stage}
 

@@ -11,19 +11,18 @@ use lib.ListN.{getD}
 use Rattle.ring.specs.Polynomial.{add}
 use Rattle.transform.specs.Transform.{ntt, inverseNtt}
 use Rattle.worksheet.specs.declared.Shares.{Shares}
-use Rattle.worksheet.specs.Couple.{Coupled}
 use Rattle.worksheet.specs.CoupleLoops.{coupled-times}
 use Rattle.worksheet.specs.Flatten.{turns-append, turns-flatten}
 use Rattle.worksheet.specs.Stage.{Stage, comap, times-stage}
 use Rattle.worksheet.specs.SharedList.{SharedList}
 use Rattle.worksheet.specs.Turns.{Turns}
-use Rattle.worksheet.specs.Choice.{KeptList, SameShare, listShare}
+use Rattle.worksheet.specs.Choice.{KeptList, SameShare}
 use Rattle.worksheet.specs.PassLaws.{pass-stage, coupled-pass}
 use Rattle.kpke.specs.Parameters.{Parameters}
 use Rattle.vectors.specs.VectorLaws.{dot-cong}
-use Rattle.stages.specs.EntryCounts.{polyEntries, stage6Entries, stage7Entries, compressPolyEntries}
+use Rattle.stages.specs.EntryCounts.{stage6Entries, stage7Entries}
 use Rattle.stages.specs.Moves.{nothing, shares0, shares1}
-use Rattle.stages.specs.Worksheet.{uShare, vShare, uvShare, compressPoly, stage6, stage7, wordCount}
+use Rattle.stages.specs.Worksheet.{uShare, vShare, uvShare, stage6, stage7, wordCount}
 use Rattle.silence.specs.Pair.{pair-stage}
 use Rattle.silence.specs.DecryptionSilence.{compressPoly-stage, coupled-compressPoly}
 use Rattle.silence.specs.NoiseSilence.{SamePolys}

@@ -14,6 +14,7 @@ use Rattle.worksheet.specs.Sharing.{none}
 use Rattle.worksheet.specs.SharedList.{SharedList, sharedAt, unzip}
 use Rattle.worksheet.specs.Choice.{Kept, KeptList, KeptShared, SameShare}
 use Rattle.masked_sampler.specs.PolynomialSilence.{Anything}
+use Rattle.masked_comparison.specs.Comparison.{selectAll}
 use Rattle.masked_comparison.specs.SelectionSilence.{Operands, selects-stage}
 use Rattle.kpke.specs.Parameters.{Parameters, ekBytes, ctBytes}
 use Rattle.split_key.specs.SplitKey.{SplitKey}
@@ -90,7 +91,7 @@ module _ (p : Parameters) (fits : Fits p) (public c : List ℕ) (h-long : length
   from9 a = stage9 (a .1) c >>= λ r. from10 (r, a)
 
   from10-stage : Stage (Beside (KeptShared 4) (Beside KeptCompared Anything)) Anything stage10Entries from10 from10
-  unfolding stage10
+  unfolding stage10 selectAll
   from10-stage =
       comap (Beside (KeptShared 4) (Beside KeptCompared Anything)) operands operands
       (λ e. ((λ j. e .1), ((e .0, λ j. e .1), tt)))

@@ -23,7 +23,7 @@ use Rattle.refusals.specs.declared.Answer.the-variants.{
   MaskRange,
 }
 use Rattle.kpke.specs.Parameters.{Parameters, vectorBytes}
-use Rattle.kpke.specs.Functions.{H}
+use Rattle.hash_functions.specs.Functions.{H}
 use Rattle.refusals.specs.Same.{same}
 use Rattle.mlkem.specs.MlKem.{secretPart, publicPart, hashPart, zPart}
 use Rattle.refusals.specs.Refusals.{number, Row, answer}
@@ -34,7 +34,7 @@ use Rattle.vectors.specs.Vector.{coefficients}
 use Rattle.split_key.specs.SplitKey.{SplitKey, secondCoeffs, secondWords}
 use Rattle.split_key.specs.Import.{keyRows, importAnswer, Accepted}
 use Rattle.split_key.specs.Sized.{ImportSized}
-use Rattle.split_key.specs.ImportAnswer.{import-answer}
+use Rattle.split_key.specs.ImportAnswerLaws.{import-answer}
 
 module _ (p : Parameters) where
   -- rows 2 to 4 don't apply

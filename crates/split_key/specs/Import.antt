@@ -18,7 +18,7 @@ use Rattle.refusals.specs.Refusals.{number, Row, row, answer, after, lent, size
 use Rattle.refusals.specs.Same.{same}
 use Rattle.refusals.specs.Reduced.{reduced}
 use Rattle.kpke.specs.Parameters.{Parameters, vectorBytes, dkBytes}
-use Rattle.kpke.specs.Functions.{H}
+use Rattle.hash_functions.specs.Functions.{H}
 use Rattle.vectors.specs.Vector.{coefficients}
 use Rattle.mlkem.specs.MlKem.{secretPart, publicPart, hashPart}
 use Rattle.split_key.specs.SplitKey.{SplitKey, keyLengths, split}

@@ -1,7 +1,7 @@
 pub mod SplitKey
 pub mod Import
 pub mod Sized
-pub mod ImportAnswer
+pub mod ImportAnswerLaws
 pub mod AcceptedLaws
 pub mod Importable
 pub mod ImportLaws

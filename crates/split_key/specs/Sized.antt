@@ -1,4 +1,4 @@
--- The lengths that import's functions ask of what is lent.
+-- What import's functions ask of what is lent: lengths, and of write_split the coefficients and the masks' range.
 use mathlib.Core.Path.{_≡_}
 use mathlib.Core.Bool.{true}
 use mathlib.Core.List.{List}

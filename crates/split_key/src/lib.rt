@@ -13,15 +13,15 @@ ghost use Rattle.split_key.specs.Sized.{ImportSized, SplitInput, Sharing
 ghost use Rattle.refusals.specs.Refusals.{number};
 ghost use Rattle.refusals.specs.Same.{same as sameOf};
 use fips202::bytes::load;
-use kpke::hashes::hash_h;
-use mlkem::vector_reduced;
+use hash_functions::hash_h;
+use mlkem::checks::vector_reduced;
 use refusals::Answer;
 use refusals::conditions::reduced;
 use refusals::conditions::same;
 use refusals::exact;
 use ring::sub_from;
-use vectors::copy::copy_bytes;
-use vectors::copy::copy_coefficients;
+use slices::copy_bytes;
+use slices::copy_coefficients;
 use vectors::decode_all;
 
 // Section 7.3, the hash check: h is the public key's hash.

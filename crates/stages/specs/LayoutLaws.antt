@@ -6,12 +6,11 @@ use native.Mathlib.Numerals.{add-one}
 use native.Mathlib.Omega.{arith}
 use lib.ListN.{length, take, drop}
 use lib.Seq.{length-take-le, take-at, drop-at}
-use Rattle.words.specs.Part.{part-take, part-append}
+use Rattle.words.specs.Part.{part-take, part-append, part-fits}
 use Rattle.words.specs.Tab.{tab}
 use Rattle.words.specs.TabLaws.{tab-cong}
 use Rattle.worksheet.specs.SharedList.{SharedList, sharedList}
 use Rattle.vectors.specs.Vector.{parts}
-use Rattle.vectors.specs.VectorLaws.{part-fits}
 use Rattle.stages.specs.Layout.{partOf, partsBy}
 
 -- l, its part i of n elements now r

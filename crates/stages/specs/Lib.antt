@@ -10,7 +10,6 @@ pub mod WorksheetUses
 pub mod Layout
 pub mod LayoutLaws
 pub mod Fits
-pub mod Slices
-pub mod SliceLaws
-pub mod Laid
-pub mod StoredRun
+pub mod Lent
+pub mod LentLaws
+pub mod MakesResidues

@@ -18,7 +18,7 @@ use Rattle.worksheet.specs.Pass.{enterBoth}
 use Rattle.masked_fips202.specs.MaskedWords.{maskedSha3-512Words, maskedShake256Words}
 use Rattle.masked_compression.specs.Compression.{maskedCompress}
 use Rattle.masked_sampler.specs.Coefficient.{bitToCoeff, sampler}
-use Rattle.masked_comparison.specs.Comparison.{addPublic, allZero, select}
+use Rattle.masked_comparison.specs.Comparison.{addPublic, allZero, selectAll}
 use Rattle.kpke.specs.Parameters.{Parameters, vectorBytes}
 use Rattle.vectors.specs.Vector.{parts, dot}
 use Rattle.kpke.specs.KPke.{matrix, firstDecoded, noisyMessage}
@@ -68,9 +68,7 @@ stage9 z c = maskedShake256Words (withPublic z c .s0) (withPublic z c .s1) 4
 
 -- stage 10: K, four words
 unfoldable pub stage10 : Shares → SharedList → SharedList → Prog SharedList
-stage10 b g rejected = do
-  o ← times 4 (λ j. select b (sharedAt g j) (sharedAt rejected j))
-  ret (unzip 4 (λ j. getD o j none))
+stage10 b g rejected = selectAll 4 b g rejected
 
 -- what stages 1 to 8 hand on: the equal bit, and stage 3's words
 pub record Compared : Type 0 where

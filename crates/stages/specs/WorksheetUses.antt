@@ -16,7 +16,7 @@ use Rattle.masked_fips202.specs.EntryCounts.{shake256Entries}
 use Rattle.masked_compression.specs.CompressionLaws.{uses-maskedCompress}
 use Rattle.masked_sampler.specs.CoefficientLaws.{uses-bitToCoeff}
 use Rattle.masked_sampler.specs.SamplerLaws.{uses-sampler}
-use Rattle.masked_comparison.specs.Comparison.{allZeroWords}
+use Rattle.masked_comparison.specs.Comparison.{allZeroWords, selectAll}
 use Rattle.masked_comparison.specs.ComparisonLaws.{uses-addPublic, uses-allZero, uses-select}
 use Rattle.kpke.specs.Parameters.{Parameters, ctBytes}
 use Rattle.split_key.specs.SplitKey.{SplitKey, ekOf, hOf}
@@ -82,7 +82,7 @@ unfolding stage9
 uses-stage9 z c = rw (length-withPublic z c) at (uses-maskedShake256Words (withPublic z c .s0) (withPublic z c .s1) 4)
 
 uses-stage10 : (b : Shares) (g rejected : SharedList) → Uses stage10Entries stage10Words 0 (stage10 b g rejected)
-unfolding stage10
+unfolding stage10 selectAll
 uses-stage10 b g rejected = uses-map _ (uses-times 4 (λ j. uses-select _ _ _))
 
 module _ (p : Parameters) where

@@ -1,1 +1,2 @@
-// The worksheet's ten stages and their counts, in specs/. There is no code here.
+// The worksheet: the ten stages of masked decapsulation as one program, their counts, what they use, and how lists of
+// shares lie in slices. There is no code here.

@@ -3,6 +3,7 @@ ghost use mathlib.Core.Path.{_≡_};
 ghost use Prim.Native.Nat.{_+_, _<_, _≤_};
 ghost use lib.ListN.{length};
 use refusals::number;
+use slices::copy_bytes;
 use test_keys::import::fixed_coefficients;
 use test_keys::import::fixed_words;
 use test_keys::import::import;
@@ -12,7 +13,6 @@ use test_support::bytes::unchanged;
 use test_support::hashes::print_hash;
 use text::print;
 use text::print_decimal;
-use vectors::copy::copy_bytes;
 
 // What is changed, and the call that gets it.
 enum Part {

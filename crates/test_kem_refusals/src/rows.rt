@@ -2,13 +2,13 @@
 ghost use mathlib.Core.Path.{_≡_};
 ghost use lib.ListN.{length};
 use crate::places::put_at;
+use slices::copy_bytes;
 use test_keys::import::fixed_coefficients;
 use test_keys::import::fixed_words;
 use test_keys::import::import;
 use test_support::answers::print_number;
 use text::print;
 use text::print_decimal;
-use vectors::copy::copy_bytes;
 
 fn print_import(faults: u64, dk: &[u8], mask_coeffs: &[u16]) {
     let mask_words = fixed_words();

@@ -3,6 +3,7 @@ ghost use mathlib.Core.Path.{_≡_};
 ghost use Prim.Native.Nat.{_<_, _≤_};
 ghost use lib.ListN.{length};
 use refusals::conditions::same;
+use slices::copy_bytes;
 use test_decaps_support::calls::decaps_joined;
 use test_decaps_support::case::Case;
 use test_decaps_support::case::Ciphertext;
@@ -12,7 +13,6 @@ use test_support::masks::Masks;
 use text::print;
 use text::print_decimal;
 use text::print_hex;
-use vectors::copy::copy_bytes;
 
 // The turn's key, under masks that have the turn's number.
 fn drawn(turn: usize, ciphertext: Ciphertext) -> Case {

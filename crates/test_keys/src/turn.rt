@@ -2,7 +2,7 @@
 ghost use mathlib.Core.Path.{_≡_};
 ghost use Prim.Native.Nat.{_≤_};
 ghost use lib.ListN.{length};
-use vectors::copy::copy_bytes;
+use slices::copy_bytes;
 
 // The last turn of those that the draws are for.
 fn squeeze(draws: &mut [u8], out: &mut [u8])

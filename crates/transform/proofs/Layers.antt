@@ -11,7 +11,7 @@ use Rattle.words.specs.TabLaws.{length-tab}
 use Rattle.words.specs.Iterate.{iterate}
 use Rattle.words.specs.IterateLaws.{Reached, reached-start, reached-turn, reached-end}
 use Rattle.transform.specs.Transform.{zeta}
-use Rattle.transform.specs.Sizes.{LayerInput}
+use Rattle.transform.specs.Lent.{LayerInput}
 use Rattle.transform.proofs.Powers.{root, root-below}
 
 -- f₀ has become f by j of the len pairs of one block

@@ -1,4 +1,4 @@
 pub mod Transform
-pub mod Sizes
+pub mod Lent
 pub mod Linear
 pub mod MultiplyLaws

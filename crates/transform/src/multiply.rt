@@ -8,7 +8,7 @@ ghost use Rattle.words.specs.Residue.{q};
 ghost use Rattle.ring.specs.Polynomial.{add};
 ghost use Rattle.words.specs.Tab.{tab};
 ghost use Rattle.transform.specs.Transform.{gamma, multiplyNtts};
-ghost use Rattle.transform.specs.Sizes.{GammaInput, PairInput, ProductInput};
+ghost use Rattle.transform.specs.Lent.{GammaInput, PairInput, ProductInput};
 ghost use Rattle.transform.specs.MultiplyLaws.{addPair};
 
 // s + u x + v y modulo q

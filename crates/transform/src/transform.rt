@@ -11,8 +11,8 @@ ghost use lib.ListN.{length, getD};
 ghost use Rattle.words.specs.Residue.{q};
 ghost use Rattle.words.specs.Iterate.{iterate};
 ghost use Rattle.words.specs.Tab.{tab};
-ghost use Rattle.ring.specs.Sizes.{Factor};
-ghost use Rattle.transform.specs.Sizes.{LayerInput};
+ghost use Rattle.ring.specs.Lent.{Factor};
+ghost use Rattle.transform.specs.Lent.{LayerInput};
 ghost use Rattle.transform.specs.Transform.{zeta, butterfly, block, layer, ntt};
 ghost use Rattle.transform.specs.Transform.{inverseButterfly, inverseBlock, inverseLayer, inverseNtt};
 

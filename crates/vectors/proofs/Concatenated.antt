@@ -1,30 +1,21 @@
 -- A loop that writes the k parts of n elements of a slice, one after the other.
-use mathlib.Core.Path.{_≡_, refl, sym, ap, _∙_}
+use mathlib.Core.Path.{_≡_, sym, ap, _∙_}
 use mathlib.Core.List.{List, _++_}
 use Prim.Native.Nat.{ℕ, _+_, _-_, _*_, _<_, _≤_}
 use native.Mathlib.Nat.{mul-zero, mul-suc}
 use native.Mathlib.Numerals.{add-one}
 use native.Mathlib.Omega.{arith}
 use lib.ListN.{length, take, drop, length-append}
-use Rattle.words.specs.Part.{length-part}
+use Rattle.words.specs.Part.{part-span, length-span, part-fits}
 use Rattle.words.specs.Overwrite.{
   Overwritten,
   overwritten-start,
   overwritten-length,
   overwritten-rest,
   overwritten-part,
-  overwritten-last,
   overwritten-end,
 }
 use Rattle.vectors.specs.Vector.{parts, concat}
-use Rattle.vectors.specs.VectorLaws.{part-fits}
-
--- the n elements from a on, as a part that ends at a + n
-pub part-span : (a n : ℕ) (l : List ℕ) → take (a + n - a) (drop a l) ≡ take n (drop a l)
-part-span a n l = let e : a + n - a ≡ n = omega arith in rw e
-
-pub length-span : (a n : ℕ) (l : List ℕ) → a + n ≤ length l → length (take (a + n - a) (drop a l)) ≡ n
-length-span a n l h = ap length (part-span a n l) ∙ length-part a n l h
 
 -- the first i of the k parts of l are those of f, and the others are still l₀'s
 pub record Concatenated (n k : ℕ) (f : ℕ → List ℕ) (l₀ : List ℕ) (i : ℕ) (l : List ℕ) : Type 0 where
@@ -83,11 +74,3 @@ pub concatenated-read : (g : List ℕ → List ℕ) (m : ℕ) (b : List ℕ) {n 
     → Concatenated n k (λ j. g (parts m b j)) l₀ (i + 1)
     (take (n * i) l ++ (r ++ drop (n * i + n - n * i) (drop (n * i) l)))
 concatenated-read g m b {i = i} c h e w = concatenated-turn c h e (w ∙ ap g (part-span (m * i) m b))
-
--- a slice whose first n elements are written, and then the others
-pub two-parts : {r₁ t₁ r₂ t₂ : List ℕ} (l : List ℕ) (n : ℕ) → length t₁ ≡ n → n + length t₂ ≡ length l → r₁ ≡ t₁
-    → r₂ ≡ t₂
-    → (let m = take 0 l ++ (r₁ ++ drop (n - 0) (drop 0 l)) in take n m ++ (r₂ ++ drop (length m - n) (drop n m)))
-    ≡ t₁ ++ t₂
-two-parts l n h g e f =
-    overwritten-last (overwritten-part (overwritten-start {l = l}) 0 n refl (omega arith) (omega arith) e) n h g f

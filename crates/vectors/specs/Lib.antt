@@ -1,4 +1,5 @@
 pub mod Vector
 pub mod VectorLaws
 pub mod DotLaws
-pub mod Sizes
+pub mod TransformedVector
+pub mod Lent

@@ -1,8 +1,8 @@
 -- Laws of vectors (FIPS 203, section 2.4.6): k parts of n elements, one after the other.
 use mathlib.Core.Path.{_≡_, refl, sym, ap, ap₂, _∙_}
 use mathlib.Core.List.{List, _++_}
-use Prim.Native.Nat.{ℕ, zero, suc, _+_, _*_, _<_, _≤_}
-use native.Mathlib.Nat.{mul-zero, mul-suc, mul-le-mul-left}
+use Prim.Native.Nat.{ℕ, zero, suc, _+_, _*_, _<_}
+use native.Mathlib.Nat.{mul-zero, mul-suc, le-of-eq}
 use native.Mathlib.Decide.{decLt}
 use native.Mathlib.Omega.{arith}
 use lib.ListN.{length, take, drop, replicate, length-append}
@@ -10,17 +10,10 @@ use lib.Seq.{take-length, take-add, drop-at}
 use Rattle.words.specs.Bounded.{Below}
 use Rattle.words.specs.BoundedLaws.{below-nil, below-append}
 use Rattle.words.specs.IterateLaws.{iterate-cong}
-use Rattle.words.specs.Part.{part-append}
+use Rattle.words.specs.Part.{length-part, part-append, part-fits, part-within}
 use Rattle.ring.specs.Polynomial.{add}
 use Rattle.transform.specs.Transform.{multiplyNtts}
 use Rattle.vectors.specs.Vector.{parts, concat, dot}
-
--- part i of k parts of n elements lies within them
-pub part-fits : (n : ℕ) {i k : ℕ} → i < k → n * i + n ≤ n * k
-part-fits n {i} {k} h =
-    let e = mul-suc n i in
-    let g = mul-le-mul-left {m = suc i} {n = k} n (omega arith) in
-    omega arith
 
 -- each of the k parts has n elements
 pub record Each (n k : ℕ) (f : ℕ → List ℕ) : Type 0 where
@@ -64,6 +57,10 @@ below-concat zero p h = below-nil p
 below-concat (suc k) {f} p h =
     below-append (concat k f) (below-concat k p (λ i g. h i (omega arith))) (h k (omega arith))
 
+-- the k parts of a list of n k elements
+pub each-part : (n k : ℕ) (l : List ℕ) → length l ≡ n * k → Each n k (parts n l)
+each-part n k l e = record { long = λ i h. length-part (n * i) n l (part-within n (le-of-eq (sym e)) h) }
+
 -- the parts of a list one after the other
 pub concat-parts : (n k : ℕ) (l : List ℕ) → concat k (parts n l) ≡ take (n * k) l
 unfolding concat
@@ -78,3 +75,7 @@ pub dot-cong : (k : ℕ) {f g u v : ℕ → List ℕ} → ((j : ℕ) → j < k �
 unfolding dot
 dot-cong k h e =
     iterate-cong k (replicate 256 0) (λ j l s. ap₂ (λ (x y : List ℕ). add s (multiplyNtts x y)) (h j l) (e j l))
+
+-- the product with all parts of a, as `dot` reads them
+pub dot-whole : (k : ℕ) (a : List ℕ) (g : ℕ → List ℕ) → dot k (λ j. parts 256 a (0 + 1 * j)) g ≡ dot k (parts 256 a) g
+dot-whole k a g = dot-cong k (λ j h. let e : 0 + 1 * j ≡ j = omega arith in ap (parts 256 a) e) (λ j h. refl)

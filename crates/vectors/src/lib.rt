@@ -5,10 +5,7 @@ ghost use lib.ListN.{length, replicate};
 ghost use Rattle.codec.specs.Bytes.{byteEncode, byteDecode12};
 ghost use Rattle.transform.specs.Transform.{ntt as nttOf};
 ghost use Rattle.vectors.specs.Vector.{parts, concat, dot as dotOf, coefficients};
-ghost use Rattle.vectors.specs.Sizes.{DotInput, EncodeAllInput};
-
-pub mod copy; // copies of slices
-
+ghost use Rattle.vectors.specs.Lent.{DotInput, EncodeAllInput};
 use codec::byte_decode;
 use codec::byte_decode12;
 use codec::byte_encode;

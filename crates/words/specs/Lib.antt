@@ -8,6 +8,7 @@ pub mod TabLaws
 pub mod Iterate
 pub mod IterateLaws
 pub mod Part
+pub mod Turn
 pub mod Fill
 pub mod Overwrite
 pub mod Table

@@ -50,3 +50,11 @@ module _ {A : Type 0} where
       overwritten-end
       (overwritten-part o a _ h (f ∙ sym (overwritten-length o)) (omega (arith, overwritten-length o)) k)
       (omega (arith, length-append p t))
+
+-- a slice whose first n elements are written, and then the others
+pub two-parts : {r₁ t₁ r₂ t₂ : List ℕ} (l : List ℕ) (n : ℕ) → length t₁ ≡ n → n + length t₂ ≡ length l → r₁ ≡ t₁
+    → r₂ ≡ t₂
+    → (let m = take 0 l ++ (r₁ ++ drop (n - 0) (drop 0 l)) in take n m ++ (r₂ ++ drop (length m - n) (drop n m)))
+    ≡ t₁ ++ t₂
+two-parts l n h g e f =
+    overwritten-last (overwritten-part (overwritten-start {l = l}) 0 n refl (omega arith) (omega arith) e) n h g f

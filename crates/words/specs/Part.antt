@@ -1,7 +1,8 @@
--- Parts of a list: the n elements from a on.
-use mathlib.Core.Path.{_≡_, refl}
+-- Parts of a list: the n elements from a on, and k parts of n elements each.
+use mathlib.Core.Path.{_≡_, refl, ap, _∙_}
 use mathlib.Core.List.{List, [], _∷_, _++_}
-use Prim.Native.Nat.{ℕ, zero, suc, _+_, _-_, _≤_}
+use Prim.Native.Nat.{ℕ, zero, suc, _+_, _-_, _*_, _<_, _≤_}
+use native.Mathlib.Nat.{le-trans, mul-suc, mul-le-mul-left}
 use native.Mathlib.Omega.{arith}
 use lib.ListN.{length, getD, take, drop, length-take, length-drop, List·getD-eq-default}
 use lib.Seq.{length-take-le, take-all, take-take, take-append-le, drop-append-le}
@@ -28,3 +29,23 @@ module _ {A : Type 0} where
   -- past the first n elements there are none
   pub getD-take-past : (n : ℕ) (l : List A) (x : ℕ) (d : A) → n ≤ x → getD (take n l) x d ≡ d
   getD-take-past n l x d h = List·getD-eq-default (take n l) d {n = x} (omega (arith, length-take n l))
+
+-- lent as the part from a to a + n
+pub part-span : (a n : ℕ) (l : List ℕ) → take (a + n - a) (drop a l) ≡ take n (drop a l)
+part-span a n l = let e : a + n - a ≡ n = omega arith in rw e
+
+pub length-span : (a n : ℕ) (l : List ℕ) → a + n ≤ length l → length (take (a + n - a) (drop a l)) ≡ n
+length-span a n l h = ap length (part-span a n l) ∙ length-part a n l h
+
+-- ---- k parts of n elements each
+
+-- part i of k parts of n elements lies within them
+pub part-fits : (n : ℕ) {i k : ℕ} → i < k → n * i + n ≤ n * k
+part-fits n {i} {k} h =
+    let e = mul-suc n i in
+    let g = mul-le-mul-left {m = suc i} {n = k} n (omega arith) in
+    omega arith
+
+-- part i of n elements lies within m of them, where k parts do
+pub part-within : (n : ℕ) {k i m : ℕ} → n * k ≤ m → i < k → n * i + n ≤ m
+part-within n e h = le-trans (part-fits n h) e

@@ -3,11 +3,11 @@ use Prim.Native.Nat.{ℕ, _+_, _-_}
 use mathlib.Core.Path.{_≡_, refl, ap, ap₂, _∙_}
 use mathlib.Core.List.{List}
 use native.Mathlib.Nat.{add-zero}
-use native.Mathlib.Omega.{arith}
-use lib.ListN.{getD, take, drop, length, length-drop}
-use lib.Seq.{getD-drop, drop-drop, take-all}
+use lib.ListN.{getD, take, drop, length}
+use lib.Seq.{getD-drop, drop-drop}
 use Rattle.words.specs.Word.{low}
 use Rattle.words.specs.Bits.{Bits}
+use Rattle.words.specs.Part.{part-rest}
 use Rattle.words.specs.WordLaws.{low-of-bits}
 use Rattle.worksheet.specs.declared.Recorder.{Recorder}
 use Rattle.worksheet.specs.Prog.{Mask, word, coeff, Prog, ret, _>>=_, mask, maskLow, entry}
@@ -102,17 +102,13 @@ pub next-coeff : {A : Type 0} {p : Prog A} {r r′ : Recorder} {a : A} (cs : Lis
     → MakesWith coeff p (getD cs i 0) r a r′ → Ran p r ws (drop i cs) a r′ ws (drop (i + 1) cs)
 next-coeff cs i {ws} m = rw (drop-drop 1 i cs) at (m ws (drop i cs) (getD-next cs i))
 
--- `&xs[i..]`, the part of a lent strip from i on
-part : (xs : List ℕ) (i : ℕ) → take (length xs - i) (drop i xs) ≡ drop i xs
-part xs i = take-all (length xs - i) (drop i xs) (omega (arith, length-drop i xs))
-
--- a program that is lent such a part and draws n masks
+-- a program that is lent `&ws[i..]`, the part of a strip from i on, and draws n masks
 pub part-words : {A : Type 0} {p : Prog A} {r r′ : Recorder} {a : A} (ws : List ℕ) (i n : ℕ) {cs cs′ : List ℕ}
     → Ran p r (take (length ws - i) (drop i ws)) cs a r′ (drop n (take (length ws - i) (drop i ws))) cs′
     → Ran p r (drop i ws) cs a r′ (drop (i + n) ws) cs′
-part-words ws i n h = rw (part ws i, drop-drop n i ws) at h
+part-words ws i n h = rw (part-rest i ws, drop-drop n i ws) at h
 
 pub part-coeffs : {A : Type 0} {p : Prog A} {r r′ : Recorder} {a : A} (cs : List ℕ) (i n : ℕ) {ws ws′ : List ℕ}
     → Ran p r ws (take (length cs - i) (drop i cs)) a r′ ws′ (drop n (take (length cs - i) (drop i cs)))
     → Ran p r ws (drop i cs) a r′ ws′ (drop (i + n) cs)
-part-coeffs cs i n h = rw (part cs i, drop-drop n i cs) at h
+part-coeffs cs i n h = rw (part-rest i cs, drop-drop n i cs) at h

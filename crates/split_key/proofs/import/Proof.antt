@@ -9,7 +9,7 @@ use Rattle.refusals.specs.Same.{same}
 use Rattle.refusals.specs.Refusals.{sized}
 use Rattle.refusals.specs.RefusalLaws.{refused, exact-at}
 use Rattle.split_key.specs.Import.{importAnswer}
-use Rattle.split_key.specs.ImportAnswer.{import-refused}
+use Rattle.split_key.specs.ImportAnswerLaws.{import-refused}
 use Rattle.split_key.proofs.import.Statement.{statement}
 use Rattle.split_key.proofs.import.Tie as tie
 

@@ -7,7 +7,7 @@ use borrow.Author.Tests.{not-true, not-false}
 use native.Mathlib.Omega.{arith}
 use lib.ListN.{length, take}
 use Rattle.kpke.specs.Parameters.{mlKem768}
-use Rattle.kpke.specs.Functions.{H}
+use Rattle.hash_functions.specs.Functions.{H}
 use Rattle.vectors.specs.Vector.{coefficients}
 use Rattle.refusals.specs.declared.Answer.the-variants.{Done, PublicKeyRange, WrongHash, SecretRange, MaskRange}
 use Rattle.refusals.specs.Same.{same}
@@ -16,7 +16,7 @@ use Rattle.refusals.specs.RefusalLaws.{refused, passed, no-row}
 use Rattle.mlkem.specs.MlKem.{secretPart, publicPart, hashPart}
 use Rattle.refusals.specs.Reduced.{reduced}
 use Rattle.split_key.specs.Import.{keyRows}
-use Rattle.split_key.specs.ImportAnswer.{import-answer, import-refused}
+use Rattle.split_key.specs.ImportAnswerLaws.{import-answer, import-refused}
 use Rattle.split_key.proofs.import_sized.Statement.{statement}
 use Rattle.split_key.proofs.import_sized.Tie as tie
 

@@ -9,7 +9,7 @@ use Rattle.words.specs.TabLaws.{tab-of}
 use Rattle.words.specs.Fill.{Filled, filled-start, filled-turn, filled-end}
 use Rattle.fips202.specs.Sponge.{laneOf}
 use Rattle.worksheet.specs.SharedList.{sharedList}
-use Rattle.vectors.proofs.Concatenated.{part-span, length-span}
+use Rattle.words.specs.Part.{part-span, length-span}
 use Rattle.split_key.proofs.split_words.Statement.{statement}
 use Rattle.split_key.proofs.split_words.Tie as tie
 

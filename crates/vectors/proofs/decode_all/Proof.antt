@@ -4,13 +4,8 @@ use Prim.Native.Nat.{_-_}
 use native.Mathlib.Omega.{arith}
 use Rattle.codec.specs.Bytes.{byteDecode}
 use Rattle.vectors.specs.Vector.{parts, coefficients}
-use Rattle.vectors.proofs.Concatenated.{
-  Concatenated,
-  length-span,
-  concatenated-start,
-  concatenated-read,
-  concatenated-end,
-}
+use Rattle.words.specs.Part.{length-span}
+use Rattle.vectors.proofs.Concatenated.{Concatenated, concatenated-start, concatenated-read, concatenated-end}
 use Rattle.vectors.proofs.decode_all.Statement.{statement}
 use Rattle.vectors.proofs.decode_all.Tie as tie
 

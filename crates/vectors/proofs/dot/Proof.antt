@@ -9,7 +9,7 @@ use Rattle.words.specs.IterateLaws.{Reached, reached-start, reached-turn, reach
 use Rattle.ring.specs.Polynomial.{add}
 use Rattle.transform.specs.Transform.{multiplyNtts}
 use Rattle.vectors.specs.Vector.{parts, dot}
-use Rattle.vectors.proofs.Concatenated.{part-span, length-span}
+use Rattle.words.specs.Part.{part-span, length-span}
 use Rattle.vectors.proofs.dot.Statement.{statement}
 use Rattle.vectors.proofs.dot.Tie as tie
 

@@ -6,14 +6,8 @@ use native.Mathlib.Omega.{arith}
 use Rattle.words.specs.BoundedLaws.{below-take, below-drop}
 use Rattle.codec.specs.Bytes.{byteEncode}
 use Rattle.vectors.specs.Vector.{parts}
-use Rattle.vectors.proofs.Concatenated.{
-  Concatenated,
-  length-span,
-  concatenated-start,
-  concatenated-fits,
-  concatenated-read,
-  concatenated-end,
-}
+use Rattle.words.specs.Part.{length-span}
+use Rattle.vectors.proofs.Concatenated.{Concatenated, concatenated-start, concatenated-fits, concatenated-read, concatenated-end}
 use Rattle.vectors.proofs.encode_all.Statement.{statement}
 use Rattle.vectors.proofs.encode_all.Tie as tie
 

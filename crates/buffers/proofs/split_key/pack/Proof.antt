@@ -4,7 +4,7 @@ use mathlib.Core.List.{_++_}
 use borrow.Author.Needs.{needs}
 use native.Mathlib.Omega.{arith}
 use lib.ListN.{length-append}
-use Rattle.vectors.proofs.Concatenated.{two-parts}
+use Rattle.words.specs.Overwrite.{two-parts}
 use Rattle.words.specs.LittleEndian.{wordsToBytes}
 use Rattle.buffers.specs.LittleEndian.{length-bytes-two}
 use Rattle.buffers.specs.Split.{splitBytes}

@@ -2,7 +2,7 @@
 use mathlib.Core.Path.{_∙_}
 use borrow.Author.Needs.{needs}
 use native.Mathlib.Omega.{arith}
-use Rattle.vectors.proofs.Concatenated.{two-parts}
+use Rattle.words.specs.Overwrite.{two-parts}
 use Rattle.buffers.specs.LittleEndian.{length-bytes-two}
 use Rattle.buffers.proofs.split_key.pack_rest.Statement.{statement}
 use Rattle.buffers.proofs.split_key.pack_rest.Tie as tie

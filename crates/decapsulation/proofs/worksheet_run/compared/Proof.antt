@@ -6,8 +6,8 @@ use Rattle.words.specs.Part.{length-part, part-rest}
 use Rattle.worksheet.specs.Ran.{bind, over, part-words}
 use Rattle.worksheet.specs.SharedList.{SharedList, sharedList}
 use Rattle.stages.specs.Worksheet.{compared}
-use Rattle.stages.specs.Slices.{Long}
-use Rattle.stages.specs.StoredRun.{length-rest}
+use Rattle.stages.specs.Lent.{Long}
+use Rattle.stages.proofs.StoredRun.{length-rest}
 use Rattle.decapsulation.proofs.LentParts.{coins-part, coins-long, rest-exact}
 use Rattle.decapsulation.proofs.worksheet_run.compared.Statement.{statement}
 use Rattle.decapsulation.proofs.worksheet_run.compared.Tie as tie

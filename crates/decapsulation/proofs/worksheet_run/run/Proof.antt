@@ -5,18 +5,18 @@ use lib.ListN.{length}
 use Rattle.worksheet.specs.Ran.{bind, part-words}
 use Rattle.worksheet.specs.SharedList.{SharedList, sharedList}
 use Rattle.stages.specs.Counts768.{counts768}
-use Rattle.stages.specs.Worksheet.{worksheet}
-use Rattle.stages.specs.Slices.{Long}
-use Rattle.stages.specs.StoredRun.{length-rest}
+use Rattle.stages.specs.Worksheet.{stage10, worksheet}
+use Rattle.stages.specs.Lent.{Long}
+use Rattle.stages.proofs.StoredRun.{length-rest}
 use Rattle.decapsulation.proofs.worksheet_run.run.Statement.{statement}
 use Rattle.decapsulation.proofs.worksheet_run.run.Tie as tie
 
 -- ---- places, backwards: K is selected, what that is lent
 
-abbrev selected : tie.After-slice-known3 → tie.After-stage10
+abbrev selected : tie.After-slice-known3 → tie.After-select-all
 selected c = c .before .before
 
-abbrev buffers : tie.After-stage10-arg3 → tie.After-rejected13
+abbrev buffers : tie.After-select-all-arg3 → tie.After-rejected13
 buffers c = c .before .before .before
 
 abbrev words : tie.After-rejected13 → tie.After-g03
@@ -95,32 +95,33 @@ stage9-requires c κs =
       out = record { long0 = omega arith; long1 = omega arith };
     }
 
-stage10-requires : tie.Need-stage10-requires
-stage10-requires c κs =
+select-all-requires : tie.Need-select-all-requires
+select-all-requires c κs =
     let r = rejected (words (buffers c)) in
     let b = compared (strip (r .before)) in
     let g = hashed-long b in
     let j = r .stage9 .kept .1 .1 .1 .1 .1 in
     let s = origin10 (buffers c) in
     record {
-      bit0 = b .compared .ensures .bit0;
-      bit1 = b .compared .ensures .bit1;
-      key0 = omega (arith, g .long0);
-      key1 = omega (arith, g .long1);
-      rejected = record { long0 = omega (arith, j .0); long1 = omega (arith, j .1 .0) };
-      words = length-rest 11746 4 (s .args .ws .now) (omega (arith, masks s));
-      out = s .pre .out;
+      bit = record { bit0 = b .compared .ensures .bit0; bit1 = b .compared .ensures .bit1 };
+      x0 = omega (arith, g .long0);
+      x1 = omega (arith, g .long1);
+      y0 = omega (arith, j .0);
+      y1 = omega (arith, j .1 .0);
+      masks = length-rest 11746 4 (s .args .ws .now) (omega (arith, masks s));
+      out0 = s .pre .out .long0;
+      out1 = s .pre .out .long1;
     }
 
 returns : tie.Need-returns
-unfolding worksheet
+unfolding worksheet stage10
 returns c =
     let k = selected (c .before .before) in
     let r = rejected (words (buffers (k .before))) in
     let b = compared (strip (r .before)) in
     let ws = start (b .before) .args .ws .now in
     bind _ (b .compared .ensures .ran _)
-    (bind _ (part-words ws 6321 5425 (r .stage9 .ensures _)) (part-words ws 11746 4 (k .stage10 .ensures _)))
+    (bind _ (part-words ws 6321 5425 (r .stage9 .ensures _)) (part-words ws 11746 4 (k .select-all .ensures _)))
 
 pub run-spec : {M : Type 1} → statement M
 run-spec =
@@ -142,7 +143,7 @@ run-spec =
     (λ c. omega (arith, masks (origin10 c)))
     (λ c. omega (arith, masks (origin10 c)))
     (λ c. omega arith)
-    stage10-requires
+    select-all-requires
     (λ c. omega arith)
     (λ c. omega arith)
     returns)

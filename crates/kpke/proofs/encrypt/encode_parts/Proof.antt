@@ -9,7 +9,7 @@ use Rattle.codec.specs.Bytes.{byteEncode}
 use Rattle.codec.specs.BytesLaws.{length-byteEncode}
 use Rattle.codec.specs.Compress.{compress}
 use Rattle.kpke.proofs.Encoded.{below-compressed, encoded-compressed, length-encoded}
-use Rattle.vectors.proofs.Concatenated.{two-parts}
+use Rattle.words.specs.Overwrite.{two-parts}
 use Rattle.kpke.proofs.encrypt.encode_parts.Statement.{statement}
 use Rattle.kpke.proofs.encrypt.encode_parts.Tie as tie
 

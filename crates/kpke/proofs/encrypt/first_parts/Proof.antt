@@ -5,13 +5,8 @@ use native.Mathlib.Omega.{arith}
 use Rattle.vectors.specs.Vector.{parts}
 use Rattle.kpke.specs.KPke.{firstPart}
 use Rattle.kpke.specs.Expanded.{placesOf}
-use Rattle.vectors.proofs.Concatenated.{
-  Concatenated,
-  length-span,
-  concatenated-start,
-  concatenated-turn,
-  concatenated-end,
-}
+use Rattle.words.specs.Part.{length-span}
+use Rattle.vectors.proofs.Concatenated.{Concatenated, concatenated-start, concatenated-turn, concatenated-end}
 use Rattle.kpke.proofs.encrypt.first_parts.Statement.{statement}
 use Rattle.kpke.proofs.encrypt.first_parts.Tie as tie
 

@@ -6,13 +6,8 @@ use Rattle.transform.specs.Transform.{ntt}
 use Rattle.vectors.specs.Vector.{parts}
 use Rattle.kpke.specs.KPke.{noise, publicPolynomial}
 use Rattle.kpke.specs.Expanded.{placesOf}
-use Rattle.vectors.proofs.Concatenated.{
-  Concatenated,
-  length-span,
-  concatenated-start,
-  concatenated-turn,
-  concatenated-end,
-}
+use Rattle.words.specs.Part.{length-span}
+use Rattle.vectors.proofs.Concatenated.{Concatenated, concatenated-start, concatenated-turn, concatenated-end}
 use Rattle.kpke.proofs.key_making.public_vector.Statement.{statement}
 use Rattle.kpke.proofs.key_making.public_vector.Tie as tie
 

@@ -4,7 +4,7 @@ use borrow.Author.Needs.{needs}
 use Prim.Native.Nat.{_*_}
 use native.Mathlib.Omega.{arith}
 use Rattle.kpke.proofs.Encoded.{below-byteEncode12, length-encoded}
-use Rattle.vectors.proofs.Concatenated.{two-parts}
+use Rattle.words.specs.Overwrite.{two-parts}
 use Rattle.kpke.proofs.key_making.write_ek.Statement.{statement}
 use Rattle.kpke.proofs.key_making.write_ek.Tie as tie
 

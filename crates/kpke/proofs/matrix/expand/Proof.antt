@@ -6,10 +6,11 @@ use Prim.Native.Nat.{_-_, _*_}
 use native.Mathlib.Omega.{arith}
 use Rattle.words.specs.Table.{every}
 use Rattle.sampling.specs.Sample.{full}
-use Rattle.kpke.specs.Functions.{XOF}
+use Rattle.hash_functions.specs.Functions.{XOF}
 use Rattle.vectors.specs.Vector.{concat}
 use Rattle.kpke.specs.KPke.{matrix, matrixFull}
-use Rattle.vectors.proofs.Concatenated.{length-span, concatenated-fits}
+use Rattle.words.specs.Part.{length-span}
+use Rattle.vectors.proofs.Concatenated.{concatenated-fits}
 use Rattle.kpke.proofs.Sampled.{Sampled, sampled-start, sampled-turn, sampled-stop, sampled-end}
 use Rattle.kpke.proofs.matrix.expand.Statement.{statement}
 use Rattle.kpke.proofs.matrix.expand.Tie as tie

@@ -4,9 +4,9 @@ use borrow.Author.Needs.{needs}
 use Prim.Native.Nat.{_-_}
 use native.Mathlib.Omega.{arith}
 use Rattle.sampling.specs.Sample.{full}
-use Rattle.kpke.specs.Functions.{XOF}
+use Rattle.hash_functions.specs.Functions.{XOF}
 use Rattle.kpke.specs.KPke.{matrix}
-use Rattle.vectors.proofs.Concatenated.{length-span}
+use Rattle.words.specs.Part.{length-span}
 use Rattle.kpke.proofs.Sampled.{Sampled, sampled-start, sampled-turn, sampled-stop, sampled-end}
 use Rattle.kpke.proofs.matrix.expand_row.Statement.{statement}
 use Rattle.kpke.proofs.matrix.expand_row.Tie as tie

@@ -3,13 +3,8 @@ use borrow.Author.Needs.{needs}
 use Prim.Native.Nat.{_+_, _-_}
 use native.Mathlib.Omega.{arith}
 use Rattle.kpke.specs.KPke.{noise}
-use Rattle.vectors.proofs.Concatenated.{
-  Concatenated,
-  length-span,
-  concatenated-start,
-  concatenated-turn,
-  concatenated-end,
-}
+use Rattle.words.specs.Part.{length-span}
+use Rattle.vectors.proofs.Concatenated.{Concatenated, concatenated-start, concatenated-turn, concatenated-end}
 use Rattle.kpke.proofs.noise.noise_all.Statement.{statement}
 use Rattle.kpke.proofs.noise.noise_all.Tie as tie
 

@@ -5,8 +5,8 @@ use native.Mathlib.Omega.{arith}
 use lib.ListN.{length}
 use Rattle.codec.specs.Bytes.{byteDecode}
 use Rattle.vectors.specs.Vector.{parts}
-use Rattle.vectors.specs.VectorLaws.{part-fits}
-use Rattle.vectors.proofs.Concatenated.{Concatenated, length-span}
+use Rattle.words.specs.Part.{part-fits, length-span}
+use Rattle.vectors.proofs.Concatenated.{Concatenated}
 use Rattle.vectors.proofs.Concatenated.{concatenated-start, concatenated-fits, concatenated-read, concatenated-end}
 use Rattle.stages.specs.Worksheet.{planesOf}
 use Rattle.stages.specs.FlattenLaws.{flatten-tab}

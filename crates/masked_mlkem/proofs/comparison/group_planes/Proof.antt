@@ -5,7 +5,8 @@ use native.Mathlib.Omega.{arith}
 use lib.ListN.{getD}
 use Rattle.words.specs.Plane.{plane}
 use Rattle.words.specs.Tab.{tab}
-use Rattle.vectors.proofs.Concatenated.{Concatenated, length-span}
+use Rattle.words.specs.Part.{length-span}
+use Rattle.vectors.proofs.Concatenated.{Concatenated}
 use Rattle.vectors.proofs.Concatenated.{concatenated-start, concatenated-fits, concatenated-turn, concatenated-end}
 use Rattle.stages.specs.Worksheet.{planesOf}
 use Rattle.stages.specs.FlattenLaws.{flatten-tab}

@@ -3,7 +3,7 @@ use native.Mathlib.Omega.{arith}
 use Rattle.masked_fips202.specs.MaskedWords.{maskedSha3-512Words, sha3-512MaskWords}
 use Rattle.stages.specs.Counts768.{counts768}
 use Rattle.stages.specs.Worksheet.{stage3}
-use Rattle.masked_noise.proofs.SharedInput.{hash-masks, hash-ran}
+use Rattle.stages.proofs.HashedInput.{hash-masks, hash-ran}
 use borrow.Author.Needs.{needs}
 use Rattle.masked_mlkem.proofs.hashing.stage3.Statement.{statement}
 use Rattle.masked_mlkem.proofs.hashing.stage3.Tie as tie

@@ -8,7 +8,7 @@ use Rattle.worksheet.specs.SharedList.{SharedList}
 use Rattle.masked_fips202.specs.MaskedWords.{maskedShake256Words, shake256MaskWords}
 use Rattle.stages.specs.Counts768.{counts768}
 use Rattle.stages.specs.Worksheet.{stage9}
-use Rattle.masked_noise.proofs.SharedInput.{hash-masks, hash-ran}
+use Rattle.stages.proofs.HashedInput.{hash-masks, hash-ran}
 use borrow.Author.Needs.{needs}
 use Rattle.masked_mlkem.proofs.hashing.stage9.Statement.{statement}
 use Rattle.masked_mlkem.proofs.hashing.stage9.Tie as tie

@@ -7,11 +7,11 @@ use lib.ListN.{length}
 use Rattle.worksheet.specs.SharedList.{SharedList, sharedList, sharedAt}
 use Rattle.worksheet.specs.Zip.{zip}
 use Rattle.masked_compression.specs.Compression.{maskedCompress}
-use Rattle.vectors.specs.VectorLaws.{part-fits}
+use Rattle.words.specs.Part.{part-fits, part-within}
 use Rattle.masked_polynomials.proofs.Compressed.{group-part, compress-part}
-use Rattle.stages.specs.StoredRun.{Written, written-start, written-turn, written-end, fits0, fits1}
-use Rattle.stages.specs.StoredRun.{OnWords, words-start, words-turn, fits-words}
-use Rattle.stages.specs.StoredRun.{part-within, Placed, placed, turn-less, next-fits}
+use Rattle.stages.proofs.StoredRun.{Written, written-start, written-turn, written-end, fits0, fits1}
+use Rattle.stages.proofs.StoredRun.{OnWords, words-start, words-turn, fits-words}
+use Rattle.words.specs.Turn.{Placed, placed, turn-less, next-fits}
 use Rattle.masked_polynomials.proofs.groups.compress_groups.Statement.{statement}
 use Rattle.masked_polynomials.proofs.groups.compress_groups.Tie as tie
 

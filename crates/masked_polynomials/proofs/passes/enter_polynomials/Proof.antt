@@ -9,7 +9,7 @@ use Rattle.worksheet.specs.Ran.{Ran}
 use Rattle.worksheet.specs.RanLoops.{times-start, times-turn}
 use Rattle.worksheet.specs.SharedList.{sharedList}
 use Rattle.vectors.specs.Vector.{parts}
-use Rattle.vectors.proofs.Concatenated.{part-span, length-span}
+use Rattle.words.specs.Part.{part-span, length-span}
 use Rattle.stages.specs.Layout.{polynomials}
 use Rattle.stages.specs.LayoutLaws.{partsBy-start, partsBy-suc}
 use Rattle.masked_polynomials.proofs.passes.enter_polynomials.Statement.{statement}

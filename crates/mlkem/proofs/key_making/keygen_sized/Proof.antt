@@ -9,7 +9,7 @@ use borrow.Author.Tests.{not-true, not-false}
 use native.Mathlib.Omega.{arith}
 use lib.ListN.{take, drop}
 use Rattle.kpke.specs.Parameters.{mlKem768}
-use Rattle.kpke.specs.Functions.{G₁}
+use Rattle.hash_functions.specs.Functions.{G₁}
 use Rattle.kpke.specs.KPke.{matrixFull, ekFrom, dkFrom, ekPke, dkPke}
 use Rattle.kpke.specs.Expanded.{expanded-concat}
 use Rattle.refusals.specs.declared.Answer.the-variants.{Done, ShortStream}

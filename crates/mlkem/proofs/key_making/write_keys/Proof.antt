@@ -11,7 +11,7 @@ use Rattle.fips202.specs.Sponge.{sha3-256}
 use Rattle.kpke.specs.Parameters.{mlKem768}
 use Rattle.kpke.specs.KPke.{ekFrom, dkFrom}
 use Rattle.kpke.proofs.Encoded.{length-encoded}
-use Rattle.vectors.proofs.Concatenated.{two-parts}
+use Rattle.words.specs.Overwrite.{two-parts}
 use Rattle.mlkem.proofs.key_making.write_keys.Statement.{statement}
 use Rattle.mlkem.proofs.key_making.write_keys.Tie as tie
 

@@ -1,4 +1,0 @@
-pub mod Groups
-pub mod Vectors
-pub mod Decrypted
-pub mod Reencrypted

@@ -1,4 +1,0 @@
-pub mod Slices
-pub mod MakesResidues
-pub mod Passes
-pub mod Encryption
