@@ -105,6 +105,13 @@ class Parameters:
     def ek(self, dk):
         return dk[self.vector_bytes:][:self.ek_bytes]
 
+    def t(self, dk):
+        """t-hat, encoded."""
+        return self.ek(dk)[:self.vector_bytes]
+
+    def rho(self, dk):
+        return self.ek(dk)[self.vector_bytes:]
+
     def public(self, dk):
         return dk[self.vector_bytes:][:self.public_bytes]
 

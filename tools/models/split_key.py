@@ -4,7 +4,7 @@ from .parameters import Q, ML_KEM_768 as P
 
 
 def split(dk, mask_coeffs, mask_words):
-    """With the masks as first shares: s0, s1, z0, z1, and the public key and h."""
-    s1 = [(x - mask) % Q for x, mask in zip(coefficients(P.secret(dk)), mask_coeffs)]
+    """With the masks as first shares: s0, s1, z0, z1, and the public key and h as they stand."""
+    s1 = [(x % Q - mask) % Q for x, mask in zip(coefficients(P.secret(dk)), mask_coeffs)]
     z1 = [x ^ mask for x, mask in zip(words(P.z(dk)), mask_words)]
     return mask_coeffs, s1, mask_words, z1, P.public(dk)

@@ -11,7 +11,6 @@ fn say_condition(answer: Answer) {
         Answer::WrongLength => say(b"a lent buffer, in or out, hasn't its exact length\n"),
         Answer::PublicKeyRange => say(b"a coefficient of the public key is 3329 or more\n"),
         Answer::WrongHash => say(b"h isn't SHA3-256 of the public key part\n"),
-        Answer::SecretRange => say(b"a coefficient of the secret part is 3329 or more\n"),
         Answer::MaskRange => say(b"a mask coefficient is 3329 or more\n"),
         Answer::ShareRange => say(b"a share coefficient is 3329 or more\n"),
         Answer::ShortStream => say(b"an 840-byte stream yields fewer than 256 coefficients\n"),

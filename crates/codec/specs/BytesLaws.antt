@@ -123,6 +123,11 @@ mod-of-below [] h = refl
 mod-of-below (x ∷ l) h =
     ap₂ (λ (y : ℕ) (m : List ℕ). y ∷ m) (mod-eq-of-lt (below-head h)) (mod-of-below l (below-tail h))
 
+-- so that they are what is encoded
+pub byteDecode12-below : (b : List ℕ) → Below q (byteDecode 12 b) → byteDecode12 b ≡ byteDecode 12 b
+unfolding byteDecode12
+byteDecode12-below b h = mod-of-below (byteDecode 12 b) h
+
 pub byteDecode12-byteEncode : (f : List ℕ) → length f ≡ 256 → Below q f → byteDecode12 (byteEncode 12 f) ≡ f
 unfolding byteDecode12
 byteDecode12-byteEncode f e h =

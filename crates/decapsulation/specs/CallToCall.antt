@@ -1,7 +1,8 @@
--- From call to call: where import of a decapsulation key is carried out, and then decapsulation on the split key that
--- it left, the two shares of K join to FIPS 203's decapsulation of that key. Lengths and ranges, and that the key is
--- accepted and the split joins to it, follow from the two answers. Bytes are below 256 and words below 2^64: at a call
--- the types of the slices say so, and of lists it is asked.
+-- From call to call: where import of a decapsulation key is carried out, the split key that it leaves joins to that key
+-- with its secret coefficients reduced; where decapsulation on it is carried out then, the two shares of K join to
+-- FIPS 203's decapsulation of the key as it was. Lengths and ranges, and that the key is accepted, follow from the
+-- answers. Bytes are below 256 and words below 2^64: at a call the types of the slices say so, and of lists it is
+-- asked.
 use mathlib.Core.Path.{_≡_, ap, ap₂, _∙_}
 use mathlib.Core.List.{List}
 use Prim.Native.Nat.{ℕ, _^_}
@@ -17,9 +18,18 @@ use Rattle.refusals.specs.ReducedLaws.{reduced-below}
 use Rattle.split_key.specs.SplitKey.{SplitKey}
 use Rattle.stages.specs.Fits.{fits768}
 use Rattle.stages.specs.Worksheet.{worksheet}
-use Rattle.meaning.specs.SplitValue.{run-split}
+use Rattle.meaning.specs.JoinedDk.{joinedDk}
+use Rattle.meaning.specs.ReducedDk.{reducedDk}
+use Rattle.meaning.specs.SplitValue.{joinedDk-split, run-split}
 use Rattle.decapsulation.specs.Calls.{Input, decapsShares, Decapsulated}
 use Rattle.decapsulation.specs.Demand2.{decapsulated-tested}
+
+pub imported-joins : {dk maskCoeffs maskWords : List ℕ} {key₀ key : SplitKey}
+    → Imported mlKem768 dk maskCoeffs maskWords key₀ 0 key
+    → Below 256 dk → Below (2 ^ 64) maskWords
+    → joinedDk mlKem768 key ≡ reducedDk mlKem768 dk
+imported-joins i dk-bytes mask-words =
+    ap (joinedDk mlKem768) (i .key) ∙ joinedDk-split (imported-importable i dk-bytes mask-words)
 
 -- import of dk leaves the split key in g, and decapsulation of g leaves k0 and k1
 module _ {dk maskCoeffs maskWords k0₀ k1₀ k0 k1 : List ℕ} {key₀ : SplitKey} {g : Input} where

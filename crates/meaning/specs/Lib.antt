@@ -16,4 +16,6 @@ pub mod EncryptionValue
 pub mod ComparisonValue
 pub mod ComparedValue
 pub mod WorksheetValue
+pub mod ReducedDk
+pub mod ReducedDkLaws
 pub mod SplitValue

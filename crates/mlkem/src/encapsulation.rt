@@ -1,17 +1,32 @@
 // ML-KEM.Encaps_internal (FIPS 203, algorithm 17).
+ghost use mathlib.Core.Path.{_≡_};
+ghost use lib.ListN.{length};
 ghost use Rattle.kpke.specs.Parameters.{mlKem768};
+ghost use Rattle.vectors.specs.Vector.{coefficients};
 ghost use Rattle.mlkem.specs.Calls.{Encapsulated};
 ghost use Rattle.mlkem.specs.Sized.{EncapsSized};
 ghost use Rattle.mlkem.specs.Written.{SecretInput, SecretWritten};
+ghost use Rattle.refusals.specs.Reduced.{reduced as reducedOf};
 ghost use Rattle.refusals.specs.Refusals.{number};
-use crate::checks::vector_reduced;
 use hash_functions::hash_g;
 use hash_functions::hash_h;
 use kpke::encrypt::encrypt;
 use kpke::matrix::expand;
 use refusals::Answer;
+use refusals::conditions::reduced;
 use refusals::exact;
 use slices::copy_bytes;
+use vectors::decode_all;
+
+// Section 7.2, the modulus check: each coefficient of an encoded vector is below q.
+fn vector_reduced(b: &[u8]) -> bool
+    requires { ⌜ length (now b) ≡ 1152 ⌝ }
+    ensures { λ r. ⌜ r ≡ reducedOf (coefficients 3 (now (b .entry))) ⌝ }
+{
+    let mut t = [0u16; 768];
+    decode_all(b, 3, &mut t);
+    reduced(&t)
+}
 
 // Lines 1 and 2, for the matrix A-hat in a: K and the coins r are the halves of g.
 fn write_secret(a: &[u16], ek: &[u8], m: &[u8], ct: &mut [u8], k: &mut [u8])

@@ -8,7 +8,7 @@ use borrow.Author.Tests.{eqb-true, eq-eqb, ne-eqb, not-false}
 use lib.Dec.{eqb}
 use lib.ListN.{length, getD}
 use Rattle.refusals.specs.declared.Answer.{Answer}
-use Rattle.refusals.specs.declared.Answer.the-variants.{Done, WrongLength, PublicKeyRange, WrongHash, SecretRange}
+use Rattle.refusals.specs.declared.Answer.the-variants.{Done, WrongLength, PublicKeyRange, WrongHash}
 use Rattle.refusals.specs.declared.Answer.the-variants.{MaskRange, ShareRange, ShortStream, NoSuchStep}
 use Rattle.refusals.specs.Refusals.{number, Row, row, answer, after, Lent, sized}
 use Rattle.refusals.specs.Same.{same}
@@ -43,7 +43,6 @@ number-done Done e = refl
 number-done WrongLength e = absurd (omega arith)
 number-done PublicKeyRange e = absurd (omega arith)
 number-done WrongHash e = absurd (omega arith)
-number-done SecretRange e = absurd (omega arith)
 number-done MaskRange e = absurd (omega arith)
 number-done ShareRange e = absurd (omega arith)
 number-done ShortStream e = absurd (omega arith)

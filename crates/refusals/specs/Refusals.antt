@@ -1,11 +1,12 @@
--- Document 01, Refusals by place: answers, their numbers, rows, and the condition of row 1.
+-- Document 01, Refusals by place, as document 02's change requests leave it: answers, their numbers, rows, and the
+-- condition of row 1.
 use mathlib.Core.Bool.{Bool, true, cond, _&&_}
 use mathlib.Core.List.{List, [], _∷_}
 use Prim.Native.Nat.{ℕ}
 use lib.Dec.{eqb}
 use lib.ListN.{length}
 use Rattle.refusals.specs.declared.Answer.{Answer}
-use Rattle.refusals.specs.declared.Answer.the-variants.{Done, WrongLength, PublicKeyRange, WrongHash, SecretRange}
+use Rattle.refusals.specs.declared.Answer.the-variants.{Done, WrongLength, PublicKeyRange, WrongHash}
 use Rattle.refusals.specs.declared.Answer.the-variants.{MaskRange, ShareRange, ShortStream, NoSuchStep}
 
 -- the number of a refusal; 0 where the call is carried out
@@ -14,7 +15,6 @@ number Done = 0
 number WrongLength = 1
 number PublicKeyRange = 2
 number WrongHash = 3
-number SecretRange = 4
 number MaskRange = 5
 number ShareRange = 6
 number ShortStream = 7

@@ -1,4 +1,4 @@
-// The conditions of rows 2 to 6: coefficients below q, and equal strings.
+// The conditions of rows 2, 3, 5 and 6: coefficients below q, and equal strings.
 ghost use mathlib.Core.Path.{_≡_};
 ghost use lib.ListN.{length};
 ghost use Rattle.refusals.specs.Reduced.{reduced as reducedOf};

@@ -67,7 +67,7 @@ pub getD-add-lt : (f g : List ℕ) (k : ℕ) → k < length f → getD (add f g)
 unfolding add
 getD-add-lt f g k h = getD-tab (length f) _ k 0 h
 
-getD-sub : (f g : List ℕ) (k : ℕ) → length f ≡ length g → getD (sub f g) k 0 ≡ minus (getD f k 0) (getD g k 0)
+pub getD-sub : (f g : List ℕ) (k : ℕ) → length f ≡ length g → getD (sub f g) k 0 ≡ minus (getD f k 0) (getD g k 0)
 unfolding sub
 getD-sub f g k e = getD-both minus refl f g k e
 

@@ -1,8 +1,8 @@
--- Demand 3: under any two accepted keys with one public part and one stored hash, and for any ciphertext, equally many
--- choices give a value at a step.
+-- Demand 3: under any two accepted keys with one public part, and so with one stored hash, and for any ciphertext,
+-- equally many choices give a value at a step.
 use Prim.Native.Nat.{ℕ, zero, suc, _^_, _<_, _≤_}
 use mathlib.Core.Path.{_≡_, refl, sym, ap, ap₂, _∙_}
-use mathlib.Core.List.{List, [], _∷_, _++_}
+use mathlib.Core.List.{List, [], _∷_}
 use native.Mathlib.Decide.{decLt}
 use native.Mathlib.Nat.{zero-add}
 use native.Mathlib.Omega.{arith}
@@ -26,31 +26,28 @@ use Rattle.stages.specs.Fits.{fits768}
 use Rattle.mlkem.specs.MlKem.{publicPart, hashPart}
 use Rattle.kpke.specs.KPke.{matrixFull}
 use Rattle.mlkem.specs.Calls.{rhoOf}
-use Rattle.split_key.specs.SplitKey.{SplitKey, splitKey, secondCoeffs, secondWords, split}
+use Rattle.split_key.specs.SplitKey.{SplitKey, splitKey, secondCoeffs, secondWords, publicOf, split}
 use Rattle.stages.specs.Counts768.{counts768}
 use Rattle.stages.specs.Worksheet.{worksheet}
 use Rattle.stages.specs.WorksheetUses.{uses-worksheet}
-use Rattle.split_key.specs.AcceptedLaws.{accepted-secret}
+use Rattle.split_key.specs.AcceptedLaws.{accepted-public}
 use Rattle.silence.specs.Claim.{Key, Ciphertext, gives, choices}
 use Rattle.silence.specs.WorksheetSilence.{worksheet-stage}
 use Rattle.silence.specs.SplitSilence.{coupled-firsts}
 
 -- ---- the public key and h, as import stores them
 
-abbrev stored : List ℕ → List ℕ
-stored dk = publicPart mlKem768 dk ++ hashPart mlKem768 dk
-
 module _ {dk : List ℕ} (key : Key dk) where
-  stored-hash : drop 1184 (stored dk) ≡ hashPart mlKem768 dk
-  stored-hash =
+  public-hash : drop 1184 (publicOf mlKem768 dk) ≡ hashPart mlKem768 dk
+  public-hash =
       drop-at (publicPart mlKem768 dk) (hashPart mlKem768 dk) 1184
       (length-part 1152 1184 dk (omega (arith, key .accepts .long)))
 
-  length-hash : length (drop 1184 (stored dk)) ≡ 32
-  length-hash = ap length stored-hash ∙ length-part 2336 32 dk (omega (arith, key .accepts .long))
+  length-hash : length (drop 1184 (publicOf mlKem768 dk)) ≡ 32
+  length-hash = ap length public-hash ∙ length-part 2336 32 dk (omega (arith, key .accepts .long))
 
-  below-hash : Below 256 (drop 1184 (stored dk))
-  below-hash = rw stored-hash (below-take 32 (below-drop 2336 (key .bytes)))
+  below-hash : Below 256 (drop 1184 (publicOf mlKem768 dk))
+  below-hash = rw public-hash (below-take 32 (below-drop 2336 (key .bytes)))
 
 -- ---- the first shares drawn, the key split with them, and the worksheet
 
@@ -68,26 +65,27 @@ like-words = like-times 4 (λ j h. draw-c identity (λ x l. ret-c tt))
 abbrev splitWith : List ℕ → List ℕ → List ℕ → List ℕ → SplitKey
 splitWith dk a w public = splitKey a (secondCoeffs mlKem768 dk a) w (secondWords mlKem768 dk w) public
 
-split-stored : (dk a w : List ℕ) {public : List ℕ} → stored dk ≡ public
+split-public : (dk a w : List ℕ) {public : List ℕ} → publicOf mlKem768 dk ≡ public
     → split mlKem768 dk a w ≡ splitWith dk a w public
 unfolding split
-split-stored dk a w e = ap (splitWith dk a w) e
+split-public dk a w e = ap (splitWith dk a w) e
 
 module _ {dk dk′ c : List ℕ} (key : Key dk) (key′ : Key dk′) (ct : Ciphertext c)
-    (e : publicPart mlKem768 dk ≡ publicPart mlKem768 dk′) (f : hashPart mlKem768 dk ≡ hashPart mlKem768 dk′) where
+    (e : publicPart mlKem768 dk ≡ publicPart mlKem768 dk′) where
   sameAt-drawn : (t : ℕ) → t < 187794 → SameAt t (drawn dk c) (drawn dk′ c)
   sameAt-drawn t h =
+      let public = publicOf mlKem768 dk in
       let x =
-      worksheet-stage mlKem768 fits768 (stored dk) c (length-hash key) (below-hash key) (ct .long) (ct .bytes) .entry t
+      worksheet-stage mlKem768 fits768 public c (length-hash key) (below-hash key) (ct .long) (ct .bytes) .entry t
       (rw (counts768 .steps) h)
       in
+      let same-public = accepted-public mlKem768 (key′ .accepts) (key .accepts) (sym e) in
       sameAt-recount (zero-add t)
       (sameAt-right
-      (coupled-firsts mlKem768 dk dk′ (x .0 .0) (accepted-secret mlKem768 (key .accepts))
-      (accepted-secret mlKem768 (key′ .accepts))) (λ a a′ r.
+      (coupled-firsts mlKem768 dk dk′ (x .0 .0)) (λ a a′ r.
       sameAt-recount (zero-add t)
       (sameAt-right like-words (λ w w′ u.
-      rw (split-stored dk a w refl, split-stored dk′ a′ w′ (ap₂ (λ (l m : List ℕ). l ++ m) (sym e) (sym f)))
+      rw (split-public dk a w refl, split-public dk′ a′ w′ same-public)
       (x .1 _ _ (record { main = r; side = tt }))))))
 
 -- ---- the count
@@ -121,15 +119,15 @@ module _ {dk c : List ℕ} (key : Key dk) (ct : Ciphertext c) where
   gives-past t v h a w ws cs = hit-past t v _ (omega (arith, length-entries (uses-split a w) ws cs))
 
 pub demand3 : {dk dk′ c : List ℕ} → Key dk → Key dk′ → Ciphertext c → publicPart mlKem768 dk ≡ publicPart mlKem768 dk′
-    → hashPart mlKem768 dk ≡ hashPart mlKem768 dk′ → (t v : ℕ) → choices dk c t v ≡ choices dk′ c t v
+    → (t v : ℕ) → choices dk c t v ≡ choices dk′ c t v
 unfolding choices
-demand3 {dk} {dk′} {c} key key′ ct e f t v =
+demand3 {dk} {dk′} {c} key key′ ct e t v =
     ap₂ when (ap (λ (ek : List ℕ). matrixFull (mlKem768 .k) (rhoOf mlKem768 ek)) e) (go (decLt t 187794))
   where
     go : Dec (t < 187794) → counted dk c t v ≡ counted dk′ c t v
     go (yes h) =
         sym (hits-drawn-counted key ct t v)
-        ∙ equal-hits (sameAt-drawn key key′ ct e f t h) v
+        ∙ equal-hits (sameAt-drawn key key′ ct e t h) v
         ∙ hits-drawn-counted key′ ct t v
     go (no h) =
         tally-cong (replicate 768 q) (λ a.

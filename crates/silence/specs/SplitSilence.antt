@@ -1,13 +1,12 @@
 -- The split that import makes, under two keys: the first shares can be matched so that either share of the secret is
 -- equal.
-use Prim.Native.Nat.{ℕ, _+_, _-_, _*_, _%_, _<_}
+use Prim.Native.Nat.{ℕ, _*_, _%_, _<_}
 use mathlib.Core.Path.{_≡_, refl, sym, _∙_}
 use mathlib.Core.Bool.{Bool, true, false}
 use mathlib.Core.List.{List}
 use native.Mathlib.Nat.{mod-lt, mul-zero}
 use native.Mathlib.Omega.{arith}
 use lib.ListN.{getD}
-use Rattle.words.specs.Bounded.{Below}
 use Rattle.words.specs.Residue.{q}
 use Rattle.words.specs.TabLaws.{tab-of, tab-cong}
 use Rattle.worksheet.specs.declared.Shares.{Shares}
@@ -21,31 +20,33 @@ use Rattle.worksheet.specs.SharingLaws.{share}
 use Rattle.worksheet.specs.CoeffSharing.{CoeffSharing, coeffKeep-lt, share-coeffKeep}
 use Rattle.worksheet.specs.SharedList.{sharedList}
 use Rattle.worksheet.specs.Choice.{SameShare}
+use Rattle.ring.specs.Polynomial.{minus, sub}
 use Rattle.kpke.specs.Parameters.{Parameters}
 use Rattle.mlkem.specs.MlKem.{secretPart}
 use Rattle.vectors.specs.Vector.{coefficients}
+use Rattle.vectors.specs.VectorLaws.{length-coefficients}
 use Rattle.split_key.specs.SplitKey.{secondCoeffs}
 
 -- ---- one coefficient X, whose first share is x
 
 abbrev splitCoeff : ℕ → ℕ → Shares
-splitCoeff X x = shares x ((X + (q - x)) % q)
+splitCoeff X x = shares x (minus X x)
 
 q-positive : 0 < q
 q-positive = omega arith
 
-coeffSharing-splitCoeff : {X x : ℕ} → X < q → x < q → CoeffSharing q X (splitCoeff X x)
-coeffSharing-splitCoeff h g = record { lt0 = g; lt1 = mod-lt _ q-positive; sums = omega arith }
+coeffSharing-splitCoeff : (X : ℕ) {x : ℕ} → x < q → CoeffSharing q (X % q) (splitCoeff X x)
+coeffSharing-splitCoeff X g = record { lt0 = g; lt1 = mod-lt _ q-positive; sums = omega arith }
 
-coupled-first : (c : Bool) {X X′ : ℕ} → X < q → X′ < q
+coupled-first : (c : Bool) (X X′ : ℕ)
     → Coupled (λ x x′. share c (splitCoeff X x) ≡ share c (splitCoeff X′ x′)) 0 (mask coeff) (mask coeff)
 unfolding mask byAdding
-coupled-first c {X} {X′} h h′ =
-    draw-c (byAdding (coeffKeep-lt c X X′ q-positive)) (λ x l.
+coupled-first c X X′ =
+    draw-c (byAdding (coeffKeep-lt c (X % q) (X′ % q) q-positive)) (λ x l.
     ret-c (share-coeffKeep c
     (record {
-      left = coeffSharing-splitCoeff h l;
-      right = coeffSharing-splitCoeff h′ (mod-lt _ q-positive);
+      left = coeffSharing-splitCoeff X l;
+      right = coeffSharing-splitCoeff X′ (mod-lt _ q-positive);
       by = refl;
     })))
 
@@ -60,21 +61,25 @@ module _ (p : Parameters) (dk dk′ : List ℕ) where
 
   sameShare-split : (c : Bool) {a a′ : List ℕ} → Turns (SameSplit c) (256 * p .k) a a′
       → SameShare c (sharedList a (secondCoeffs p dk a)) (sharedList a′ (secondCoeffs p dk′ a′))
-  unfolding secondCoeffs
+  unfolding secondCoeffs sub
   sameShare-split false {a} {a′} r =
       record {
         same =
             tab-of 0 a (256 * p .k) (r .long) (r .at 0 0)
             ∙ sym (tab-of 0 a′ (256 * p .k) (r .long′) (λ i h. refl));
       }
-  sameShare-split true r = record { same = tab-cong (256 * p .k) (r .at 0 0) }
+  sameShare-split true r =
+      record {
+        same =
+            rw (length-coefficients (p .k) (secretPart p dk), length-coefficients (p .k) (secretPart p dk′))
+            (tab-cong (256 * p .k) (r .at 0 0));
+      }
 
-  pub coupled-firsts : (c : Bool) → Below q (coefficients (p .k) (secretPart p dk))
-      → Below q (coefficients (p .k) (secretPart p dk′))
+  pub coupled-firsts : (c : Bool)
       → Coupled (λ a a′. SameShare c (sharedList a (secondCoeffs p dk a)) (sharedList a′ (secondCoeffs p dk′ a′))) 0
       (times (256 * p .k) (λ i. mask coeff)) (times (256 * p .k) (λ i. mask coeff))
-  coupled-firsts c t t′ =
+  coupled-firsts c =
       coupled-recount (mul-zero (256 * p .k))
       (coupled-weaken (λ a a′ r. sameShare-split c r)
       (coupled-times (256 * p .k) {R = SameSplit c} (λ i h.
-      coupled-first c (t .at i) (t′ .at i))))
+      coupled-first c (coeffAt dk i) (coeffAt dk′ i))))

@@ -12,7 +12,6 @@ use lib.Dec.{eqb, ltb}
 use lib.ListN.{length, getD, drop, replicate, length-append}
 use lib.Seq.{take-at}
 use Rattle.words.specs.Bounded.{Below}
-use Rattle.words.specs.BoundedLaws.{below-tab}
 use Rattle.words.specs.Residue.{q}
 use Rattle.words.specs.TabLaws.{length-tab}
 use Rattle.words.specs.Part.{length-part}
@@ -25,10 +24,13 @@ use Rattle.refusals.specs.declared.Answer.the-variants.{Done, ShortStream, NoSu
 use Rattle.refusals.specs.Refusals.{number}
 use Rattle.kpke.specs.Parameters.{mlKem768}
 use Rattle.kpke.specs.KPke.{matrixFull}
-use Rattle.mlkem.specs.MlKem.{publicPart, hashPart}
+use Rattle.ring.specs.Sum.{below-sub}
+use Rattle.vectors.specs.Vector.{coefficients}
+use Rattle.mlkem.specs.MlKem.{secretPart, publicPart, hashPart}
 use Rattle.refusals.specs.ReducedLaws.{below-reduced}
 use Rattle.mlkem.specs.Calls.{rhoOf}
 use Rattle.split_key.specs.SplitKey.{secondCoeffs, secondWords, split}
+use Rattle.split_key.specs.SplitLaws.{length-secondCoeffs}
 use Rattle.stages.specs.Counts768.{counts768}
 use Rattle.tracing.specs.Trace as trace
 use Rattle.decapsulation.specs.Calls.{Input, sheet, imported, traceAnswer, traceValue}
@@ -57,10 +59,16 @@ module _ {dk c : List ℕ} (key : Key dk) (ct : Ciphertext c) where
     g = imported mlKem768 dk a w c ws cs
 
     all-long : Sized mlKem768 g
-    unfolding split secondCoeffs secondWords
+    unfolding split secondWords
     all-long =
         record {
-          key = record { s0 = la; s1 = length-tab 768 _; z0 = lw; z1 = length-tab 4 _; public = length-public };
+          key = record {
+            s0 = la;
+            s1 = length-secondCoeffs mlKem768 dk a;
+            z0 = lw;
+            z1 = length-tab 4 _;
+            public = length-public;
+          };
           ct = ct .long;
           words = lws ∙ sym (counts768 .stripWords);
           coeffs = lcs ∙ sym (counts768 .stripCoeffs);
@@ -68,7 +76,7 @@ module _ {dk c : List ℕ} (key : Key dk) (ct : Ciphertext c) where
 
     second-below : Below q (secondCoeffs mlKem768 dk a)
     unfolding secondCoeffs
-    second-below = below-tab 768 (omega arith) (λ i h. omega arith)
+    second-below = below-sub (coefficients 3 (secretPart mlKem768 dk)) a
 
     answered : traceAnswer mlKem768 g t ≡ cond full (cond (ltb t 187794) Done NoSuchStep) ShortStream
     unfolding split
@@ -110,10 +118,9 @@ module _ {dk c : List ℕ} (key : Key dk) (ct : Ciphertext c) where
       ∙ tally-when full (replicate 768 q)
       (λ a. tally (replicate 4 (2 ^ 64)) (λ w. strips 11750 7424 (λ ws cs. gives dk c t v a w ws cs)))
 
--- under two accepted keys with one public part and one stored hash equally many choices make the trace hand back a
--- value
+-- under two accepted keys with one public part equally many choices make the trace hand back a value
 pub demand3-trace : {dk dk′ c : List ℕ} → Key dk → Key dk′ → Ciphertext c
     → publicPart mlKem768 dk ≡ publicPart mlKem768 dk′
-    → hashPart mlKem768 dk ≡ hashPart mlKem768 dk′ → (t v : ℕ) → traceChoices dk c t v ≡ traceChoices dk′ c t v
-demand3-trace key key′ ct e f t v =
-    traceChoices-choices key ct t v ∙ demand3 key key′ ct e f t v ∙ sym (traceChoices-choices key′ ct t v)
+    → (t v : ℕ) → traceChoices dk c t v ≡ traceChoices dk′ c t v
+demand3-trace key key′ ct e t v =
+    traceChoices-choices key ct t v ∙ demand3 key key′ ct e t v ∙ sym (traceChoices-choices key′ ct t v)

@@ -2,50 +2,41 @@
 -- changes), the answer's number n, and the split key as it is then (₁).
 use mathlib.Core.Path.{_≡_}
 use mathlib.Core.Bool.{not}
-use mathlib.Core.List.{List, [], _∷_, _++_}
+use mathlib.Core.List.{List, [], _∷_}
 use Prim.Native.Nat.{ℕ, _*_}
-use lib.ListN.{length, take}
+use lib.ListN.{length}
 use Rattle.refusals.specs.declared.Answer.{Answer}
-use Rattle.refusals.specs.declared.Answer.the-variants.{
-  Done,
-  WrongLength,
-  PublicKeyRange,
-  WrongHash,
-  SecretRange,
-  MaskRange,
-}
-use Rattle.refusals.specs.Refusals.{number, Row, row, answer, after, lent, sized}
+use Rattle.refusals.specs.declared.Answer.the-variants.{WrongLength, WrongHash, MaskRange}
+use Rattle.refusals.specs.Refusals.{number, Row, row, answer, after, Lent, lent, sized}
 use Rattle.refusals.specs.Same.{same}
 use Rattle.refusals.specs.Reduced.{reduced}
-use Rattle.kpke.specs.Parameters.{Parameters, vectorBytes, dkBytes}
+use Rattle.kpke.specs.Parameters.{Parameters, dkBytes}
 use Rattle.hash_functions.specs.Functions.{H}
-use Rattle.vectors.specs.Vector.{coefficients}
-use Rattle.mlkem.specs.MlKem.{secretPart, publicPart, hashPart}
+use Rattle.mlkem.specs.MlKem.{publicPart, hashPart}
 use Rattle.split_key.specs.SplitKey.{SplitKey, keyLengths, split}
 
 module _ (p : Parameters) where
-  -- rows 2 to 4, which ask of the key alone
-  unfoldable pub keyRows : List ℕ → List Row
-  keyRows dk =
-      row (not (reduced (coefficients (p .k) (take (vectorBytes p) (publicPart p dk))))) PublicKeyRange
-      ∷ row (not (same (hashPart p dk) (H (publicPart p dk)))) WrongHash
-      ∷ row (not (reduced (coefficients (p .k) (secretPart p dk)))) SecretRange
-      ∷ []
+  -- the buffers with the lengths that they must have: the key dk, the masks, and those lent for the split key
+  abbrev pub importLengths : List ℕ → List ℕ → List ℕ → SplitKey → List Lent
+  importLengths dk maskCoeffs maskWords key =
+      lent dk (dkBytes p) ∷ lent maskCoeffs (256 * p .k) ∷ lent maskWords 4 ∷ keyLengths p key
 
-  -- of the key dk, the masks, and the buffers lent for the split key
+  -- rows 3 and 5
+  abbrev pub importRows : List ℕ → List ℕ → List Row
+  importRows dk maskCoeffs =
+      row (not (same (hashPart p dk) (H (publicPart p dk)))) WrongHash ∷ row (not (reduced maskCoeffs)) MaskRange ∷ []
+
+  -- row 1, and these
   unfoldable pub importAnswer : List ℕ → List ℕ → List ℕ → SplitKey → Answer
   importAnswer dk maskCoeffs maskWords key =
-      answer
-      (row
-      (not (sized (lent dk (dkBytes p) ∷ lent maskCoeffs (256 * p .k) ∷ lent maskWords 4 ∷ keyLengths p key)))
-      WrongLength
-      ∷ (keyRows dk ++ row (not (reduced maskCoeffs)) MaskRange ∷ []))
+      answer (row (not (sized (importLengths dk maskCoeffs maskWords key))) WrongLength ∷ importRows dk maskCoeffs)
 
   pub record Imported (dk maskCoeffs maskWords : List ℕ) (key₀ : SplitKey) (n : ℕ) (key₁ : SplitKey) : Type 0 where
     pub answer : n ≡ number (importAnswer dk maskCoeffs maskWords key₀)
     pub key : key₁ ≡ after n (split p dk maskCoeffs maskWords) key₀
 
-  -- a key that import does not refuse, its other arguments being in order
+  -- a key that import does not refuse, its other arguments being in order: FIPS 203's checks of a decapsulation key
+  -- (section 7.3), of its length and of its hash
   pub record Accepted (dk : List ℕ) : Type 0 where
     pub long : length dk ≡ dkBytes p
-    pub rows : answer (keyRows dk) ≡ Done
+    pub hash : hashPart p dk ≡ H (publicPart p dk)

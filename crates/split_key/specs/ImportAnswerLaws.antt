@@ -1,24 +1,21 @@
 -- Import's answer and what it leaves: lengths that are exact pass row 1, so that the other rows decide, and a refused
 -- import leaves each lent buffer as it was.
 use mathlib.Core.Path.{_≡_, sym, ap}
-use mathlib.Core.Bool.{not}
-use mathlib.Core.List.{List, [], _∷_, _++_}
+use mathlib.Core.List.{List}
 use Prim.Native.Nat.{ℕ, _<_}
 use Rattle.refusals.specs.declared.Answer.{Answer}
-use Rattle.refusals.specs.declared.Answer.the-variants.{WrongLength, MaskRange}
-use Rattle.refusals.specs.Refusals.{number, row, answer}
-use Rattle.refusals.specs.Reduced.{reduced}
+use Rattle.refusals.specs.declared.Answer.the-variants.{WrongLength}
+use Rattle.refusals.specs.Refusals.{number, answer}
 use Rattle.refusals.specs.RefusalLaws.{passed, exact-sized, after-kept}
 use Rattle.kpke.specs.Parameters.{Parameters}
 use Rattle.split_key.specs.SplitKey.{SplitKey}
-use Rattle.split_key.specs.Import.{keyRows, importAnswer, Imported}
+use Rattle.split_key.specs.Import.{importRows, importAnswer, Imported}
 use Rattle.split_key.specs.Sized.{ImportSized}
 
 module _ (p : Parameters) (r : Answer) where
   module _ {dk maskCoeffs maskWords : List ℕ} {key : SplitKey} where
     pub import-answer : ImportSized p dk maskCoeffs maskWords key
-        → answer (keyRows p dk ++ row (not (reduced maskCoeffs)) MaskRange ∷ []) ≡ r
-        → importAnswer p dk maskCoeffs maskWords key ≡ r
+        → answer (importRows p dk maskCoeffs) ≡ r → importAnswer p dk maskCoeffs maskWords key ≡ r
     unfolding importAnswer
     import-answer s h =
         let k = s .key in

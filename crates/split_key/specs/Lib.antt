@@ -1,4 +1,5 @@
 pub mod SplitKey
+pub mod SplitLaws
 pub mod Import
 pub mod Sized
 pub mod ImportAnswerLaws

@@ -1,14 +1,17 @@
--- What import's functions ask of what is lent: lengths, and of write_split the coefficients and the masks' range.
+-- The lengths that import's functions ask for.
 use mathlib.Core.Path.{_≡_}
-use mathlib.Core.Bool.{true}
 use mathlib.Core.List.{List}
 use Prim.Native.Nat.{ℕ, _+_, _*_}
 use lib.ListN.{length}
 use Rattle.kpke.specs.Parameters.{Parameters, ekBytes, dkBytes}
-use Rattle.vectors.specs.Vector.{coefficients}
-use Rattle.refusals.specs.Reduced.{reduced}
-use Rattle.mlkem.specs.MlKem.{secretPart}
 use Rattle.split_key.specs.SplitKey.{SplitKey}
+
+-- x has m elements, the masks and both shares n
+pub record SharingInput (m n : ℕ) (x₀ masks₀ share0₀ share1₀ : List ℕ) : Type 0 where
+  pub x : length x₀ ≡ m
+  pub masks : length masks₀ ≡ n
+  pub share0 : length share0₀ ≡ n
+  pub share1 : length share1₀ ≡ n
 
 module _ (p : Parameters) where
   pub record SplitSized (key : SplitKey) : Type 0 where
@@ -23,17 +26,3 @@ module _ (p : Parameters) where
     pub maskCoeffs : length maskCoeffs₀ ≡ 256 * p .k
     pub maskWords : length maskWords₀ ≡ 4
     pub key : SplitSized key₀
-
-  -- for the key's coefficients in s
-  pub record SplitInput (dk s maskCoeffs maskWords : List ℕ) (key : SplitKey) : Type 0 where
-    pub sized : ImportSized dk maskCoeffs maskWords key
-    pub long : length s ≡ 256 * p .k
-    pub secret : s ≡ coefficients (p .k) (secretPart p dk)
-    pub range : reduced maskCoeffs ≡ true
-
--- x has m elements, the masks and both shares n
-pub record SharingInput (m n : ℕ) (x₀ masks₀ share0₀ share1₀ : List ℕ) : Type 0 where
-  pub x : length x₀ ≡ m
-  pub masks : length masks₀ ≡ n
-  pub share0 : length share0₀ ≡ n
-  pub share1 : length share1₀ ≡ n

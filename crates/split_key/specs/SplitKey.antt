@@ -1,11 +1,11 @@
 -- Document 01, The work and its edge: a split key, and the split that import makes of a key.
 use mathlib.Core.List.{List, [], _∷_, _++_}
-use Prim.Native.Nat.{ℕ, _+_, _-_, _*_, _%_}
+use Prim.Native.Nat.{ℕ, _+_, _*_}
 use lib.ListN.{getD, take, drop}
 use Rattle.words.specs.Word.{xor}
-use Rattle.words.specs.Residue.{q}
 use Rattle.words.specs.Tab.{tab}
 use Rattle.fips202.specs.Sponge.{laneOf}
+use Rattle.ring.specs.Polynomial.{sub}
 use Rattle.worksheet.specs.SharedList.{SharedList, sharedList}
 use Rattle.refusals.specs.Refusals.{Lent, lent}
 use Rattle.kpke.specs.Parameters.{Parameters, ekBytes}
@@ -42,14 +42,17 @@ module _ (p : Parameters) where
 
   -- ---- import's split of dk: the first shares are the masks
 
+  -- (c - mask) mod q, for each coefficient c of the secret part as it stands
   unfoldable pub secondCoeffs : List ℕ → List ℕ → List ℕ
-  secondCoeffs dk maskCoeffs =
-      tab (256 * p .k) (λ i. (getD (coefficients (p .k) (secretPart p dk)) i 0 + (q - getD maskCoeffs i 0)) % q)
+  secondCoeffs dk maskCoeffs = sub (coefficients (p .k) (secretPart p dk)) maskCoeffs
 
   unfoldable pub secondWords : List ℕ → List ℕ → List ℕ
   secondWords dk maskWords = tab 4 (λ i. xor (laneOf (zPart p dk) i) (getD maskWords i 0))
 
+  -- the public key and h, as they stand
+  abbrev pub publicOf : List ℕ → List ℕ
+  publicOf dk = publicPart p dk ++ hashPart p dk
+
   unfoldable pub split : List ℕ → List ℕ → List ℕ → SplitKey
   split dk maskCoeffs maskWords =
-      splitKey maskCoeffs (secondCoeffs dk maskCoeffs) maskWords (secondWords dk maskWords)
-      (publicPart p dk ++ hashPart p dk)
+      splitKey maskCoeffs (secondCoeffs dk maskCoeffs) maskWords (secondWords dk maskWords) (publicOf dk)

@@ -1,20 +1,23 @@
-// Import: a decapsulation key (FIPS 203, algorithm 16) is tested, by section 7.3's hash check among others, and split.
+// Import: a decapsulation key (FIPS 203, algorithm 16) is tested, by section 7.3's checks of its length and its hash,
+// and split. Its coefficients are taken modulo q, as algorithm 6 takes them.
 ghost use mathlib.Core.Path.{_≡_};
-ghost use lib.ListN.{getD, length};
-ghost use Rattle.words.specs.Word.{xor};
+ghost use lib.ListN.{getD, length, take, drop};
 ghost use Rattle.words.specs.Tab.{tab};
-ghost use Rattle.fips202.specs.Sponge.{laneOf, sha3-256};
+ghost use Rattle.words.specs.Word.{xor};
 ghost use Rattle.ring.specs.Polynomial.{sub};
 ghost use Rattle.worksheet.specs.SharedList.{sharedList};
 ghost use Rattle.kpke.specs.Parameters.{mlKem768};
+ghost use Rattle.vectors.specs.Vector.{coefficients};
+ghost use Rattle.fips202.specs.Sponge.{laneOf};
+ghost use Rattle.hash_functions.specs.Functions.{H as hashOf};
+ghost use Rattle.mlkem.specs.MlKem.{publicPart, hashPart};
 ghost use Rattle.split_key.specs.SplitKey.{splitKey, split};
 ghost use Rattle.split_key.specs.Import.{Imported};
-ghost use Rattle.split_key.specs.Sized.{ImportSized, SplitInput, SharingInput};
+ghost use Rattle.split_key.specs.Sized.{ImportSized, SharingInput};
 ghost use Rattle.refusals.specs.Refusals.{number};
 ghost use Rattle.refusals.specs.Same.{same as sameOf};
 use fips202::bytes::load;
 use hash_functions::hash_h;
-use mlkem::checks::vector_reduced;
 use refusals::Answer;
 use refusals::conditions::reduced;
 use refusals::conditions::same;
@@ -25,25 +28,29 @@ use slices::copy_coefficients;
 use vectors::decode_all;
 
 // Section 7.3, the hash check: h is the public key's hash.
-fn hash_matches(h: &[u8], ek: &[u8]) -> bool
-    requires { ⌜ length (now h) ≡ 32 ⌝ }
-    ensures { λ r. ⌜ r ≡ sameOf (now (h .entry)) (sha3-256 (now (ek .entry))) ⌝ }
+fn hash_matches(dk: &[u8]) -> bool
+    requires { ⌜ length (now dk) ≡ 2400 ⌝ }
+    ensures { λ r. ⌜
+        r ≡ sameOf (hashPart mlKem768 (now (dk .entry))) (hashOf (publicPart mlKem768 (now (dk .entry))))
+        ⌝ }
 {
     let mut t = [0u8; 32];
-    hash_h(ek, &mut t);
-    same(h, &t)
+    hash_h(&dk[1152..2336], &mut t);
+    same(&dk[2336..2368], &t)
 }
 
-// The shares of the coefficients s.
-fn split_coefficients(s: &[u16], mask_coeffs: &[u16], s0: &mut [u16], s1: &mut [u16])
-    requires { ⌜ SharingInput 768 768 (now s) (now «mask_coeffs») (now s0) (now s1) ⌝ }
+// The shares of the coefficients that b encodes.
+fn split_coefficients(b: &[u8], mask_coeffs: &[u16], s0: &mut [u16], s1: &mut [u16])
+    requires { ⌜ SharingInput 1152 768 (now b) (now «mask_coeffs») (now s0) (now s1) ⌝ }
     ensures { λ _. ⌜
         sharedList (now (s0 .exit)) (now (s1 .exit))
-        ≡ sharedList (now («mask_coeffs» .entry)) (sub (now (s .entry)) (now («mask_coeffs» .entry)))
+        ≡ sharedList
+        (now («mask_coeffs» .entry))
+        (sub (coefficients 3 (now (b .entry))) (now («mask_coeffs» .entry)))
         ⌝ }
 {
     copy_coefficients(mask_coeffs, s0);
-    copy_coefficients(s, s1);
+    decode_all(b, 3, s1);
     sub_from(s1, mask_coeffs);
 }
 
@@ -65,10 +72,17 @@ fn split_words(z: &[u8], mask_words: &[u64], z0: &mut [u64], z1: &mut [u64])
     }
 }
 
-// The split key, for the key's secret coefficients s.
+// The public key and h, as they stand in the key.
+fn copy_public(dk: &[u8], public: &mut [u8])
+    requires { ⌜ (length (now dk) ≡ 2400) × (length (now public) ≡ 1216) ⌝ }
+    ensures { λ _. ⌜ now (public .exit) ≡ take 1216 (drop 1152 (now (dk .entry))) ⌝ }
+{
+    copy_bytes(&dk[1152..2368], public);
+}
+
+// The split key.
 fn write_split(
     dk: &[u8],
-    s: &[u16],
     mask_coeffs: &[u16],
     mask_words: &[u64],
     s0: &mut [u16],
@@ -78,7 +92,7 @@ fn write_split(
     public: &mut [u8],
 )
     requires { ⌜
-        SplitInput mlKem768 (now dk) (now s) (now «mask_coeffs») (now «mask_words»)
+        ImportSized mlKem768 (now dk) (now «mask_coeffs») (now «mask_words»)
         (splitKey (now s0) (now s1) (now z0) (now z1) (now public))
         ⌝ }
     ensures { λ _. ⌜
@@ -86,9 +100,9 @@ fn write_split(
         ≡ split mlKem768 (now (dk .entry)) (now («mask_coeffs» .entry)) (now («mask_words» .entry))
         ⌝ }
 {
-    split_coefficients(s, mask_coeffs, s0, s1);
+    split_coefficients(&dk[0..1152], mask_coeffs, s0, s1);
     split_words(&dk[2368..2400], mask_words, z0, z1);
-    copy_bytes(&dk[1152..2368], public);
+    copy_public(dk, public);
 }
 
 // Import, row 1 passed.
@@ -113,22 +127,13 @@ fn import_sized(
         (splitKey (now (s0 .exit)) (now (s1 .exit)) (now (z0 .exit)) (now (z1 .exit)) (now (public .exit)))
         ⌝ }
 {
-    let mut s = [0u16; 768];
-    let ek = &dk[1152..2336];
-    if !vector_reduced(&ek[0..1152]) {
-        return Answer::PublicKeyRange;
-    }
-    if !hash_matches(&dk[2336..2368], ek) {
+    if !hash_matches(dk) {
         return Answer::WrongHash;
-    }
-    decode_all(&dk[0..1152], 3, &mut s);
-    if !reduced(&s) {
-        return Answer::SecretRange;
     }
     if !reduced(mask_coeffs) {
         return Answer::MaskRange;
     }
-    write_split(dk, &s, mask_coeffs, mask_words, s0, s1, z0, z1, public);
+    write_split(dk, mask_coeffs, mask_words, s0, s1, z0, z1, public);
     Answer::Done
 }
 

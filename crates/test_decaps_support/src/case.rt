@@ -1,4 +1,6 @@
-// A case of decapsulation, told in numbers: the turn whose key and ciphertext are taken, the masks, what is wrong.
+// A case of decapsulation, told in numbers: the turn whose key and ciphertext are taken, what is raised of the key, the
+// masks, what is wrong.
+use test_keys::elsewhere::Raised;
 use test_support::edges::Lengths;
 use test_support::edges::exact;
 use test_support::masks::Masks;
@@ -30,6 +32,7 @@ pub struct Fault {
 // The key is split under masks of one kind, the strip is of another.
 pub struct Case {
     pub turn: usize,
+    pub raised: Raised,
     pub ciphertext: Ciphertext,
     pub split: Masks,
     pub strip: Masks,
@@ -38,7 +41,13 @@ pub struct Case {
 }
 
 // Nothing is wrong.
-pub fn right(turn: usize, ciphertext: Ciphertext, split: Masks, strip: Masks) -> Case {
+pub fn right(
+    turn: usize,
+    raised: Raised,
+    ciphertext: Ciphertext,
+    split: Masks,
+    strip: Masks,
+) -> Case {
     let fault = Fault {
         part: Part::None,
         at: 0,
@@ -47,6 +56,7 @@ pub fn right(turn: usize, ciphertext: Ciphertext, split: Masks, strip: Masks) ->
     let lengths = exact();
     Case {
         turn: turn,
+        raised: raised,
         ciphertext: ciphertext,
         split: split,
         strip: strip,
@@ -59,6 +69,7 @@ pub fn right(turn: usize, ciphertext: Ciphertext, split: Masks, strip: Masks) ->
 pub fn wrong(fault: Fault, lengths: Lengths) -> Case {
     Case {
         turn: 0,
+        raised: Raised::None,
         ciphertext: Ciphertext::True,
         split: Masks::Drawn(9),
         strip: Masks::Drawn(9),

@@ -7,6 +7,8 @@ use crate::case::Ciphertext;
 use crate::case::Fault;
 use crate::case::Part;
 use refusals::Answer;
+use test_keys::elsewhere::Raised;
+use test_keys::elsewhere::raise_key;
 use test_keys::turn;
 use test_support::bytes::set_coefficients;
 use test_support::masks;
@@ -29,12 +31,19 @@ fn take_ciphertext(turn: usize, ciphertext: Ciphertext, ct: &mut [u8])
     }
 }
 
-fn make_key(turn: usize, ciphertext: Ciphertext, dk: &mut [u8], ct: &mut [u8])
-    requires { ⌜ length (now ct) ≡ 1089 ⌝ }
+fn make_raised(turn: usize, raised: Raised, dk: &mut [u8], ct: &mut [u8])
+    requires { ⌜ (length (now dk) ≡ 2400) × (length (now ct) ≡ 1088) ⌝ }
 {
     let mut ek = [0u8; 1184];
     let mut k = [0u8; 32];
-    turn::make(turn, &mut ek, dk, &mut ct[0..1088], &mut k);
+    turn::make(turn, &mut ek, dk, ct, &mut k);
+    raise_key(raised, turn, dk, ct);
+}
+
+fn make_key(turn: usize, raised: Raised, ciphertext: Ciphertext, dk: &mut [u8], ct: &mut [u8])
+    requires { ⌜ (length (now dk) ≡ 2400) × (length (now ct) ≡ 1089) ⌝ }
+{
+    make_raised(turn, raised, dk, &mut ct[0..1088]);
     take_ciphertext(turn, ciphertext, ct);
 }
 
@@ -115,11 +124,12 @@ pub fn make(
     requires { ⌜ Longer (now s0) (now s1) (now z0) (now z1) (now public) (now ct) (now words) (now coeffs) ⌝ }
 {
     let mut dk = [0u8; 2400];
+    let raised = case.raised;
     let ciphertext = case.ciphertext;
     let split = case.split;
     let strip = case.strip;
     let fault = case.fault;
-    make_key(case.turn, ciphertext, &mut dk, ct);
+    make_key(case.turn, raised, ciphertext, &mut dk, ct);
     let answer = make_split(&dk, split, s0, s1, z0, z1, public);
     make_strip(strip, words, coeffs);
     spoil(fault, s0, s1, coeffs);

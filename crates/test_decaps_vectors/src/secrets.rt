@@ -1,4 +1,5 @@
-// Secrets of true, damaged and random ciphertexts, under several splits of the key, each with several strips.
+// Secrets of true, damaged and random ciphertexts, and of keys with coefficients of 3329 and more, under several splits
+// of the key, each with several strips.
 ghost use mathlib.Core.Path.{_≡_};
 ghost use Prim.Native.Nat.{_≤_};
 ghost use lib.ListN.{length};
@@ -7,6 +8,7 @@ use test_decaps_support::calls::decaps_joined;
 use test_decaps_support::case::Case;
 use test_decaps_support::case::Ciphertext;
 use test_decaps_support::case::right;
+use test_keys::elsewhere::Raised;
 use test_support::masks::Masks;
 use text::print;
 use text::print_decimal;
@@ -24,8 +26,9 @@ fn kind(i: usize) -> Masks {
 
 // The same key and ciphertext, under split i / 4 with strip i % 4.
 fn masked(case: Case, i: usize) -> Case {
+    let raised = case.raised;
     let ciphertext = case.ciphertext;
-    right(case.turn, ciphertext, kind(i / 4), kind(i % 4))
+    right(case.turn, raised, ciphertext, kind(i / 4), kind(i % 4))
 }
 
 // 1 where the case gives the secret.
@@ -63,20 +66,35 @@ fn line(name: &[u8], case: Case) {
     print_hex(&secret);
 }
 
-fn drawn(turn: usize, ciphertext: Ciphertext) -> Case {
-    right(turn, ciphertext, Masks::Drawn(4), Masks::Drawn(4))
+fn drawn(turn: usize, raised: Raised, ciphertext: Ciphertext) -> Case {
+    right(turn, raised, ciphertext, Masks::Drawn(4), Masks::Drawn(4))
 }
 
 fn key(turn: usize) {
-    line(b"true", drawn(turn, Ciphertext::True));
-    line(b"first byte", drawn(turn, Ciphertext::Damaged(0, 255)));
-    line(b"last byte", drawn(turn, Ciphertext::Damaged(1087, 255)));
-    line(b"one bit", drawn(turn, Ciphertext::Damaged(500, 16)));
-    line(b"random", drawn(turn, Ciphertext::Random));
+    let none = Raised::None;
+    line(b"true", drawn(turn, none, Ciphertext::True));
+    line(
+        b"first byte",
+        drawn(turn, none, Ciphertext::Damaged(0, 255)),
+    );
+    line(
+        b"last byte",
+        drawn(turn, none, Ciphertext::Damaged(1087, 255)),
+    );
+    line(b"one bit", drawn(turn, none, Ciphertext::Damaged(500, 16)));
+    line(b"random", drawn(turn, none, Ciphertext::Random));
+}
+
+// Key 0 with coefficients raised; raised in its secret part alone it is the same key.
+fn elsewhere() {
+    line(b"raised secret", drawn(0, Raised::Secret, Ciphertext::True));
+    line(b"raised public", drawn(0, Raised::Public, Ciphertext::True));
+    line(b"raised both", drawn(0, Raised::Both, Ciphertext::True));
 }
 
 pub fn run() {
     key(0);
     key(1);
     key(2);
+    elsewhere();
 }

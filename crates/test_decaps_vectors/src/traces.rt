@@ -1,4 +1,5 @@
-// Traced values of one key, split and strip, for its true and its random ciphertext.
+// Traced values of one key, split and strip, for its true and its random ciphertext, and with 3329, 4095 and other such
+// coefficients in the key.
 ghost use mathlib.Core.Path.{_≡_};
 ghost use Prim.Native.Nat.{_+_, _*_, _<_, _≤_};
 ghost use lib.ListN.{length};
@@ -8,6 +9,7 @@ use test_decaps_support::calls::trace;
 use test_decaps_support::case::Case;
 use test_decaps_support::case::Ciphertext;
 use test_decaps_support::case::right;
+use test_keys::elsewhere::Raised;
 use test_support::answers::print_number;
 use test_support::hashes::print_hash;
 use test_support::masks::Masks;
@@ -139,13 +141,15 @@ fn print_traces(case: Case) {
     print_shares(case);
 }
 
-fn drawn(ciphertext: Ciphertext) -> Case {
-    right(0, ciphertext, Masks::Drawn(9), Masks::Drawn(9))
+fn drawn(raised: Raised, ciphertext: Ciphertext) -> Case {
+    right(0, raised, ciphertext, Masks::Drawn(9), Masks::Drawn(9))
 }
 
 pub fn run() {
     print(b"trace, true\n");
-    print_traces(drawn(Ciphertext::True));
+    print_traces(drawn(Raised::None, Ciphertext::True));
     print(b"trace, random\n");
-    print_traces(drawn(Ciphertext::Random));
+    print_traces(drawn(Raised::None, Ciphertext::Random));
+    print(b"trace, edged\n");
+    print_traces(drawn(Raised::Edged, Ciphertext::True));
 }

@@ -1,9 +1,11 @@
 // One value at each place of a key or of the masks, and what the call answers.
 ghost use mathlib.Core.Path.{_≡_};
-ghost use Prim.Native.Nat.{_+_, _<_, _≤_};
+ghost use Prim.Native.Nat.{_<_, _≤_};
 ghost use lib.ListN.{length};
 use refusals::number;
 use slices::copy_bytes;
+use test_keys::coefficients::put_at;
+use test_keys::elsewhere::fit_hash;
 use test_keys::import::fixed_coefficients;
 use test_keys::import::fixed_words;
 use test_keys::import::import;
@@ -21,36 +23,6 @@ enum Part {
     ImportHash,
     ImportSecret,
     ImportMask,
-}
-
-fn even_middle(b: u8, v: u16) -> u8 {
-    (b & 0xf0) | (v / 256 % 16) as u8
-}
-
-fn odd_middle(b: u8, v: u16) -> u8 {
-    (b & 0x0f) | (v % 16 * 16) as u8
-}
-
-// Coefficient i of an encoded vector becomes v.
-pub fn put(bytes: &mut [u8], i: usize, v: u16)
-    requires { ⌜ (length (now bytes) ≡ 1152) × (i < 768) ⌝ }
-{
-    let j = i / 2 * 3;
-    if i % 2 == 0 {
-        bytes[j + 1] = even_middle(bytes[j + 1], v);
-        bytes[j] = (v % 256) as u8;
-        return;
-    }
-    bytes[j + 1] = odd_middle(bytes[j + 1], v);
-    bytes[j + 2] = (v / 16 % 256) as u8;
-}
-
-// The same in the part of a key that starts at byte `at`.
-pub fn put_at(key: &mut [u8], at: usize, i: usize, v: u16)
-    requires { ⌜ (at + 1152 ≤ length (now key)) × (at ≤ 1152) × (i < 768) ⌝ }
-{
-    let e = at + 1152;
-    put(&mut key[at..e], i, v);
 }
 
 // out is the secret where the call is carried out.
@@ -72,22 +44,13 @@ fn encaps_public_key(ek: &[u8], i: usize, v: u16, out: &mut [u8]) -> u64
     99
 }
 
-// The stored hash becomes the public key's.
-fn hash_public_key(key: &mut [u8])
-    requires { ⌜ length (now key) ≡ 2400 ⌝ }
-{
-    let mut h = [0u8; 32];
-    fips202::sha3_256(&key[1152..2336], &mut h);
-    copy_bytes(&h, &mut key[2336..2368]);
-}
-
 fn import_public_key(dk: &[u8], i: usize, v: u16, out: &mut [u8]) -> u64
     requires { ⌜ (length (now dk) ≡ 2400) × (i < 768) ⌝ }
 {
     let mut key = [0u8; 2400];
     copy_bytes(dk, &mut key);
     put_at(&mut key, 1152, i, v);
-    hash_public_key(&mut key);
+    fit_hash(&mut key);
     import_masked(&key, out)
 }
 

@@ -1,8 +1,9 @@
 // Import of a key that gets one fault after the other: document 01's rows are tried from top to bottom.
 ghost use mathlib.Core.Path.{_≡_};
 ghost use lib.ListN.{length};
-use crate::places::put_at;
 use slices::copy_bytes;
+use test_keys::coefficients::put_at;
+use test_keys::elsewhere::fit_hash;
 use test_keys::import::fixed_coefficients;
 use test_keys::import::fixed_words;
 use test_keys::import::import;
@@ -26,19 +27,19 @@ fn change_hash(key: &mut [u8])
     key[2367] = key[2367] ^ 128;
 }
 
-// A mask, the secret part, the hash, the public key.
+// Coefficients of 3329 and more are no fault, in either part. A mask, the hash, the length are.
 fn import_faulty(key: &mut [u8], mask_coeffs: &mut [u16])
     requires { ⌜ (length (now key) ≡ 2400) × (length (now «mask_coeffs») ≡ 768) ⌝ }
 {
+    put_at(key, 0, 9, 3329);
+    put_at(key, 1152, 5, 4095);
+    fit_hash(key);
     print_import(0, key, mask_coeffs);
     mask_coeffs[100] = 3329;
     print_import(1, key, mask_coeffs);
-    put_at(key, 0, 9, 3329);
-    print_import(2, key, mask_coeffs);
     change_hash(key);
-    print_import(3, key, mask_coeffs);
-    put_at(key, 1152, 5, 3329);
-    print_import(4, key, mask_coeffs);
+    print_import(2, key, mask_coeffs);
+    print_import(3, &key[0..2399], mask_coeffs);
 }
 
 pub fn run(dk: &[u8])

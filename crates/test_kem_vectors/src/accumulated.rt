@@ -8,6 +8,7 @@ use test_decaps_support::calls::decaps_joined;
 use test_decaps_support::case::Case;
 use test_decaps_support::case::Ciphertext;
 use test_decaps_support::case::right;
+use test_keys::elsewhere::Raised;
 use test_keys::turn::make;
 use test_support::masks::Masks;
 use text::print;
@@ -17,7 +18,13 @@ use text::print_hex;
 // The turn's key, under masks that have the turn's number.
 fn drawn(turn: usize, ciphertext: Ciphertext) -> Case {
     let n = (turn % 100) as u8;
-    right(turn, ciphertext, Masks::Drawn(n), Masks::Drawn(n))
+    right(
+        turn,
+        Raised::None,
+        ciphertext,
+        Masks::Drawn(n),
+        Masks::Drawn(n),
+    )
 }
 
 // 1 where decapsulation of the turn's ciphertext gives its secret.

@@ -36,6 +36,14 @@ pub fn make(turn: usize, ek: &mut [u8], dk: &mut [u8], ct: &mut [u8], k: &mut [u
     make_drawn(&drawn, ek, dk, ct, k);
 }
 
+pub fn message(turn: usize, m: &mut [u8])
+    requires { ⌜ length (now m) ≡ 32 ⌝ }
+{
+    let mut drawn = [0u8; 1184];
+    draw(turn, &mut drawn);
+    copy_bytes(&drawn[64..96], m);
+}
+
 pub fn random_ciphertext(turn: usize, ct: &mut [u8])
     requires { ⌜ length (now ct) ≡ 1088 ⌝ }
 {

@@ -1,7 +1,7 @@
 -- Laws of vectors (FIPS 203, section 2.4.6): k parts of n elements, one after the other.
 use mathlib.Core.Path.{_≡_, refl, sym, ap, ap₂, _∙_}
-use mathlib.Core.List.{List, _++_}
-use Prim.Native.Nat.{ℕ, zero, suc, _+_, _*_, _<_}
+use mathlib.Core.List.{List, _++_, map, map-append}
+use Prim.Native.Nat.{ℕ, zero, suc, _+_, _*_, _%_, _<_}
 use native.Mathlib.Nat.{mul-zero, mul-suc, le-of-eq}
 use native.Mathlib.Decide.{decLt}
 use native.Mathlib.Omega.{arith}
@@ -11,9 +11,12 @@ use Rattle.words.specs.Bounded.{Below}
 use Rattle.words.specs.BoundedLaws.{below-nil, below-append}
 use Rattle.words.specs.IterateLaws.{iterate-cong}
 use Rattle.words.specs.Part.{length-part, part-append, part-fits, part-within}
+use Rattle.words.specs.Residue.{q}
+use Rattle.codec.specs.Bytes.{byteDecode, byteDecode12}
+use Rattle.codec.specs.BytesLaws.{length-byteDecode}
 use Rattle.ring.specs.Polynomial.{add}
 use Rattle.transform.specs.Transform.{multiplyNtts}
-use Rattle.vectors.specs.Vector.{parts, concat, dot}
+use Rattle.vectors.specs.Vector.{parts, concat, coefficients, dot}
 
 -- each of the k parts has n elements
 pub record Each (n k : ℕ) (f : ℕ → List ℕ) : Type 0 where
@@ -36,6 +39,12 @@ concat-cong zero h = refl
 concat-cong (suc k) h =
     ap₂ (λ (x y : List ℕ). x ++ y) (concat-cong k (λ i g. h i (omega arith))) (h k (omega arith))
 
+map-concat : (g : ℕ → ℕ) (k : ℕ) (f : ℕ → List ℕ) → map g (concat k f) ≡ concat k (λ i. map g (f i))
+unfolding concat
+map-concat g zero f = refl
+map-concat g (suc k) f =
+    map-append g (concat k f) (f k) ∙ ap (λ (l : List ℕ). l ++ map g (f k)) (map-concat g k f)
+
 pub parts-concat : {n k : ℕ} {f : ℕ → List ℕ} → Each n k f → (i : ℕ) → i < k → parts n (concat k f) i ≡ f i
 unfolding concat
 parts-concat {n} {k = zero} e i h = absurd (omega arith)
@@ -56,6 +65,16 @@ unfolding concat
 below-concat zero p h = below-nil p
 below-concat (suc k) {f} p h =
     below-append (concat k f) (below-concat k p (λ i g. h i (omega arith))) (h k (omega arith))
+
+pub length-coefficients : (k : ℕ) (b : List ℕ) → length (coefficients k b) ≡ 256 * k
+unfolding coefficients
+length-coefficients k b = length-concat (record { long = λ i h. length-byteDecode 12 (parts 384 b i) })
+
+-- the coefficients modulo q, polynomial by polynomial as ByteDecode_12 reads them
+pub reduced-coefficients : (k : ℕ) (b : List ℕ)
+    → map (λ x. x % q) (coefficients k b) ≡ concat k (λ i. byteDecode12 (parts 384 b i))
+unfolding coefficients byteDecode12
+reduced-coefficients k b = map-concat (λ x. x % q) k (λ i. byteDecode 12 (parts 384 b i))
 
 -- the k parts of a list of n k elements
 pub each-part : (n k : ℕ) (l : List ℕ) → length l ≡ n * k → Each n k (parts n l)

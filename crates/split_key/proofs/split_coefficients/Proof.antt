@@ -1,4 +1,4 @@
--- s0 is a copy of the masks, and s1 a copy of s from which they are then taken.
+-- s0 is a copy of the masks, and s1 holds the coefficients, from which they are then taken.
 use native.Mathlib.Omega.{arith}
 use borrow.Author.Needs.{needs}
 use Rattle.split_key.proofs.split_coefficients.Statement.{statement}

@@ -1,8 +1,8 @@
 -- Two coefficients share three bytes: i / 2 * 3 and the two places after it lie in 1,152 bytes, which a store keeps.
 use borrow.Author.Needs.{needs}
 use lib.ListN.{length-set}
-use Rattle.test_kem_refusals.proofs.places.put.Statement.{statement}
-use Rattle.test_kem_refusals.proofs.places.put.Tie as tie
+use Rattle.test_keys.proofs.coefficients.put.Statement.{statement}
+use Rattle.test_keys.proofs.coefficients.put.Tie as tie
 
 pub put-spec : {M : Type 1} → statement M
 put-spec =

@@ -1,8 +1,8 @@
 -- t holds the coefficients that b encodes, each of which is tested.
 use native.Mathlib.Omega.{arith}
 use borrow.Author.Needs.{needs}
-use Rattle.mlkem.proofs.checks.vector_reduced.Statement.{statement}
-use Rattle.mlkem.proofs.checks.vector_reduced.Tie as tie
+use Rattle.mlkem.proofs.encapsulation.vector_reduced.Statement.{statement}
+use Rattle.mlkem.proofs.encapsulation.vector_reduced.Tie as tie
 
 pub vector-reduced-spec : {M : Type 1} → statement M
 vector-reduced-spec =
