@@ -42,14 +42,14 @@ uint32_t tifo_sample(const uint8_t *stream, size_t stream_len, uint16_t *out, si
 /* Key making from the seeds d and z, 32 bytes each: the public key has 1,184 bytes, the decapsulation key 2,400 (1, 7). */
 uint32_t tifo_keygen(const uint8_t *d, size_t d_len, const uint8_t *z, size_t z_len, uint8_t *ek, size_t ek_len, uint8_t *dk, size_t dk_len);
 
-/* Encapsulation from the 32 bytes m: the ciphertext has 1,088 bytes, the secret 32 (1, 2, 7). It refuses some public keys whose decapsulation key
- * import takes: of these FIPS 203 asks that each coefficient be below 3329. */
+/* Encapsulation from the 32 bytes m: the ciphertext has 1,088 bytes, the secret 32 (1, 2, 7). FIPS 203 asks of a public key
+ * that each coefficient be below 3329, and of a decapsulation key not: import takes some whose public key is refused here. */
 uint32_t tifo_encaps(const uint8_t *ek, size_t ek_len, const uint8_t *m, size_t m_len, uint8_t *ct, size_t ct_len, uint8_t *k, size_t k_len);
 
-/* Import splits a decapsulation key, of which FIPS 203 asks a length of 2,400 bytes and the right hash (1, 3, 5). Coefficients from 3329 to 4095
- * are read modulo 3329, as the standard reads them: the split stands for the key with its secret coefficients reduced. The first shares are the
- * lent masks, 768 coefficients below 3329 and four words; the second shares are what is left of the key; pub is the public key and its hash,
- * 1,216 bytes, as they stand in the key. */
+/* Import splits a decapsulation key: 2,400 bytes, and h is the public key part's hash, as FIPS 203 asks. Coefficients from 3329 to 4095 are read
+ * modulo 3329, as the standard reads them: the split stands for the key with its secret coefficients reduced. The first shares are the lent masks,
+ * 768 coefficients below 3329 and four words; the second shares are what is left of the key; pub is the public key and its hash, 1,216 bytes, as
+ * they stand in the key (1, 3, 5). */
 uint32_t tifo_import(const uint8_t *dk, size_t dk_len, const uint16_t *mask_coeffs, size_t mask_coeffs_len, const uint64_t *mask_words, size_t mask_words_len,
                      uint16_t *s0, size_t s0_len, uint16_t *s1, size_t s1_len, uint64_t *z0, size_t z0_len, uint64_t *z1, size_t z1_len,
                      uint8_t *pub, size_t pub_len);

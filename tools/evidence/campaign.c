@@ -1,4 +1,4 @@
-/* Masked decapsulation, or the trace of a step, in the emulator under two keys with one public part and hash, of which the first accepts the ciphertext.
+/* Masked decapsulation, or the trace of a step, in the emulator under two keys with one public part, of which the first accepts the ciphertext.
  *
  * usage: campaign RUNS SEED STEP CONTROL MARK..
  * RUNS under each key; STEP -1 for decapsulation; CONTROL zero-shares, both-shares, branch or another word; MARK: addresses of functions whose calls mark the stages.

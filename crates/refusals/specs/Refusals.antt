@@ -1,5 +1,5 @@
--- Document 01, Refusals by place, as document 02's change requests leave it: answers, their numbers, rows, and the
--- condition of row 1.
+-- Document 01, Refusals by place, as ask 1 of document 02 changes it: answers, their numbers, rows, and the condition
+-- of row 1.
 use mathlib.Core.Bool.{Bool, true, cond, _&&_}
 use mathlib.Core.List.{List, [], _∷_}
 use Prim.Native.Nat.{ℕ}

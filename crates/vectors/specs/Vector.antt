@@ -17,7 +17,8 @@ unfoldable pub concat : ℕ → (ℕ → List ℕ) → List ℕ
 concat zero f = []
 concat (suc k) f = concat k f ++ f k
 
--- the coefficients that an encoded vector holds, as they stand: what the modulus check of section 7.2 looks at
+-- the coefficients that an encoded vector holds, as they stand: ByteDecode_12 (algorithm 6) before it reduces them,
+-- what the modulus check of section 7.2 looks at
 unfoldable pub coefficients : ℕ → List ℕ → List ℕ
 coefficients k b = concat k (λ i. byteDecode 12 (parts 384 b i))
 

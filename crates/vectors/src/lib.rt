@@ -65,7 +65,7 @@ pub fn encode_all(v: &[u16], d: u32, k: usize, out: &mut [u8])
     }
 }
 
-// ByteDecode_12 (algorithm 6) of each 384 bytes, before the reduction modulo q: what the modulus check (7.2) looks at.
+// ByteDecode_12 (algorithm 6) of each 384 bytes, before the reduction modulo q: the coefficients as they stand.
 pub fn decode_all(b: &[u8], k: usize, v: &mut [u16])
     requires { ⌜ (length (now b) ≡ 384 * k) × (length (now v) ≡ 256 * k) ⌝ }
     ensures { λ _. ⌜ now (v .exit) ≡ coefficients k (now (b .entry)) ⌝ }
