@@ -6,7 +6,7 @@ use mathlib.Core.List.{List, [], _++_}
 use Prim.Native.Nat.{ℕ, _<_}
 use native.Mathlib.Omega.{arith}
 use Rattle.refusals.specs.declared.Answer.the-variants.{Done, WrongLength, WrongHash, MaskRange}
-use Rattle.refusals.specs.Refusals.{number}
+use Rattle.refusals.specs.Refusals.{number, sized}
 use Rattle.refusals.specs.Reduced.{reduced}
 use Rattle.refusals.specs.Same.{same}
 use Rattle.refusals.specs.SameLaws.{same-refl, same-true}
@@ -20,26 +20,18 @@ use Rattle.split_key.specs.Sized.{ImportSized}
 use Rattle.split_key.specs.ImportAnswerLaws.{import-answer}
 
 module _ (p : Parameters) (dk maskCoeffs maskWords : List ℕ) (key : SplitKey) where
-  -- no row applies
-  pub record RowsPassed : Type 0 where
-    pub lengths : Exact (importLengths p dk maskCoeffs maskWords key)
-    pub hash : same (hashPart p dk) (H (publicPart p dk)) ≡ true
-    pub masks : reduced maskCoeffs ≡ true
-
-  pub import-passed : importAnswer p dk maskCoeffs maskWords key ≡ Done → RowsPassed
+  pub import-exact : importAnswer p dk maskCoeffs maskWords key ≡ Done
+      → Exact (importLengths p dk maskCoeffs maskWords key)
   unfolding importAnswer
-  import-passed e =
-      let n : (0 < number WrongLength) × (0 < number WrongHash) × (0 < number MaskRange) =
-      (omega arith, omega arith, omega arith) in
-      let r₁ = done-passed _ WrongLength _ (n .0) e in
-      let r₃ = done-passed (same (hashPart p dk) (H (publicPart p dk))) WrongHash _ (n .1) (r₁ .1) in
-      let r₅ = done-passed (reduced maskCoeffs) MaskRange [] (n .2) (r₃ .1) in
-      record { lengths = sized-exact _ (r₁ .0); hash = r₃ .0; masks = r₅ .0 }
+  import-exact e = sized-exact _ (done-passed _ WrongLength _ (omega arith) e .0)
 
   pub import-accepted : importAnswer p dk maskCoeffs maskWords key ≡ Done → Accepted p dk
+  unfolding importAnswer
   import-accepted e =
-      let r = import-passed e in
-      record { long = r .lengths .0; hash = same-true (hashPart p dk) (H (publicPart p dk)) (r .hash) }
+      let n : (0 < number WrongLength) × (0 < number WrongHash) = (omega arith, omega arith) in
+      let r₁ = done-passed (sized (importLengths p dk maskCoeffs maskWords key)) WrongLength _ (n .0) e in
+      let r₃ = done-passed (same (hashPart p dk) (H (publicPart p dk))) WrongHash _ (n .1) (r₁ .1) in
+      record { long = import-exact e .0; hash = same-true (hashPart p dk) (H (publicPart p dk)) (r₃ .0) }
 
   pub accepted-import : Accepted p dk → ImportSized p dk maskCoeffs maskWords key → reduced maskCoeffs ≡ true
       → importAnswer p dk maskCoeffs maskWords key ≡ Done

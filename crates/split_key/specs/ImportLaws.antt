@@ -6,10 +6,9 @@ use Rattle.words.specs.Bounded.{Below}
 use Rattle.refusals.specs.declared.Answer.the-variants.{Done}
 use Rattle.refusals.specs.RefusalLaws.{number-done}
 use Rattle.kpke.specs.Parameters.{Parameters}
-use Rattle.refusals.specs.ReducedLaws.{reduced-below}
 use Rattle.split_key.specs.Import.{importAnswer, Imported}
 use Rattle.split_key.specs.Importable.{Importable}
-use Rattle.split_key.specs.AcceptedLaws.{import-passed, import-accepted}
+use Rattle.split_key.specs.AcceptedLaws.{import-exact, import-accepted}
 use Rattle.split_key.specs.SplitKey.{SplitKey}
 
 module _ {p : Parameters} {dk maskCoeffs maskWords : List ℕ} {key₀ key : SplitKey}
@@ -19,12 +18,11 @@ module _ {p : Parameters} {dk maskCoeffs maskWords : List ℕ} {key₀ key : Spl
 
   pub imported-importable : Below 256 dk → Below (2 ^ 64) maskWords → Importable p dk maskCoeffs maskWords
   imported-importable bytes bits =
-      let r = import-passed p dk maskCoeffs maskWords key₀ done in
+      let long = import-exact p dk maskCoeffs maskWords key₀ done in
       record {
         accepted = import-accepted p dk maskCoeffs maskWords key₀ done;
         bytes = bytes;
-        coeffs = r .lengths .1 .0;
-        range = reduced-below maskCoeffs (r .masks);
-        words = r .lengths .1 .1 .0;
+        coeffs = long .1 .0;
+        words = long .1 .1 .0;
         bits = bits;
       }

@@ -1,9 +1,8 @@
--- An accepted key, and masks in order.
+-- An accepted key, and as many masks as its split takes.
 use mathlib.Core.Path.{_≡_}
 use mathlib.Core.List.{List}
 use Prim.Native.Nat.{ℕ, _*_, _^_}
 use lib.ListN.{length}
-use Rattle.words.specs.Residue.{q}
 use Rattle.words.specs.Bounded.{Below}
 use Rattle.kpke.specs.Parameters.{Parameters}
 use Rattle.split_key.specs.Import.{Accepted}
@@ -13,6 +12,5 @@ module _ (p : Parameters) where
     pub accepted : Accepted p dk
     pub bytes : Below 256 dk
     pub coeffs : length maskCoeffs ≡ 256 * p .k
-    pub range : Below q maskCoeffs
     pub words : length maskWords ≡ 4
     pub bits : Below (2 ^ 64) maskWords
