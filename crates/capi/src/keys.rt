@@ -1,5 +1,5 @@
 // Sampling, key making, encapsulation and import for C.
-ghost use Rattle.kpke.specs.Parameters.{mlKem768};
+ghost use Rattle.parameters.specs.Sets.{mlKem768};
 ghost use Rattle.split_key.specs.SplitKey.{splitKey};
 ghost use Rattle.mlkem.specs.Calls.{StreamSampled, KeysMade, Encapsulated};
 ghost use Rattle.split_key.specs.Import.{Imported};

@@ -1,5 +1,5 @@
 // Masked decapsulation and its trace for C.
-ghost use Rattle.kpke.specs.Parameters.{mlKem768};
+ghost use Rattle.parameters.specs.Sets.{mlKem768};
 ghost use Rattle.decapsulation.specs.Calls.{input, Decapsulated, Traced};
 use crate::refusal;
 

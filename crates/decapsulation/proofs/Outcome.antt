@@ -1,8 +1,8 @@
 -- What the one function leaves in the lent buffers, and how the two calls read it.
-use mathlib.Core.Path.{_≡_, sym, ap, _∙_, subst}
+use mathlib.Core.Path.{_≡_, refl, sym, ap, _∙_, subst}
 use mathlib.Core.Bool.{Bool, true, false, _&&_}
 use mathlib.Core.List.{List, [], _∷_, _++_}
-use Prim.Native.Nat.{ℕ, _<_, _≤_}
+use Prim.Native.Nat.{ℕ, _+_, _-_, _*_, _<_, _≤_}
 use native.Mathlib.Omega.{arith}
 use lib.Dec.{eqb}
 use lib.ListN.{length, take, drop, length-take, length-drop}
@@ -21,13 +21,16 @@ use Rattle.refusals.specs.RefusalLaws.{refused, passed, no-row, after-refused, 
 use Rattle.tracing.specs.Told.{toldAnswer, toldValue, leftOf}
 use Rattle.tracing.specs.Trace as trace
 use Rattle.tracing.specs.ToldLaws.{told-none, told-refused, told-over, told-done, ran-value, left-answer, left-value}
-use Rattle.kpke.specs.Parameters.{Parameters, mlKem768}
+use Rattle.parameters.specs.declared.Parameters.{Parameters}
+use Rattle.parameters.specs.Lengths.{ekBytes, ctBytes}
 use Rattle.vectors.specs.Vector.{concat}
 use Rattle.kpke.specs.KPke.{matrix, matrixFull}
 use Rattle.kpke.specs.Expanded.{Expanded, expanded-concat}
 use Rattle.refusals.specs.Reduced.{reduced}
+use Rattle.mlkem.specs.Calls.{rhoOf}
+use Rattle.split_key.specs.SplitKey.{ekOf}
 use Rattle.stages.specs.EntryCounts.{steps}
-use Rattle.stages.specs.Counts768.{counts768}
+use Rattle.stages.specs.Counts.{stripWords, stripCoeffs}
 use Rattle.stages.specs.Worksheet.{worksheet}
 use Rattle.stages.specs.Lent.{Long}
 use Rattle.decapsulation.specs.Calls.{Input, sheet, lengths, rows}
@@ -40,55 +43,64 @@ use Rattle.decapsulation.specs.AnswerLaws.{rows-passed, rows-refusing, r
 
 -- ---- row 1 as the code tests it
 
--- all that is lent to decapsulation
-abbrev pub all : Parameters → Input → List ℕ → List ℕ → List Lent
-all p g k0 k1 = lengths p g ++ lent k0 4 ∷ lent k1 4 ∷ []
+module _ (p : Parameters) (g : Input) (k0 k1 : List ℕ) where
+  -- all that is lent to decapsulation
+  abbrev pub all : List Lent
+  all = lengths p g ++ lent k0 4 ∷ lent k1 4 ∷ []
 
-module _ (g : Input) (k0 k1 : List ℕ) where
-  pub sized-same : sized (all mlKem768 g k0 k1)
-      ≡ same (length (g .key .s .s0) ∷ length (g .key .s .s1) ∷ length (g .key .z .s0) ∷ length (g .key .z .s1)
-      ∷ length (g .key .public) ∷ length (g .ct) ∷ length (g .words) ∷ length (g .coeffs) ∷ length k0 ∷ length k1 ∷ [])
-      (768 ∷ 768 ∷ 4 ∷ 4 ∷ 1216 ∷ 1088 ∷ 11750 ∷ 7424 ∷ 4 ∷ 4 ∷ [])
+  abbrev has : List ℕ
+  has =
+      length (g .key .s .s0) ∷ length (g .key .s .s1) ∷ length (g .key .z .s0) ∷ length (g .key .z .s1)
+      ∷ length (g .key .public) ∷ length (g .ct) ∷ length (g .words) ∷ length (g .coeffs) ∷ length k0 ∷ length k1 ∷ []
+
+  pub sized-same : sized all
+      ≡ same has
+      ((256 * p .k) ∷ (256 * p .k) ∷ 4 ∷ 4 ∷ (ekBytes p + 32) ∷ ctBytes p ∷ stripWords p ∷ stripCoeffs p ∷ 4 ∷ 4 ∷ [])
   unfolding sized same
-  sized-same = rw (counts768 .stripWords, counts768 .stripCoeffs)
+  sized-same = refl
+
+  -- with the lengths as the code counts them
+  pub same-wants : {h ct w c : ℕ} → h ≡ ekBytes p → ct ≡ ctBytes p → w ≡ stripWords p → c ≡ stripCoeffs p
+      → same has
+      ((256 * p .k) ∷ (256 * p .k) ∷ 4 ∷ 4 ∷ (ekBytes p + 32) ∷ ctBytes p ∷ stripWords p ∷ stripCoeffs p ∷ 4 ∷ 4 ∷ [])
+      ≡ same has ((256 * p .k) ∷ (256 * p .k) ∷ 4 ∷ 4 ∷ (h + 32) ∷ ct ∷ w ∷ c ∷ 4 ∷ 4 ∷ [])
+  same-wants e f g k = rw (e, f, g, k) refl
 
 sized-last : (bs cs : List Lent) → sized (bs ++ cs) ≡ true → sized cs ≡ true
 unfolding sized
 sized-last [] cs e = e
 sized-last (b ∷ bs) cs e = sized-last bs cs (and-right (eqb (length (b .list)) (b .size)) (sized (bs ++ cs)) e)
 
-module _ (g : Input) (k0 k1 : List ℕ) where
-  pub all-sized : sized (all mlKem768 g k0 k1) ≡ true → Sized mlKem768 g
-  all-sized e = sized-lengths mlKem768 g (sized-first (lengths mlKem768 g) _ e)
+module _ (p : Parameters) (g : Input) (k0 k1 : List ℕ) (e : sized (all p g k0 k1) ≡ true) where
+  pub all-sized : Sized p g
+  all-sized = sized-lengths p g (sized-first (lengths p g) _ e)
 
-  pub shares-long : sized (all mlKem768 g k0 k1) ≡ true → Long 4 (sharedList k0 k1)
-  shares-long e =
-      let x = sized-exact (lent k0 4 ∷ lent k1 4 ∷ []) (sized-last (lengths mlKem768 g) _ e) in
+  pub shares-long : Long 4 (sharedList k0 k1)
+  shares-long =
+      let x = sized-exact (lent k0 4 ∷ lent k1 4 ∷ []) (sized-last (lengths p g) _ e) in
       record { long0 = x .0; long1 = x .1 .0 }
 
 -- ---- where row 1 is passed, by the outcomes of the other tests
 
-module _ {g : Input} {k0 k1 : List ℕ} (l : Sized mlKem768 g) (k : Long 4 (sharedList k0 k1)) where
-  sized-all : sized (all mlKem768 g k0 k1) ≡ true
-  sized-all = sized-more (lengths mlKem768 g) _ (k .long0, (k .long1, tt)) ∙ lengths-sized mlKem768 g l
+module _ {p : Parameters} {g : Input} {k0 k1 : List ℕ} (l : Sized p g) (k : Long 4 (sharedList k0 k1)) where
+  sized-all : sized (all p g k0 k1) ≡ true
+  sized-all = sized-more (lengths p g) _ (k .long0, (k .long1, tt)) ∙ lengths-sized p g l
 
-  pub masks-refused : reduced (g .coeffs) ≡ false → answer (decapsRows mlKem768 g k0 k1) ≡ MaskRange
+  pub masks-refused : reduced (g .coeffs) ≡ false → answer (decapsRows p g k0 k1) ≡ MaskRange
   masks-refused e = passed WrongLength _ sized-all (refused MaskRange _ e)
 
   module _ (masks : reduced (g .coeffs) ≡ true) where
     pub shares-refused : (reduced (g .key .s .s0) && reduced (g .key .s .s1)) ≡ false
-        → answer (decapsRows mlKem768 g k0 k1) ≡ ShareRange
+        → answer (decapsRows p g k0 k1) ≡ ShareRange
     shares-refused e = passed WrongLength _ sized-all (passed MaskRange _ masks (refused ShareRange _ e))
 
     module _ (shares : (reduced (g .key .s .s0) && reduced (g .key .s .s1)) ≡ true) where
-      pub stream-refused : matrixFull 3 (drop 1152 (take 1184 (g .key .public))) ≡ false
-          → answer (decapsRows mlKem768 g k0 k1) ≡ ShortStream
-      stream-refused e = rows-passed mlKem768 g (all mlKem768 g k0 k1) sized-all masks shares (refused ShortStream _ e)
+      pub stream-refused : matrixFull (p .k) (rhoOf p (ekOf p (g .key))) ≡ false
+          → answer (decapsRows p g k0 k1) ≡ ShortStream
+      stream-refused e = rows-passed p g (all p g k0 k1) sized-all masks shares (refused ShortStream _ e)
 
-      pub all-passed : matrixFull 3 (drop 1152 (take 1184 (g .key .public))) ≡ true
-          → answer (decapsRows mlKem768 g k0 k1) ≡ Done
-      all-passed e =
-          rows-passed mlKem768 g (all mlKem768 g k0 k1) sized-all masks shares (passed ShortStream _ e no-row)
+      pub all-passed : matrixFull (p .k) (rhoOf p (ekOf p (g .key))) ≡ true → answer (decapsRows p g k0 k1) ≡ Done
+      all-passed e = rows-passed p g (all p g k0 k1) sized-all masks shares (passed ShortStream _ e no-row)
 
 -- ---- the one function
 
@@ -135,6 +147,12 @@ module _ {p : Parameters} {left : ℕ} {g : Input} {k0 k1 : List ℕ} {v : ℕ} 
 
 -- ---- the two calls
 
+-- the parameter set by another name
+pub told-of : {p p′ : Parameters} {left : ℕ} {g : Input} {k0 k1 : List ℕ} {v n : ℕ} {k0′ k1′ : List ℕ} {v′ : ℕ} → p ≡ p′
+    → Told p left g k0 k1 v n k0′ k1′ v′
+    → Told p′ left g k0 k1 v n k0′ k1′ v′
+told-of e t = rw e at t
+
 module _ {p : Parameters} {g : Input} {k0 k1 : List ℕ} {v n : ℕ} {k0′ k1′ : List ℕ} {v′ : ℕ} where
   pub told-decapsulated : Told p 0 g k0 k1 v n k0′ k1′ v′ → Decapsulated p g k0 k1 n k0′ k1′
   unfolding decapsAnswer
@@ -164,16 +182,19 @@ module _ {p : Parameters} {g : Input} {k0 k1 : List ℕ} {v n : ℕ} {k0′ k1�
 
 -- ---- rho, as a part of the stored public key, and the matrix that the code expands from it
 
-pub rho-part : (l : List ℕ) → length l ≡ 1216 → take 32 (drop 1152 l) ≡ drop 1152 (take 1184 l)
-rho-part l e =
-    sym (part-take 1152 32 1184 l (omega arith))
-    ∙ take-all 32 (drop 1152 (take 1184 l)) (omega (arith, length-drop 1152 (take 1184 l), length-take 1184 l))
+-- the 32 bytes behind the first n, where the code counts r for n
+module _ {r n : ℕ} (l : List ℕ) (e : r ≡ n) (g : length l ≡ n + 32 + 32) where
+  pub rho-part : take (r + 32 - r) (drop r l) ≡ drop n (take (n + 32) l)
+  rho-part =
+      let w : r + 32 - r ≡ 32 = omega arith in
+      rw (w, e)
+      (sym (part-take n 32 (n + 32) l (omega arith))
+      ∙ take-all 32 (drop n (take (n + 32) l)) (omega (arith, length-drop n (take (n + 32) l), length-take (n + 32) l)))
 
-pub expanded-public : (public a : List ℕ) (r : Bool) → length public ≡ 1216
-    → r ≡ matrixFull 3 (take 32 (drop 1152 public)) → r ≡ true
-    → (r ≡ true → a ≡ concat 3 (λ i. concat 3 (matrix (take 32 (drop 1152 public)) i)))
-    → Expanded 3 (drop 1152 (take 1184 public)) a
-expanded-public public a r n e t f =
-    subst (λ (rho : List ℕ). Expanded 3 rho a) (rho-part public n)
-    (subst (Expanded 3 (take 32 (drop 1152 public))) (sym (f t))
-    (expanded-concat 3 (take 32 (drop 1152 public)) (sym e ∙ t)))
+  pub expanded-public : (k : ℕ) (a : List ℕ) (b : Bool) → b ≡ matrixFull k (take (r + 32 - r) (drop r l)) → b ≡ true
+      → (b ≡ true → a ≡ concat k (λ i. concat k (matrix (take (r + 32 - r) (drop r l)) i)))
+      → Expanded k (drop n (take (n + 32) l)) a
+  expanded-public k a b f t h =
+      let rho = take (r + 32 - r) (drop r l) in
+      subst (λ (s : List ℕ). Expanded k s a) rho-part
+      (subst (Expanded k rho) (sym (h t)) (expanded-concat k rho (sym f ∙ t)))

@@ -16,7 +16,8 @@ use Rattle.refusals.specs.RefusalLaws.{refused, passed, no-row, done-passed}
 use Rattle.refusals.specs.RefusalLaws.{sized-exact, exact-sized, sized-more, sized-first}
 use Rattle.tracing.specs.Trace as trace
 use Rattle.tracing.specs.ToldLaws.{Refusing, told-refused, told-step, trace-passed}
-use Rattle.kpke.specs.Parameters.{Parameters, ekBytes}
+use Rattle.parameters.specs.declared.Parameters.{Parameters}
+use Rattle.parameters.specs.Lengths.{ekBytes}
 use Rattle.kpke.specs.KPke.{matrixFull}
 use Rattle.refusals.specs.Reduced.{reduced}
 use Rattle.mlkem.specs.Calls.{rhoOf}

@@ -11,7 +11,8 @@ use Rattle.refusals.specs.declared.Answer.{Answer}
 use Rattle.refusals.specs.declared.Answer.the-variants.{WrongLength, MaskRange, ShareRange, ShortStream}
 use Rattle.refusals.specs.Refusals.{number, after, Row, row, answer, Lent, lent, sized}
 use Rattle.tracing.specs.Trace as trace
-use Rattle.kpke.specs.Parameters.{Parameters, ctBytes}
+use Rattle.parameters.specs.declared.Parameters.{Parameters}
+use Rattle.parameters.specs.Lengths.{ctBytes}
 use Rattle.kpke.specs.KPke.{matrixFull}
 use Rattle.refusals.specs.Reduced.{reduced}
 use Rattle.mlkem.specs.Calls.{rhoOf}

@@ -6,10 +6,12 @@ use lib.ListN.{length, take, drop}
 use Rattle.words.specs.Bounded.{Below}
 use Rattle.words.specs.Residue.{q}
 use Rattle.worksheet.specs.SharedList.{SharedList}
-use Rattle.kpke.specs.Parameters.{Parameters, mlKem768, vectorBytes, ekBytes, ctBytes}
+use Rattle.parameters.specs.declared.Parameters.{Parameters}
+use Rattle.parameters.specs.Fits.{Fits}
+use Rattle.parameters.specs.Lengths.{vectorBytes, ekBytes, ctBytes}
 use Rattle.kpke.specs.Expanded.{Expanded}
 use Rattle.split_key.specs.Sized.{SplitSized}
-use Rattle.stages.specs.Counts.{stripWords, stripCoeffs}
+use Rattle.stages.specs.Counts.{encryptCoeffs, comparedWords, stripWords, stripCoeffs}
 use Rattle.stages.specs.Lent.{Long, Masks}
 use Rattle.decapsulation.specs.Calls.{Input}
 
@@ -26,20 +28,21 @@ pub record CallSized (p : Parameters) (g : Input) (k : SharedList) : Type 0 wher
 
 -- ---- for the run itself, also the masks' range, and the matrix a
 
-pub record Runnable (g : Input) (a : List ℕ) (k : SharedList) : Type 0 where
-  pub input : Sized mlKem768 g
+pub record Runnable (p : Parameters) (g : Input) (a : List ℕ) (k : SharedList) : Type 0 where
+  pub fits : Fits p
+  pub input : Sized p g
   pub range : Below q (g .coeffs)
-  pub matrix : Expanded 3 (drop 1152 (take 1184 (g .key .public))) a
+  pub matrix : Expanded (p .k) (drop (vectorBytes p) (take (ekBytes p) (g .key .public))) a
   pub out : Long 4 k
 
--- stages 1 to 8: the secret s, the public key and h, the matrix a, the ciphertext, a strip of n words and m
--- coefficients, and where stage 3's words go
-pub record CompareInput (p : Parameters) (n m : ℕ) (s : SharedList) (key a c ws cs : List ℕ) (g : SharedList)
-    : Type 0 where
+-- stages 1 to 8: the secret s, the public key and h, the matrix a, the ciphertext, a strip, and where stage 3's words
+-- go
+pub record CompareInput (p : Parameters) (s : SharedList) (key a c ws cs : List ℕ) (g : SharedList) : Type 0 where
+  pub fits : Fits p
   pub secret : Long (256 * p .k) s
   pub public : length key ≡ ekBytes p + 32
   pub matrix : Expanded (p .k) (drop (vectorBytes p) (take (ekBytes p) key)) a
   pub ct : length c ≡ ctBytes p
-  pub words : n ≤ length ws
-  pub coeffs : Masks m cs
+  pub words : comparedWords p ≤ length ws
+  pub coeffs : Masks (encryptCoeffs p) cs
   pub out : Long 8 g

@@ -5,7 +5,7 @@ use Prim.Native.Nat.{ℕ}
 use lib.ListN.{length}
 use Rattle.refusals.specs.Refusals.{number, after}
 use Rattle.tracing.specs.Told as told
-use Rattle.kpke.specs.Parameters.{Parameters}
+use Rattle.parameters.specs.declared.Parameters.{Parameters}
 use Rattle.decapsulation.specs.Calls.{Input, sheet, decapsRows, decapsShares}
 
 module _ (p : Parameters) where

@@ -1,18 +1,29 @@
 // Masked decapsulation and its trace: one function runs the worksheet, told a step number or none.
 ghost use mathlib.Core.Bool.{_&&_};
 ghost use mathlib.Core.Path.{_≡_};
+ghost use Prim.Native.Nat.{_*_};
+ghost use lib.ListN.{length};
+ghost use Rattle.parameters.specs.Fits.{Fits};
 ghost use Rattle.worksheet.specs.SharedList.{sharedList};
 ghost use Rattle.refusals.specs.Refusals.{number};
-ghost use Rattle.kpke.specs.Parameters.{mlKem768};
+ghost use Rattle.parameters.specs.Sets.{mlKem768};
 ghost use Rattle.refusals.specs.Reduced.{reduced as reducedOf};
 ghost use Rattle.decapsulation.specs.Calls.{input, Decapsulated, Traced};
 ghost use Rattle.decapsulation.specs.Told.{Told};
 ghost use Rattle.decapsulation.specs.Sized.{CallSized};
 use crate::worksheet_run::run;
 use kpke::matrix::expand;
+use parameters::Parameters;
+use parameters::ct_bytes;
+use parameters::ek_bytes;
+use parameters::of_rank;
+use parameters::vector_bytes;
 use refusals::Answer;
 use refusals::conditions::reduced;
 use refusals::exact;
+use stages::entry_counts::steps;
+use stages::mask_counts::strip_coeffs;
+use stages::mask_counts::strip_words;
 use tracing::left_of;
 use worksheet::Recorder;
 
@@ -25,9 +36,10 @@ fn both_reduced(f: &[u16], g: &[u16]) -> bool
     reduced(g)
 }
 
-// Rows 5 to 8, then the ten stages.
-fn decapsulate_sized(
+// Rows 5 to 8, then the ten stages; a becomes the matrix A-hat.
+fn decapsulate_in(
     left: u64,
+    p: Parameters,
     s0: &[u16],
     s1: &[u16],
     z0: &[u64],
@@ -36,36 +48,40 @@ fn decapsulate_sized(
     ct: &[u8],
     words: &[u64],
     coeffs: &[u16],
+    a: &mut [u16],
     k0: &mut [u64],
     k1: &mut [u64],
     value: &mut u64,
 ) -> Answer
     requires { ⌜
-        CallSized mlKem768
+        Fits p
+        × CallSized p
         (input (now s0) (now s1) (now z0) (now z1) (now public) (now ct) (now words) (now coeffs))
-        (sharedList (now k0) (now k1)) ⌝ }
+        (sharedList (now k0) (now k1))
+        × (length (now a) ≡ 256 * p .k * p .k) ⌝ }
     ensures { λ r. ⌜
-        Told mlKem768 left
+        Told p left
         (input (now (s0 .entry)) (now (s1 .entry)) (now (z0 .entry)) (now (z1 .entry)) (now (public .entry))
         (now (ct .entry)) (now (words .entry)) (now (coeffs .entry)))
         (now (k0 .entry)) (now (k1 .entry)) (now (value .entry)) (number r)
         (now (k0 .exit)) (now (k1 .exit)) (now (value .exit)) ⌝ }
 {
-    let mut a = [0u16; 2304];
+    let rho = vector_bytes(p);
+    let e = rho + 32;
     if !reduced(coeffs) {
         return Answer::MaskRange;
     }
     if !both_reduced(s0, s1) {
         return Answer::ShareRange;
     }
-    if !expand(&public[1152..1184], 3, &mut a) {
+    if !expand(&public[rho..e], p.k, a) {
         return Answer::ShortStream;
     }
-    if left > 187794 {
+    if left > steps(p) as u64 {
         return Answer::NoSuchStep;
     }
     let rec = Recorder { left, value: 0 };
-    let last = run(rec, &a, s0, s1, z0, z1, public, ct, words, coeffs, k0, k1);
+    let last = run(rec, p, a, s0, s1, z0, z1, public, ct, words, coeffs, k0, k1);
     *value = last.value;
     Answer::Done
 }
@@ -73,6 +89,7 @@ fn decapsulate_sized(
 // Refusals first, then the ten stages; `left` is 0 for no step and t + 1 for step t.
 fn decapsulate(
     left: u64,
+    p: Parameters,
     s0: &[u16],
     s1: &[u16],
     z0: &[u64],
@@ -85,13 +102,17 @@ fn decapsulate(
     k1: &mut [u64],
     value: &mut u64,
 ) -> Answer
+    requires { ⌜ Fits p ⌝ }
     ensures { λ r. ⌜
-        Told mlKem768 left
+        Told p left
         (input (now (s0 .entry)) (now (s1 .entry)) (now (z0 .entry)) (now (z1 .entry)) (now (public .entry))
         (now (ct .entry)) (now (words .entry)) (now (coeffs .entry)))
         (now (k0 .entry)) (now (k1 .entry)) (now (value .entry)) (number r)
         (now (k0 .exit)) (now (k1 .exit)) (now (value .exit)) ⌝ }
 {
+    let n = 256 * p.k;
+    let m = n * p.k;
+    let h = ek_bytes(p) + 32;
     let has = [
         s0.len(),
         s1.len(),
@@ -104,11 +125,27 @@ fn decapsulate(
         k0.len(),
         k1.len(),
     ];
-    if !exact(&has, &[768, 768, 4, 4, 1216, 1088, 11750, 7424, 4, 4]) {
+    if !exact(
+        &has,
+        &[
+            n,
+            n,
+            4,
+            4,
+            h,
+            ct_bytes(p),
+            strip_words(p),
+            strip_coeffs(p),
+            4,
+            4,
+        ],
+    ) {
         return Answer::WrongLength;
     }
-    decapsulate_sized(
+    let mut a = [0u16; 4096];
+    decapsulate_in(
         left,
+        p,
         s0,
         s1,
         z0,
@@ -117,6 +154,7 @@ fn decapsulate(
         ct,
         words,
         coeffs,
+        &mut a[0..m],
         k0,
         k1,
         value,
@@ -144,6 +182,7 @@ pub fn decaps(
     let mut value: u64 = 0;
     decapsulate(
         0,
+        of_rank(3),
         s0,
         s1,
         z0,
@@ -178,9 +217,11 @@ pub fn trace(
 {
     let mut k0 = [0u64; 4];
     let mut k1 = [0u64; 4];
-    let left = left_of(step, 187794);
+    let p = of_rank(3);
+    let left = left_of(step, steps(p) as u64);
     decapsulate(
         left,
+        p,
         s0,
         s1,
         z0,

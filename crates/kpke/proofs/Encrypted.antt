@@ -8,7 +8,8 @@ use Rattle.codec.specs.Bytes.{byteEncode, byteDecode, byteDecode12}
 use Rattle.codec.specs.Compress.{compress, decompress}
 use Rattle.ring.specs.Polynomial.{add}
 use Rattle.transform.specs.Transform.{ntt, inverseNtt}
-use Rattle.kpke.specs.Parameters.{Parameters, vectorBytes}
+use Rattle.parameters.specs.declared.Parameters.{Parameters}
+use Rattle.parameters.specs.Lengths.{vectorBytes}
 use Rattle.vectors.specs.Vector.{parts, concat}
 use Rattle.kpke.specs.KPke.{noise, firstPart, secondPart, ephemeral, publicVector, encrypt}
 use Rattle.vectors.specs.VectorLaws.{concat-cong, dot-cong}

@@ -6,7 +6,7 @@ use Prim.Native.Nat.{ℕ, _+_, _<_}
 use Rattle.codec.specs.Bytes.{byteEncode}
 use Rattle.ring.specs.Polynomial.{add}
 use Rattle.transform.specs.Transform.{ntt}
-use Rattle.kpke.specs.Parameters.{Parameters}
+use Rattle.parameters.specs.declared.Parameters.{Parameters}
 use Rattle.vectors.specs.Vector.{parts, concat}
 use Rattle.kpke.specs.KPke.{matrix, noise, publicPolynomial, secretVector, errorVector, ekFrom, dkFrom}
 use Rattle.vectors.specs.VectorLaws.{concat-cong, dot-cong}

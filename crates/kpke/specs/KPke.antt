@@ -11,7 +11,8 @@ use Rattle.ring.specs.Polynomial.{add, sub}
 use Rattle.transform.specs.Transform.{ntt, inverseNtt}
 use Rattle.sampling.specs.Sample.{full, sampleNtt, samplePolyCbd}
 use Rattle.vectors.specs.Vector.{parts, concat, dot}
-use Rattle.kpke.specs.Parameters.{Parameters, vectorBytes}
+use Rattle.parameters.specs.declared.Parameters.{Parameters}
+use Rattle.parameters.specs.Lengths.{vectorBytes}
 use Rattle.hash_functions.specs.Functions.{PRF, G₁, G₂, XOF}
 
 -- A-hat, algorithm 13, lines 3 to 7: place (i, j)

@@ -5,6 +5,9 @@ use Prim.Native.Nat.{ℕ, _+_, _*_, _<_, _≤_}
 use lib.ListN.{length, drop}
 use Rattle.words.specs.Residue.{q}
 use Rattle.words.specs.Bounded.{Below}
+use Rattle.parameters.specs.declared.Parameters.{Parameters}
+use Rattle.parameters.specs.Lengths.{vectorBytes, ekBytes, ctBytes}
+use Rattle.parameters.specs.Fits.{Fits}
 use Rattle.kpke.specs.Expanded.{Expanded}
 
 -- PRF_eta's seed and SamplePolyCBD_eta's width (FIPS 203, algorithm 8)
@@ -56,12 +59,20 @@ pub record EkInput (t rho : List ℕ) (k : ℕ) (ek : List ℕ) : Type 0 where
   pub seed : length rho ≡ 32
   pub bytes : length ek ≡ 384 * k + 32
 
--- ---- at ML-KEM-768
+-- ---- for a parameter set
 
--- algorithm 14: the matrix, the public key, the message, the coins and the ciphertext
-pub record EncryptInput (a ek m r ct : List ℕ) : Type 0 where
-  pub matrix : Expanded 3 (drop 1152 ek) a
-  pub public : length ek ≡ 1184
-  pub message : length m ≡ 32
-  pub coins : length r ≡ 32
-  pub bytes : length ct ≡ 1088
+module _ (p : Parameters) where
+  -- algorithm 14: the matrix, the public key, the message, the coins and the ciphertext
+  pub record EncryptInput (a ek m r ct : List ℕ) : Type 0 where
+    pub fits : Fits p
+    pub matrix : Expanded (p .k) (drop (vectorBytes p) ek) a
+    pub public : length ek ≡ ekBytes p
+    pub message : length m ≡ 32
+    pub coins : length r ≡ 32
+    pub bytes : length ct ≡ ctBytes p
+
+  -- the room for its vectors t-hat, y-hat and u
+  pub record EncryptRoom (t₀ y₀ u₀ : List ℕ) : Type 0 where
+    pub t : length t₀ ≡ 256 * p .k
+    pub y : length y₀ ≡ 256 * p .k
+    pub u : length u₀ ≡ 256 * p .k

@@ -1,4 +1,3 @@
-pub mod Parameters
 pub mod KPke
 pub mod Expanded
 pub mod Lent

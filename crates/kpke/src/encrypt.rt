@@ -5,17 +5,18 @@ ghost use Prim.Native.Nat.{_+_, _*_, _<_};
 ghost use lib.ListN.{length};
 ghost use Rattle.codec.specs.Bytes.{byteEncode, byteDecode};
 ghost use Rattle.codec.specs.Compress.{compress, decompress};
-ghost use Rattle.kpke.specs.Parameters.{mlKem768};
 ghost use Rattle.vectors.specs.Vector.{parts, concat};
 ghost use Rattle.kpke.specs.KPke.{firstPart, secondPart, encrypt as encryptOf};
 ghost use Rattle.kpke.specs.Expanded.{placesOf};
-ghost use Rattle.kpke.specs.Lent.{RowInput, SecondInput, CiphertextInput, EncryptInput};
+ghost use Rattle.kpke.specs.Lent.{RowInput, SecondInput, CiphertextInput, EncryptInput, EncryptRoom};
 use crate::noise::noise;
 use crate::noise::transformed_noise;
 use codec::byte_decode;
 use codec::byte_encode;
 use codec::compress_all;
 use codec::decompress_all;
+use parameters::Parameters;
+use parameters::vector_bytes;
 use ring::add_to;
 use transform::inverse_ntt;
 use vectors::decode12_all;
@@ -101,18 +102,40 @@ fn encode_parts(u: &mut [u16], v: &mut [u16], du: u32, dv: u32, k: usize, ct: &m
     byte_encode(v, dv, &mut ct[n..]);
 }
 
-// Algorithm 14 at ML-KEM-768, for the matrix A-hat in a; t is t-hat, y is y-hat.
-pub fn encrypt(a: &[u16], ek: &[u8], m: &[u8], r: &[u8], ct: &mut [u8])
-    requires { ⌜ EncryptInput (now a) (now ek) (now m) (now r) (now ct) ⌝ }
-    ensures { λ _. ⌜ now (ct .exit) ≡ encryptOf mlKem768 (now (ek .entry)) (now (m .entry)) (now (r .entry)) ⌝ }
+// Algorithm 14, for the matrix A-hat in a; t becomes t-hat, y y-hat.
+fn encrypt_in(
+    p: Parameters,
+    a: &[u16],
+    ek: &[u8],
+    m: &[u8],
+    r: &[u8],
+    t: &mut [u16],
+    y: &mut [u16],
+    u: &mut [u16],
+    ct: &mut [u8],
+)
+    requires { ⌜
+        EncryptInput p (now a) (now ek) (now m) (now r) (now ct) × EncryptRoom p (now t) (now y) (now u)
+        ⌝ }
+    ensures { λ _. ⌜ now (ct .exit) ≡ encryptOf p (now (ek .entry)) (now (m .entry)) (now (r .entry)) ⌝ }
 {
-    let mut t = [0u16; 768];
-    let mut y = [0u16; 768];
-    let mut u = [0u16; 768];
     let mut v = [0u16; 256];
-    decode12_all(&ek[0..1152], 3, &mut t);
-    transformed_noise(r, 2, 3, &mut y);
-    first_parts(a, &y, r, 2, 3, &mut u);
-    second_part(&t, &y, m, r, 2, 3, &mut v);
-    encode_parts(&mut u, &mut v, 10, 4, 3, ct);
+    let n = vector_bytes(p);
+    decode12_all(&ek[0..n], p.k, t);
+    transformed_noise(r, p.eta1, p.k, y);
+    first_parts(a, y, r, p.eta2, p.k, u);
+    second_part(t, y, m, r, p.eta2, p.k, &mut v);
+    encode_parts(u, &mut v, p.du, p.dv, p.k, ct);
+}
+
+// Algorithm 14, for the matrix A-hat in a.
+pub fn encrypt(p: Parameters, a: &[u16], ek: &[u8], m: &[u8], r: &[u8], ct: &mut [u8])
+    requires { ⌜ EncryptInput p (now a) (now ek) (now m) (now r) (now ct) ⌝ }
+    ensures { λ _. ⌜ now (ct .exit) ≡ encryptOf p (now (ek .entry)) (now (m .entry)) (now (r .entry)) ⌝ }
+{
+    let mut t = [0u16; 1024];
+    let mut y = [0u16; 1024];
+    let mut u = [0u16; 1024];
+    let n = 256 * p.k;
+    encrypt_in(p, a, ek, m, r, &mut t[0..n], &mut y[0..n], &mut u[0..n], ct);
 }

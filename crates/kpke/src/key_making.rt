@@ -5,14 +5,14 @@ ghost use Prim.Native.Nat.{_+_, _*_, _<_};
 ghost use lib.ListN.{length};
 ghost use Rattle.codec.specs.Bytes.{byteEncode};
 ghost use Rattle.transform.specs.Transform.{ntt as nttOf};
-ghost use Rattle.kpke.specs.Parameters.{mlKem768};
 ghost use Rattle.vectors.specs.Vector.{parts, concat};
 ghost use Rattle.kpke.specs.KPke.{noise as noiseOf, publicPolynomial};
-ghost use Rattle.kpke.specs.KeyMaking.{PkeKeysInput, PkeKeysWritten};
+ghost use Rattle.kpke.specs.KeyMaking.{PkeKeysInput, PkeKeysRoom, PkeKeysWritten};
 ghost use Rattle.kpke.specs.Expanded.{placesOf};
 ghost use Rattle.kpke.specs.Lent.{RowInput, EkInput};
 use crate::noise::noise;
 use crate::noise::transformed_noise;
+use parameters::Parameters;
 use ring::add_to;
 use slices::copy_bytes;
 use transform::ntt;
@@ -80,17 +80,35 @@ fn write_ek(t: &[u16], rho: &[u8], k: usize, ek: &mut [u8])
     copy_bytes(rho, &mut ek[n..]);
 }
 
-// Lines 8 to 20 at ML-KEM-768, for the matrix A-hat in a and line 1's rho and sigma; s is s-hat, t is t-hat.
-pub fn write_keys(a: &[u16], rho: &[u8], sigma: &[u8], ek: &mut [u8], dk: &mut [u8])
-    requires { ⌜ PkeKeysInput mlKem768 (now a) (now rho) (now sigma) (now ek) (now dk) ⌝ }
-    ensures { λ _. ⌜
-        PkeKeysWritten mlKem768 (now (rho .entry)) (now (sigma .entry)) (now (ek .exit)) (now (dk .exit))
+// Lines 8 to 20, for the matrix A-hat in a and line 1's rho and sigma; s becomes s-hat, t t-hat.
+fn write_keys_in(
+    p: Parameters,
+    a: &[u16],
+    rho: &[u8],
+    sigma: &[u8],
+    s: &mut [u16],
+    t: &mut [u16],
+    ek: &mut [u8],
+    dk: &mut [u8],
+)
+    requires { ⌜
+        PkeKeysInput p (now a) (now rho) (now sigma) (now ek) (now dk) × PkeKeysRoom p (now s) (now t)
         ⌝ }
+    ensures { λ _. ⌜ PkeKeysWritten p (now (rho .entry)) (now (sigma .entry)) (now (ek .exit)) (now (dk .exit)) ⌝ }
 {
-    let mut s = [0u16; 768];
-    let mut t = [0u16; 768];
-    transformed_noise(sigma, 2, 3, &mut s);
-    public_vector(a, &s, sigma, 2, 3, &mut t);
-    write_ek(&t, rho, 3, ek);
-    encode_all(&s, 12, 3, dk);
+    transformed_noise(sigma, p.eta1, p.k, s);
+    public_vector(a, s, sigma, p.eta1, p.k, t);
+    write_ek(t, rho, p.k, ek);
+    encode_all(s, 12, p.k, dk);
+}
+
+// Lines 8 to 20, for the matrix A-hat in a and line 1's rho and sigma.
+pub fn write_keys(p: Parameters, a: &[u16], rho: &[u8], sigma: &[u8], ek: &mut [u8], dk: &mut [u8])
+    requires { ⌜ PkeKeysInput p (now a) (now rho) (now sigma) (now ek) (now dk) ⌝ }
+    ensures { λ _. ⌜ PkeKeysWritten p (now (rho .entry)) (now (sigma .entry)) (now (ek .exit)) (now (dk .exit)) ⌝ }
+{
+    let mut s = [0u16; 1024];
+    let mut t = [0u16; 1024];
+    let n = 256 * p.k;
+    write_keys_in(p, a, rho, sigma, &mut s[0..n], &mut t[0..n], ek, dk);
 }

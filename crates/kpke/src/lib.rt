@@ -1,4 +1,4 @@
-// K-PKE at ML-KEM-768 (FIPS 203, section 5).
+// K-PKE (FIPS 203, section 5).
 pub mod encrypt;
 pub mod key_making;
 pub mod matrix; // the matrix from its streams

@@ -1,7 +1,8 @@
 -- Stage 1 from the ciphertext's transformed polynomials in one slice.
 use mathlib.Core.Path.{_≡_, refl, ap, _∙_}
 use mathlib.Core.List.{List, map}
-use Prim.Native.Nat.{ℕ, _*_}
+use Prim.Native.Nat.{ℕ, _-_, _*_}
+use native.Mathlib.Omega.{arith}
 use lib.ListN.{length, take, replicate, length-map}
 use Rattle.words.specs.Part.{part-take, part-fits}
 use Rattle.codec.specs.Bytes.{byteDecode}
@@ -14,7 +15,7 @@ use Rattle.worksheet.specs.declared.Recorder.{Recorder}
 use Rattle.worksheet.specs.Pass.{enterBoth}
 use Rattle.worksheet.specs.Ran.{Makes}
 use Rattle.worksheet.specs.SharedList.{SharedList, sharedList}
-use Rattle.kpke.specs.Parameters.{Parameters}
+use Rattle.parameters.specs.declared.Parameters.{Parameters}
 use Rattle.vectors.specs.Vector.{parts, concat, dot}
 use Rattle.kpke.specs.KPke.{firstDecoded, secondDecoded, noisyMessage}
 use Rattle.vectors.specs.VectorLaws.{Each, parts-concat, concat-cong, dot-cong}
@@ -25,10 +26,11 @@ length-decoded : (d : ℕ) (b : List ℕ) → length (map (decompress d) (byteDe
 length-decoded d b = length-map (byteDecode d b) (decompress d) ∙ length-byteDecode d b
 
 module _ (p : Parameters) (c : List ℕ) where
+  -- the first part is lent as the part from 0 to its end
   pub transformed-first : {v w : List ℕ}
       → v
       ≡ concat (p .k) (λ i.
-      map (decompress (p .du)) (byteDecode (p .du) (parts (32 * p .du) (take (32 * p .du * p .k) c) i)))
+      map (decompress (p .du)) (byteDecode (p .du) (parts (32 * p .du) (take (32 * p .du * p .k - 0) c) i)))
       → w ≡ concat (p .k) (λ i. ntt (parts 256 v i)) → w ≡ concat (p .k) (λ i. ntt (firstDecoded p c i))
   unfolding firstDecoded
   transformed-first e f =
@@ -39,7 +41,7 @@ module _ (p : Parameters) (c : List ℕ) where
       (ap (λ (l : List ℕ). parts 256 l i) e
       ∙ parts-concat (record { long = λ j g. length-decoded (p .du) _ }) i h
       ∙ ap (λ (l : List ℕ). map (decompress (p .du)) (byteDecode (p .du) l))
-      (part-take (32 * p .du * i) (32 * p .du) (32 * p .du * p .k) c (part-fits (32 * p .du) h))))
+      (part-take (32 * p .du * i) (32 * p .du) (32 * p .du * p .k - 0) c (omega (arith, part-fits (32 * p .du) h)))))
 
   each-decoded : Each 256 (p .k) (firstDecoded p c)
   unfolding firstDecoded

@@ -1,3 +1,4 @@
 pub mod Groups
+pub mod Polynomials
 pub mod NoiseParts
 pub mod Reencrypted

@@ -11,7 +11,7 @@ use Rattle.vectors.specs.Vector.{parts, concat}
 use Rattle.vectors.specs.VectorLaws.{Each, each-part}
 use Rattle.vectors.specs.TransformedVector.{length-transformed, transformed-at}
 
-module _ (k : ℕ) (n : List ℕ) (e : length n ≡ 256 * k + 256 * k + 256) where
+module _ (k : ℕ) (n : List ℕ) (e : length n ≡ 256 * (2 * k + 1)) where
   each-y : Each 256 k (parts 256 (take (256 * k) n))
   each-y = each-part 256 k (take (256 * k) n) (length-take-le (256 * k) n (omega arith))
 

@@ -23,7 +23,8 @@ use Rattle.worksheet.specs.Prog.{times}
 use Rattle.worksheet.specs.ProgLaws.{times-cong}
 use Rattle.worksheet.specs.Ran.{Makes}
 use Rattle.worksheet.specs.SharedList.{SharedList, sharedList}
-use Rattle.kpke.specs.Parameters.{Parameters, vectorBytes}
+use Rattle.parameters.specs.declared.Parameters.{Parameters}
+use Rattle.parameters.specs.Lengths.{vectorBytes}
 use Rattle.vectors.specs.Vector.{parts, concat}
 use Rattle.kpke.specs.KPke.{matrix}
 use Rattle.kpke.specs.Expanded.{placesOf, Expanded}
@@ -52,12 +53,12 @@ length-us : (k : ℕ) (a : ℕ → ℕ → List ℕ) (y e1 : ℕ → List ℕ) �
 length-us k a y e1 = length-concat (record { long = λ i h. length-uPass k y a (e1 i) i })
 
 pub length-uvPass : (k : ℕ) (a : ℕ → ℕ → List ℕ) (t n : ℕ → List ℕ) (mu : List ℕ)
-    → length (uvPass k a t n mu) ≡ 256 * k + 256
+    → length (uvPass k a t n mu) ≡ 256 * (k + 1)
 unfolding uvPass
 length-uvPass k a t n mu =
     let y : ℕ → List ℕ = λ j. ntt (n j) in
     length-append (concat k (λ i. uPass k a y (n (k + i)) i)) (vPass k t y (n (2 * k)) mu)
-    ∙ ap₂ (λ (u v : ℕ). u + v) (length-us k a y (λ i. n (k + i))) (length-vPass k y t (n (2 * k)) mu)
+    ∙ omega (arith, length-us k a y (λ i. n (k + i)), length-vPass k y t (n (2 * k)) mu)
 
 pub below-uvPass : (k : ℕ) (a : ℕ → ℕ → List ℕ) (t n : ℕ → List ℕ) (mu : List ℕ) → Below q (uvPass k a t n mu)
 unfolding uvPass uPass vPass
@@ -75,8 +76,8 @@ module _ (k : ℕ) {y z : ℕ → List ℕ} (h : (j : ℕ) → j < k → y j ≡
   vPass-cong mu g e = ap₂ (λ (x y : List ℕ). add (add (inverseNtt x) y) mu) (dot-cong k g h) e
 
 -- u and v, written one behind the other in the slice l, from y transformed in the slice z
-module _ (k : ℕ) (l n mu : List ℕ) (a : ℕ → ℕ → List ℕ) (t : ℕ → List ℕ) (long : length l ≡ 256 * k + 256)
-    (e : length n ≡ 256 * k + 256 * k + 256) where
+module _ (k : ℕ) (l n mu : List ℕ) (a : ℕ → ℕ → List ℕ) (t : ℕ → List ℕ) (long : length l ≡ 256 * (k + 1))
+    (e : length n ≡ 256 * (2 * k + 1)) where
   uv-written : (z : List ℕ) {r₁ r₂ : List ℕ} → z ≡ concat k (λ j. ntt (parts 256 (take (256 * k) n) j))
       → r₁ ≡ concat k (λ i. uPass k a (parts 256 z) (parts 256 (take (256 * k) (drop (256 * k) n)) i) i)
       → r₂
@@ -93,19 +94,25 @@ module _ (k : ℕ) (l n mu : List ℕ) (a : ℕ → ℕ → List ℕ) (t : ℕ �
       (concat-cong k (λ i g. uPass-cong k (y-at k n e h₀) a a i (λ j m. refl) (e1-at k n e i g)))
       (vPass-cong k (y-at k n e h₀) mu (λ j m. refl) (e2-at k n e))
 
-  -- y is transformed in its own place in n
-  pub uv-written-in : (z : List ℕ) {r₁ r₂ : List ℕ} → z ≡ concat k (λ j. ntt (parts 256 (take (256 * k) n) j))
-      → (let m = z ++ drop (256 * k) n in
-      r₁ ≡ concat k (λ i. uPass k a (parts 256 (take (256 * k) m)) (parts 256 (take (256 * k) (drop (256 * k) m)) i) i))
-      → (let m = z ++ drop (256 * k) n in
+  -- y is transformed in its own place in n, and each part is lent by its start and its end
+  pub uv-written-in : (z : List ℕ) {r₁ r₂ : List ℕ} → z ≡ concat k (λ j. ntt (parts 256 (take (256 * k - 0) n) j))
+      → (let m = z ++ drop (256 * k - 0) n in
+      r₁
+      ≡ concat k (λ i.
+      uPass k a (parts 256 (take (256 * k - 0) m))
+      (parts 256 (take (256 * k + 256 * k - 256 * k) (drop (256 * k) m)) i) i))
+      → (let m = z ++ drop (256 * k - 0) n in
       r₂
-      ≡ vPass k t (parts 256 (take (256 * k) m))
+      ≡ vPass k t (parts 256 (take (256 * k - 0) m))
       (take (length m - (256 * k + 256 * k)) (drop (256 * k + 256 * k) m)) mu)
       → (let m = take 0 l ++ (r₁ ++ drop (256 * k - 0) (drop 0 l)) in
       take (256 * k) m ++ (r₂ ++ drop (length m - 256 * k) (drop (256 * k) m)))
       ≡ uvPass k a t (parts 256 n) mu
   uv-written-in z h₀ h₁ h₂ =
-      let lz : length z ≡ 256 * k = length-y k n e h₀ in
+      let start : 256 * k - 0 ≡ 256 * k = omega arith in
+      let span : 256 * k + 256 * k - 256 * k ≡ 256 * k = omega arith in
+      let h : z ≡ concat k (λ j. ntt (parts 256 (take (256 * k) n) j)) = rw start at h₀ in
+      let lz : length z ≡ 256 * k = length-y k n e h in
       let m = z ++ drop (256 * k) n in
       let front : take (256 * k) m ≡ z = take-at z (drop (256 * k) n) (256 * k) lz in
       let rest : drop (256 * k) m ≡ drop (256 * k) n = drop-at z (drop (256 * k) n) (256 * k) lz in
@@ -113,7 +120,7 @@ module _ (k : ℕ) (l n mu : List ℕ) (a : ℕ → ℕ → List ℕ) (t : ℕ �
       sym (drop-drop (256 * k) (256 * k) m) ∙ ap (drop (256 * k)) rest ∙ drop-drop (256 * k) (256 * k) n in
       let long-m : length m ≡ length n =
       length-append z (drop (256 * k) n) ∙ omega (arith, length-drop (256 * k) n) in
-      uv-written z h₀ (rw (front, rest) at h₁) (rw (front, last, long-m) at h₂)
+      uv-written z h (rw (start, span, front, rest) at h₁) (rw (start, front, last, long-m) at h₂)
 
 -- ---- the stage
 

@@ -4,10 +4,13 @@ use mathlib.Core.List.{List}
 use Prim.Native.Nat.{ℕ, _+_, _*_, _≤_}
 use lib.ListN.{length, drop}
 use Rattle.worksheet.specs.SharedList.{SharedList}
-use Rattle.kpke.specs.Parameters.{Parameters, vectorBytes, ekBytes}
+use Rattle.parameters.specs.declared.Parameters.{Parameters}
+use Rattle.parameters.specs.Fits.{Fits}
+use Rattle.parameters.specs.Lengths.{vectorBytes, ekBytes}
 use Rattle.kpke.specs.Expanded.{Expanded}
 use Rattle.stages.specs.Worksheet.{wordCount}
-use Rattle.stages.specs.Lent.{Long, Masks}
+use Rattle.stages.specs.Counts.{stage7Words, encryptWords, encryptCoeffs}
+use Rattle.stages.specs.Lent.{Long, Residues, Masks}
 
 -- an encryption key, and its matrix expanded
 pub record ExpandedKey (p : Parameters) (ek a : List ℕ) : Type 0 where
@@ -44,24 +47,38 @@ pub record PassInput (k : ℕ) (a t n mu uv : List ℕ) : Type 0 where
 
 -- stage 6: the key and its matrix, the noise and mu
 pub record ReencryptInput (p : Parameters) (ek a : List ℕ) (n mu : SharedList) : Type 0 where
+  pub fits : Fits p
   pub key : ExpandedKey p ek a
   pub noise : Long (256 * (2 * p .k + 1)) n
   pub message : Long 256 mu
 
--- stages 6 and 7: also w mask words, and where the planes go
-pub record EncryptWithInput (p : Parameters) (w : ℕ) (ek a : List ℕ) (n mu : SharedList) (ws : List ℕ)
-    (planes : SharedList) : Type 0 where
-  pub input : ReencryptInput p ek a n mu
-  pub words : w ≤ length ws
+-- stage 7: u and v, mask words, and where the planes go
+pub record Stage7Input (p : Parameters) (uv : SharedList) (ws : List ℕ) (planes : SharedList) : Type 0 where
+  pub fits : Fits p
+  pub input : Residues (256 * (p .k + 1)) uv
+  pub words : stage7Words p ≤ length ws
   pub out : Long (wordCount p) planes
 
--- stages 4 to 7: the key and its matrix, the message, the coins, w mask words and c mask coefficients, and where the
--- planes go
-pub record MaskedEncryptInput (p : Parameters) (w c : ℕ) (ek a : List ℕ) (m r : SharedList) (ws cs : List ℕ)
+-- stages 6 and 7: also mask words, and where the planes go
+pub record EncryptWithInput (p : Parameters) (ek a : List ℕ) (n mu : SharedList) (ws : List ℕ)
     (planes : SharedList) : Type 0 where
+  pub input : ReencryptInput p ek a n mu
+  pub words : stage7Words p ≤ length ws
+  pub out : Long (wordCount p) planes
+
+-- stages 4 to 7: the key and its matrix, the message, the coins, mask words and mask coefficients, and where the planes
+-- go
+pub record MaskedEncryptInput (p : Parameters) (ek a : List ℕ) (m r : SharedList) (ws cs : List ℕ)
+    (planes : SharedList) : Type 0 where
+  pub fits : Fits p
   pub key : ExpandedKey p ek a
   pub message : Long 4 m
   pub coins : Long 4 r
-  pub words : w ≤ length ws
-  pub coeffs : Masks c cs
+  pub words : encryptWords p ≤ length ws
+  pub coeffs : Masks (encryptCoeffs p) cs
   pub out : Long (wordCount p) planes
+
+-- and room for mu and the noise
+pub record MaskedEncryptRoom (p : Parameters) (mu n : SharedList) : Type 0 where
+  pub message : Long 256 mu
+  pub noise : Long (256 * (2 * p .k + 1)) n

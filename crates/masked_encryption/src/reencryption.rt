@@ -1,8 +1,8 @@
 // Stage 6: re-encryption, share by share.
 ghost use mathlib.Core.Path.{_≡_};
-ghost use lib.ListN.{take};
+ghost use Prim.Native.Nat.{_+_, _*_, _≤_};
+ghost use lib.ListN.{length, take};
 ghost use Rattle.worksheet.specs.SharedList.{sharedList};
-ghost use Rattle.kpke.specs.Parameters.{mlKem768};
 ghost use Rattle.vectors.specs.Vector.{parts, concat};
 ghost use Rattle.kpke.specs.Expanded.{placesOf};
 ghost use Rattle.stages.specs.Worksheet.{stage6 as stage6Of};
@@ -11,6 +11,8 @@ ghost use Rattle.masked_encryption.specs.Passes.{uPass, vPass, uvPass};
 ghost use Rattle.stages.specs.MakesResidues.{MakesResidues};
 ghost use Rattle.masked_encryption.specs.Lent.{RowsInput, LastInput, ShareInput, PassInput, ReencryptInput};
 use masked_polynomials::passes::enter_polynomials;
+use parameters::Parameters;
+use parameters::vector_bytes;
 use ring::add_to;
 use slices::copy_coefficients;
 use transform::inverse_ntt;
@@ -57,34 +59,81 @@ fn v_pass(t: &[u16], y: &[u16], e2: &[u16], mu: &[u16], k: usize, v: &mut [u16])
 }
 
 // A pass on one share, of which n holds y, e1 and e2: u, then v. It transforms y where it stands.
-fn uv_pass(a: &[u16], t: &[u16], n: &mut [u16], mu: &[u16], uv: &mut [u16])
-    requires { ⌜ PassInput 3 (now a) (now t) (now n) (now mu) (now uv) ⌝ }
+fn uv_pass(a: &[u16], t: &[u16], n: &mut [u16], mu: &[u16], k: usize, uv: &mut [u16])
+    requires { ⌜ PassInput k (now a) (now t) (now n) (now mu) (now uv) ⌝ }
     ensures { λ _. ⌜
         now (uv .exit)
-        ≡ uvPass 3 (placesOf 3 (now (a .entry))) (parts 256 (now (t .entry))) (parts 256 (now (n .entry)))
+        ≡ uvPass k (placesOf k (now (a .entry))) (parts 256 (now (t .entry))) (parts 256 (now (n .entry)))
         (now (mu .entry)) ⌝ }
 {
-    ntt_all(&mut n[0..768], 3);
-    u_passes(a, &n[0..768], &n[768..1536], 3, &mut uv[0..768]);
-    v_pass(t, &n[0..768], &n[1536..], mu, 3, &mut uv[768..]);
+    let e1 = 256 * k;
+    let e2 = e1 + e1;
+    ntt_all(&mut n[0..e1], k);
+    u_passes(a, &n[0..e1], &n[e1..e2], k, &mut uv[0..e1]);
+    v_pass(t, &n[0..e1], &n[e2..], mu, k, &mut uv[e1..]);
 }
 
-// u and v of one share take the first places of its noise.
-fn uv_in_place(a: &[u16], t: &[u16], n: &mut [u16], mu: &[u16])
-    requires { ⌜ ShareInput 3 (now a) (now t) (now n) (now mu) ⌝ }
+// u and v of one share are made in uv, and then take the first places of its noise.
+fn uv_over(a: &[u16], t: &[u16], n: &mut [u16], mu: &[u16], k: usize, uv: &mut [u16])
+    requires { ⌜ PassInput k (now a) (now t) (now n) (now mu) (now uv) ⌝ }
     ensures { λ _. ⌜
-        take 1024 (now (n .exit))
-        ≡ uvPass 3 (placesOf 3 (now (a .entry))) (parts 256 (now (t .entry))) (parts 256 (now (n .entry)))
+        take (256 * (k + 1)) (now (n .exit))
+        ≡ uvPass k (placesOf k (now (a .entry))) (parts 256 (now (t .entry))) (parts 256 (now (n .entry)))
         (now (mu .entry)) ⌝ }
 {
-    let mut uv = [0u16; 1024];
-    uv_pass(a, t, n, mu, &mut uv);
-    copy_coefficients(&uv, &mut n[0..1024]);
+    let e = 256 * (k + 1);
+    uv_pass(a, t, n, mu, k, uv);
+    copy_coefficients(uv, &mut n[0..e]);
 }
 
-// u and v, for the matrix a, in the first 1,024 places of the noise.
+// The same, with room of its own.
+fn uv_in_place(a: &[u16], t: &[u16], n: &mut [u16], mu: &[u16], k: usize)
+    requires { ⌜ ShareInput k (now a) (now t) (now n) (now mu) × (k ≤ 4) ⌝ }
+    ensures { λ _. ⌜
+        take (256 * (k + 1)) (now (n .exit))
+        ≡ uvPass k (placesOf k (now (a .entry))) (parts 256 (now (t .entry))) (parts 256 (now (n .entry)))
+        (now (mu .entry)) ⌝ }
+{
+    let mut uv = [0u16; 1280];
+    let e = 256 * (k + 1);
+    uv_over(a, t, n, mu, k, &mut uv[0..e]);
+}
+
+// stage6, with room in t for the public vector.
+fn reencrypt(
+    rec: Recorder,
+    p: Parameters,
+    a: &[u16],
+    ek: &[u8],
+    n0: &mut [u16],
+    n1: &mut [u16],
+    mu0: &[u16],
+    mu1: &[u16],
+    t: &mut [u16],
+) -> Recorder
+    requires { ⌜
+        ReencryptInput p (now ek) (now a) (sharedList (now n0) (now n1)) (sharedList (now mu0) (now mu1))
+        × (length (now t) ≡ 256 * p .k) ⌝ }
+    ensures { λ r. ⌜
+        MakesResidues
+        (stage6Of p (now (ek .entry)) (polynomials (2 * p .k + 1) (sharedList (now (n0 .entry)) (now (n1 .entry))))
+        (sharedList (now (mu0 .entry)) (now (mu1 .entry))))
+        rec (256 * (p .k + 1)) (polynomials (p .k + 1))
+        (sharedList (take (256 * (p .k + 1)) (now (n0 .exit))) (take (256 * (p .k + 1)) (now (n1 .exit)))) r ⌝ }
+{
+    let k = p.k;
+    let b = vector_bytes(p);
+    let e = 256 * (k + 1);
+    decode12_all(&ek[0..b], k, t);
+    uv_in_place(a, t, n0, mu0, k);
+    uv_in_place(a, t, n1, mu1, k);
+    enter_polynomials(rec, k + 1, &n0[0..e], &n1[0..e])
+}
+
+// u and v, for the matrix a, in the first places of the noise.
 pub fn stage6(
     rec: Recorder,
+    p: Parameters,
     a: &[u16],
     ek: &[u8],
     n0: &mut [u16],
@@ -93,16 +142,15 @@ pub fn stage6(
     mu1: &[u16],
 ) -> Recorder
     requires { ⌜
-        ReencryptInput mlKem768 (now ek) (now a) (sharedList (now n0) (now n1)) (sharedList (now mu0) (now mu1)) ⌝ }
+        ReencryptInput p (now ek) (now a) (sharedList (now n0) (now n1)) (sharedList (now mu0) (now mu1)) ⌝ }
     ensures { λ r. ⌜
         MakesResidues
-        (stage6Of mlKem768 (now (ek .entry)) (polynomials 7 (sharedList (now (n0 .entry)) (now (n1 .entry))))
+        (stage6Of p (now (ek .entry)) (polynomials (2 * p .k + 1) (sharedList (now (n0 .entry)) (now (n1 .entry))))
         (sharedList (now (mu0 .entry)) (now (mu1 .entry))))
-        rec 1024 (polynomials 4) (sharedList (take 1024 (now (n0 .exit))) (take 1024 (now (n1 .exit)))) r ⌝ }
+        rec (256 * (p .k + 1)) (polynomials (p .k + 1))
+        (sharedList (take (256 * (p .k + 1)) (now (n0 .exit))) (take (256 * (p .k + 1)) (now (n1 .exit)))) r ⌝ }
 {
-    let mut t = [0u16; 768];
-    decode12_all(&ek[0..1152], 3, &mut t);
-    uv_in_place(a, &t, n0, mu0);
-    uv_in_place(a, &t, n1, mu1);
-    enter_polynomials(rec, 4, &n0[0..1024], &n1[0..1024])
+    let mut t = [0u16; 1024];
+    let n = 256 * p.k;
+    reencrypt(rec, p, a, ek, n0, n1, mu0, mu1, &mut t[0..n])
 }

@@ -1,4 +1,2 @@
 pub mod MaskedHash
-pub mod OneBlock
-pub mod OneBlockSponge
 pub mod SharedInput

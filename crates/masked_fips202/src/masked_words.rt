@@ -1,8 +1,5 @@
-// SHA3-512 and SHAKE256 on two shares, recorded, their output in words of one block at most.
-ghost use mathlib.Core.Path.{_≡_};
-ghost use Prim.Native.Nat.{_≤_};
-ghost use lib.ListN.{length, getD};
-ghost use Rattle.words.specs.Tab.{tab};
+// SHA3-512 and SHAKE256 on two shares, recorded, their output in words.
+ghost use lib.ListN.{length};
 ghost use Rattle.worksheet.specs.Prog.{word};
 ghost use Rattle.worksheet.specs.Ran.{Draws};
 ghost use Rattle.worksheet.specs.SharedList.{sharedList};
@@ -10,19 +7,9 @@ ghost use Rattle.masked_sponge.specs.MaskedSponge.{maskedSponge, spongeMaskWord
 ghost use Rattle.masked_fips202.specs.MaskedWords.{maskedSha3-512Words, maskedShake256Words};
 ghost use Rattle.masked_fips202.specs.MaskedWords.{sha3-512MaskWords, shake256MaskWords};
 ghost use Rattle.masked_fips202.specs.Lent.{WordsLent, Sha3-512Lent, Shake256Lent};
-use keccak::state::State;
 use masked_sponge::absorb::masked_absorb;
+use masked_sponge::squeeze::masked_squeeze_words;
 use worksheet::Recorder;
-
-// The first lanes of a state.
-fn first_lanes(s: State, out: &mut [u64])
-    requires { ⌜ length (now out) ≤ 25 ⌝ }
-    ensures { λ _. ⌜ now (out .exit) ≡ tab (length (now (out .entry))) (λ i. getD (s .lanes) i 0) ⌝ }
-{
-    for i in 0..out.len() {
-        out[i] = s.lanes[i];
-    }
-}
 
 // The sponge of the message whose shares are in0 and in1.
 fn sponge_words(
@@ -41,10 +28,9 @@ fn sponge_words(
         (maskedSponge rate suffix (now (in0 .entry)) (now (in1 .entry)) (length (now (o0 .entry))))
         rec (now (ws .entry)) (sharedList (now (o0 .exit)) (now (o1 .exit))) r ⌝ }
 {
+    let k = 25 + 600 * (in0.len() / rate + 1);
     let o = masked_absorb(rec, in0, in1, rate, suffix, ws);
-    first_lanes(o.s0, o0);
-    first_lanes(o.s1, o1);
-    o.rec
+    masked_squeeze_words(o.rec, o.s0, o.s1, rate / 8, &ws[k..], o0, o1)
 }
 
 // Eight words.
@@ -65,7 +51,7 @@ pub fn masked_sha3_512_words(
     sponge_words(rec, 72, 0x06, in0, in1, ws, o0, o1)
 }
 
-// At most 17 words.
+// Any number of words.
 pub fn masked_shake256_words(
     rec: Recorder,
     in0: &[u8],

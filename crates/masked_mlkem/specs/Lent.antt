@@ -1,13 +1,17 @@
 -- What is lent to a stage, and what stage 8 leaves.
 use mathlib.Core.Path.{_≡_}
 use mathlib.Core.List.{List}
-use Prim.Native.Nat.{ℕ, _*_, _<_, _≤_}
+use Prim.Native.Nat.{ℕ, _+_, _*_, _<_, _≤_}
 use lib.ListN.{length}
 use Rattle.worksheet.specs.declared.Shares.{Shares}
 use Rattle.worksheet.specs.SharedList.{SharedList}
-use Rattle.kpke.specs.Parameters.{Parameters, ctBytes}
+use Rattle.parameters.specs.declared.Parameters.{Parameters}
+use Rattle.parameters.specs.Lengths.{ctBytes}
+use Rattle.parameters.specs.Fits.{Fits}
+use Rattle.masked_fips202.specs.MaskedWords.{shake256MaskWords}
 use Rattle.stages.specs.Worksheet.{wordCount}
-use Rattle.stages.specs.Lent.{Long}
+use Rattle.stages.specs.Counts.{stage8Words}
+use Rattle.stages.specs.Lent.{Long, HashInput}
 
 -- 256 numbers, and where the words of their d planes go
 pub record PlanesInput (d : ℕ) (f w : List ℕ) : Type 0 where
@@ -15,11 +19,33 @@ pub record PlanesInput (d : ℕ) (f w : List ℕ) : Type 0 where
   pub out : length w ≡ d * 4
   pub depth : d ≤ 11
 
--- stage 8: the ciphertext, stage 7's planes z, and n mask words
-pub record EqualInput (p : Parameters) (n : ℕ) (c : List ℕ) (z : SharedList) (ws : List ℕ) : Type 0 where
+-- the ciphertext, and where the words of its planes go
+pub record PublicInput (p : Parameters) (c w : List ℕ) : Type 0 where
+  pub fits : Fits p
+  pub ct : length c ≡ ctBytes p
+  pub out : length w ≡ wordCount p
+
+-- stage 8: the ciphertext, stage 7's planes z, and the mask words
+pub record EqualInput (p : Parameters) (c : List ℕ) (z : SharedList) (ws : List ℕ) : Type 0 where
+  pub fits : Fits p
   pub ct : length c ≡ ctBytes p
   pub planes : Long (wordCount p) z
-  pub words : n ≤ length ws
+  pub words : stage8Words p ≤ length ws
+
+-- with w, where the ciphertext's own planes go
+pub record EqualWork (p : Parameters) (c : List ℕ) (z : SharedList) (ws w : List ℕ) : Type 0 where
+  pub input : EqualInput p c z ws
+  pub public : length w ≡ wordCount p
+
+-- stage 9: z, the ciphertext, of 1,568 bytes at most, the mask words, and where the rejected words go
+pub record RejectInput (z : SharedList) (c ws : List ℕ) (o : SharedList) : Type 0 where
+  pub hash : HashInput (length c) (shake256MaskWords (32 + length c) 4) 4 z c ws o
+  pub most : length c ≤ 1568
+
+-- with b, where the shares of the hash's input go
+pub record RejectWork (z : SharedList) (c ws : List ℕ) (b o : SharedList) : Type 0 where
+  pub input : RejectInput z c ws o
+  pub bytes : Long (32 + length c) b
 
 -- ---- what is left by a stage that gives a bit b: it ran as R says, and both shares are bits
 pub record GivesBit (R : Type 0) (b : Shares) : Type 0 where

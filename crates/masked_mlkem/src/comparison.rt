@@ -2,22 +2,23 @@
 ghost use mathlib.Core.List.{flatten};
 ghost use mathlib.Core.Path.{_≡_};
 ghost use Prim.Native.Nat.{_*_};
-ghost use lib.ListN.{length};
 ghost use Rattle.words.specs.Tab.{tab};
 ghost use Rattle.codec.specs.Bytes.{byteDecode};
 ghost use Rattle.worksheet.specs.Prog.{word};
 ghost use Rattle.worksheet.specs.Ran.{Draws};
 ghost use Rattle.worksheet.specs.SharedList.{sharedList};
 ghost use Rattle.worksheet.specs.Zip.{zip};
-ghost use Rattle.kpke.specs.Parameters.{mlKem768};
 ghost use Rattle.vectors.specs.Vector.{parts};
-ghost use Rattle.stages.specs.Worksheet.{planesOf, ciphertextPlanes, stage8 as stage8Of};
+ghost use Rattle.stages.specs.Worksheet.{planesOf, ciphertextPlanes, wordCount, stage8 as stage8Of};
+ghost use Rattle.stages.specs.Counts.{stage8Words};
 ghost use Rattle.stages.specs.Lent.{Decoding};
-ghost use Rattle.masked_mlkem.specs.Lent.{PlanesInput, EqualInput, GivesBit};
+ghost use Rattle.masked_mlkem.specs.Lent.{PlanesInput, PublicInput, EqualInput, EqualWork, GivesBit};
 use codec::byte_decode;
 use masked_comparison::comparison::add_public;
 use masked_comparison::comparison::all_zero;
+use parameters::Parameters;
 use planes::coefficient_planes;
+use stages::mask_counts::word_count;
 use worksheet::EnteredShares;
 use worksheet::Recorder;
 
@@ -64,32 +65,59 @@ fn first_planes(c: &[u8], d: u32, k: usize, out: &mut [u64])
 }
 
 // The ciphertext's own planes, which are public.
-fn ciphertext_planes(c: &[u8], out: &mut [u64])
-    requires { ⌜ (length (now c) ≡ 1088) × (length (now out) ≡ 136) ⌝ }
-    ensures { λ _. ⌜ now (out .exit) ≡ ciphertextPlanes mlKem768 (now (c .entry)) ⌝ }
+fn ciphertext_planes(p: Parameters, c: &[u8], out: &mut [u64])
+    requires { ⌜ PublicInput p (now c) (now out) ⌝ }
+    ensures { λ _. ⌜ now (out .exit) ≡ ciphertextPlanes p (now (c .entry)) ⌝ }
 {
-    first_planes(&c[0..960], 10, 3, &mut out[0..120]);
-    encoded_planes(&c[960..], 4, &mut out[120..]);
+    let n = 32 * (p.du as usize) * p.k;
+    let m = 4 * (p.du as usize) * p.k;
+    first_planes(&c[0..n], p.du, p.k, &mut out[0..m]);
+    encoded_planes(&c[n..], p.dv, &mut out[m..]);
+}
+
+// Stage 8, where public takes the ciphertext's own planes.
+fn equal_bit(
+    rec: Recorder,
+    p: Parameters,
+    c: &[u8],
+    planes0: &mut [u64],
+    planes1: &[u64],
+    ws: &[u64],
+    public: &mut [u64],
+) -> EnteredShares
+    requires { ⌜ EqualWork p (now c) (sharedList (now planes0) (now planes1)) (now ws) (now public) ⌝ }
+    ensures { λ r. ⌜
+        GivesBit
+        (Draws word (stage8Words p)
+        (stage8Of p (now (c .entry))
+        (zip (wordCount p) (sharedList (now (planes0 .entry)) (now (planes1 .entry)))))
+        rec (now (ws .entry)) (r .value) (r .rec))
+        (r .value) ⌝ }
+{
+    ciphertext_planes(p, c, public);
+    let rec = add_public(rec, public, planes0);
+    all_zero(rec, public.len() - 1, planes0, planes1, ws)
 }
 
 // The equal bit, from stage 7's planes.
 pub fn stage8(
     rec: Recorder,
+    p: Parameters,
     c: &[u8],
     planes0: &mut [u64],
     planes1: &[u64],
     ws: &[u64],
 ) -> EnteredShares
-    requires { ⌜ EqualInput mlKem768 141 (now c) (sharedList (now planes0) (now planes1)) (now ws) ⌝ }
+    requires { ⌜ EqualInput p (now c) (sharedList (now planes0) (now planes1)) (now ws) ⌝ }
     ensures { λ r. ⌜
         GivesBit
-        (Draws word 141
-        (stage8Of mlKem768 (now (c .entry)) (zip 136 (sharedList (now (planes0 .entry)) (now (planes1 .entry)))))
+        (Draws word (stage8Words p)
+        (stage8Of p (now (c .entry))
+        (zip (wordCount p) (sharedList (now (planes0 .entry)) (now (planes1 .entry)))))
         rec (now (ws .entry)) (r .value) (r .rec))
         (r .value) ⌝ }
 {
-    let mut p = [0u64; 136];
-    ciphertext_planes(c, &mut p);
-    let rec = add_public(rec, &p, planes0);
-    all_zero(rec, 135, planes0, planes1, ws)
+    let mut public = [0u64; 196]; // for the longest ciphertext
+    let n = word_count(p);
+    equal_bit(rec, p, c, planes0, planes1, ws, &mut public[0..n])
 }

@@ -1,43 +1,50 @@
-// Stage 5 of masked decapsulation (document 01, The worksheet): noise on two shares. Each function is handed the strips
-// from its first mask on.
+// Stage 5 of masked decapsulation (document 01, The worksheet): noise on two shares, for any parameter set. Each
+// function is handed the strips from its first mask on.
 ghost use mathlib.Core.List.{[], _∷_};
-ghost use mathlib.Core.Path.{_≡_};
-ghost use Prim.Native.Nat.{_+_, _*_, _/_, _^_, _<_};
-ghost use lib.ListN.{drop};
+ghost use Prim.Native.Nat.{_+_, _*_};
+ghost use lib.ListN.{drop, length};
 ghost use Rattle.worksheet.specs.Prog.{times, word, coeff};
 ghost use Rattle.worksheet.specs.Ran.{Ran, Draws};
 ghost use Rattle.worksheet.specs.SharedList.{sharedList};
 ghost use Rattle.worksheet.specs.Zip.{zip};
-ghost use Rattle.worksheet.specs.Sharing.{shares};
-ghost use Rattle.masked_fips202.specs.MaskedWords.{maskedShake256Words};
+ghost use Rattle.masked_fips202.specs.MaskedWords.{maskedShake256Words, shake256MaskWords};
 ghost use Rattle.masked_sampler.specs.Coefficient.{sampler as samplerOf};
-ghost use Rattle.kpke.specs.Parameters.{mlKem768};
+ghost use Rattle.stages.specs.Counts.{noiseWords, noiseCoeffs, stage5Words, stage5Coeffs};
 ghost use Rattle.stages.specs.Moves.{stringBit, withPublic};
 ghost use Rattle.stages.specs.Worksheet.{noisePoly, stage5 as stage5Of};
 ghost use Rattle.stages.specs.Layout.{polynomials};
-ghost use Rattle.stages.specs.Lent.{ConvertInput, HashInput};
-ghost use Rattle.masked_noise.specs.Lent.{MaskedNoiseInput};
+ghost use Rattle.stages.specs.Lent.{HashInput};
+ghost use Rattle.masked_noise.specs.Lent.{BitsLent, BitsRead, SampleInput};
+ghost use Rattle.masked_noise.specs.Lent.{MaskedNoiseInput, PolynomialInput, Stage5Input};
 use masked_fips202::masked_words::masked_shake256_words;
 use masked_fips202::shared_input::with_public;
 use masked_fips202::shared_input::with_zeros;
 use masked_sampler::sampler::sampler;
+use parameters::Parameters;
+use stages::mask_counts::noise_coeffs;
+use stages::mask_counts::noise_words;
 use worksheet::Recorder;
 use worksheet::Shares;
 
-// Both shares from bit s on.
-fn bits_from(w0: u64, w1: u64, s: usize) -> Shares
-    requires { ⌜ s < 64 ⌝ }
-    ensures { λ r. ⌜ r ≡ shares (w0 / 2 ^ s) (w1 / 2 ^ s) ⌝ }
+// One share's n bits from bit s on, as the lowest of a word; where they cross a word's end, the next word gives the
+// rest. What stands above them is left open.
+fn bits_at(o: &[u64], s: usize, n: usize) -> u64
+    requires { ⌜ BitsLent s n (now o) ⌝ }
+    ensures { λ r. ⌜ BitsRead (now (o .entry)) s n r ⌝ }
 {
-    Shares {
-        s0: w0 >> s,
-        s1: w1 >> s,
+    let i = s / 64;
+    let b = s % 64;
+    let w = o[i] >> b;
+    if b + n <= 64 {
+        return w;
     }
+    w ^ (o[i + 1] << (64 - b))
 }
 
-// 256 coefficients from 1,024 bits.
+// 256 coefficients, each from 2 eta bits and with 2 eta masks.
 fn sample_all(
     rec: Recorder,
+    eta: usize,
     o0: &[u64],
     o1: &[u64],
     cs: &[u16],
@@ -45,17 +52,22 @@ fn sample_all(
     f1: &mut [u16],
 ) -> Recorder
     requires { ⌜
-        ConvertInput 16 1024 256 (sharedList (now o0) (now o1)) (now cs) (sharedList (now f0) (now f1)) ⌝ }
+        SampleInput eta (sharedList (now o0) (now o1)) (now cs) (sharedList (now f0) (now f1)) ⌝ }
     ensures { λ r. ⌜
-        Draws coeff 1024
-        (times 256 (λ i. samplerOf 2 (λ j. stringBit (sharedList (now (o0 .entry)) (now (o1 .entry))) (2 * 2 * i + j))))
+        Draws coeff (noiseCoeffs eta)
+        (times 256 (λ i.
+        samplerOf eta (λ j. stringBit (sharedList (now (o0 .entry)) (now (o1 .entry))) (2 * eta * i + j))))
         rec (now (cs .entry)) (zip 256 (sharedList (now (f0 .exit)) (now (f1 .exit)))) r ⌝ }
 {
+    let n = 2 * eta;
     let mut rec = rec;
     for i in 0..256 {
-        let k = 4 * i;
-        let b = bits_from(o0[i / 16], o1[i / 16], 4 * (i % 16));
-        let o = sampler(rec, 2, b, &cs[k..]);
+        let k = n * i;
+        let b = Shares {
+            s0: bits_at(o0, k, n),
+            s1: bits_at(o1, k, n),
+        };
+        let o = sampler(rec, eta, b, &cs[k..]);
         f0[i] = o.s0;
         f1[i] = o.s1;
         rec = o.rec;
@@ -63,7 +75,7 @@ fn sample_all(
     rec
 }
 
-// The 1,024 bits of SHAKE256 of the coins and n.
+// SHAKE256 of the coins and n.
 fn noise_bits(
     rec: Recorder,
     r0: &[u64],
@@ -74,11 +86,12 @@ fn noise_bits(
     o1: &mut [u64],
 ) -> Recorder
     requires { ⌜
-        HashInput 1 625 16 (sharedList (now r0) (now r1)) (n ∷ []) (now ws) (sharedList (now o0) (now o1)) ⌝ }
+        HashInput 1 (shake256MaskWords 33 (length (now o0))) (length (now o0))
+        (sharedList (now r0) (now r1)) (n ∷ []) (now ws) (sharedList (now o0) (now o1)) ⌝ }
     ensures { λ r. ⌜
-        Draws word 625
+        Draws word (shake256MaskWords 33 (length (now (o0 .entry))))
         (maskedShake256Words (withPublic (sharedList (now (r0 .entry)) (now (r1 .entry))) (n ∷ []) .s0)
-        (withPublic (sharedList (now (r0 .entry)) (now (r1 .entry))) (n ∷ []) .s1) 16)
+        (withPublic (sharedList (now (r0 .entry)) (now (r1 .entry))) (n ∷ []) .s1) (length (now (o0 .entry))))
         rec (now (ws .entry)) (sharedList (now (o0 .exit)) (now (o1 .exit))) r ⌝ }
 {
     let public = [n];
@@ -89,9 +102,36 @@ fn noise_bits(
     masked_shake256_words(rec, &b0, &b1, ws, o0, o1)
 }
 
-// Polynomial n, with 625 words and 1,024 coefficients.
+// Polynomial n of width eta; o0 and o1 take its bits.
+fn noise_from(
+    rec: Recorder,
+    eta: usize,
+    r0: &[u64],
+    r1: &[u64],
+    n: u8,
+    ws: &[u64],
+    cs: &[u16],
+    o0: &mut [u64],
+    o1: &mut [u64],
+    f0: &mut [u16],
+    f1: &mut [u16],
+) -> Recorder
+    requires { ⌜
+        PolynomialInput eta n (sharedList (now r0) (now r1)) (now ws) (now cs)
+        (sharedList (now o0) (now o1)) (sharedList (now f0) (now f1)) ⌝ }
+    ensures { λ r. ⌜
+        Ran (noisePoly eta (sharedList (now (r0 .entry)) (now (r1 .entry))) n)
+        rec (now (ws .entry)) (now (cs .entry)) (sharedList (now (f0 .exit)) (now (f1 .exit)))
+        r (drop (noiseWords eta) (now (ws .entry))) (drop (noiseCoeffs eta) (now (cs .entry))) ⌝ }
+{
+    let rec = noise_bits(rec, r0, r1, n, ws, o0, o1);
+    sample_all(rec, eta, o0, o1, cs, f0, f1)
+}
+
+// The same, with the room for the bits.
 fn noise_poly(
     rec: Recorder,
+    eta: usize,
     r0: &[u64],
     r1: &[u64],
     n: u8,
@@ -101,21 +141,34 @@ fn noise_poly(
     f1: &mut [u16],
 ) -> Recorder
     requires { ⌜
-        MaskedNoiseInput n 1 (sharedList (now r0) (now r1)) (now ws) (now cs) (sharedList (now f0) (now f1)) ⌝ }
+        MaskedNoiseInput eta n 1 (sharedList (now r0) (now r1)) (now ws) (now cs) (sharedList (now f0) (now f1)) ⌝ }
     ensures { λ r. ⌜
-        Ran (noisePoly 2 (sharedList (now (r0 .entry)) (now (r1 .entry))) n)
+        Ran (noisePoly eta (sharedList (now (r0 .entry)) (now (r1 .entry))) n)
         rec (now (ws .entry)) (now (cs .entry)) (sharedList (now (f0 .exit)) (now (f1 .exit)))
-        r (drop 625 (now (ws .entry))) (drop 1024 (now (cs .entry))) ⌝ }
+        r (drop (noiseWords eta) (now (ws .entry))) (drop (noiseCoeffs eta) (now (cs .entry))) ⌝ }
 {
-    let mut o0 = [0u64; 16];
-    let mut o1 = [0u64; 16];
-    let rec = noise_bits(rec, r0, r1, n, ws, &mut o0, &mut o1);
-    sample_all(rec, &o0, &o1, cs, f0, f1)
+    let mut o0 = [0u64; 24];
+    let mut o1 = [0u64; 24];
+    let m = 8 * eta;
+    noise_from(
+        rec,
+        eta,
+        r0,
+        r1,
+        n,
+        ws,
+        cs,
+        &mut o0[0..m],
+        &mut o1[0..m],
+        f0,
+        f1,
+    )
 }
 
-// Polynomials n, n + 1, .., n + k - 1.
+// Polynomials n, n + 1, .., n + k - 1 of width eta.
 fn noise_polys(
     rec: Recorder,
+    eta: usize,
     r0: &[u64],
     r1: &[u64],
     n: usize,
@@ -126,20 +179,23 @@ fn noise_polys(
     f1: &mut [u16],
 ) -> Recorder
     requires { ⌜
-        MaskedNoiseInput n k (sharedList (now r0) (now r1)) (now ws) (now cs) (sharedList (now f0) (now f1)) ⌝ }
+        MaskedNoiseInput eta n k (sharedList (now r0) (now r1)) (now ws) (now cs) (sharedList (now f0) (now f1)) ⌝ }
     ensures { λ r. ⌜
-        Ran (times k (λ i. noisePoly 2 (sharedList (now (r0 .entry)) (now (r1 .entry))) (n + i)))
+        Ran (times k (λ i. noisePoly eta (sharedList (now (r0 .entry)) (now (r1 .entry))) (n + i)))
         rec (now (ws .entry)) (now (cs .entry)) (polynomials k (sharedList (now (f0 .exit)) (now (f1 .exit))))
-        r (drop (625 * k) (now (ws .entry))) (drop (1024 * k) (now (cs .entry))) ⌝ }
+        r (drop (noiseWords eta * k) (now (ws .entry))) (drop (noiseCoeffs eta * k) (now (cs .entry))) ⌝ }
 {
+    let words = noise_words(eta as u32);
+    let coeffs = noise_coeffs(eta as u32);
     let mut rec = rec;
     for i in 0..k {
         let a = 256 * i;
         let e = a + 256;
-        let w = 625 * i;
-        let c = 1024 * i;
+        let w = words * i;
+        let c = coeffs * i;
         rec = noise_poly(
             rec,
+            eta,
             r0,
             r1,
             (n + i) as u8,
@@ -152,9 +208,10 @@ fn noise_polys(
     rec
 }
 
-// y, e1 and e2 from the coins, with 4,375 words and 7,168 coefficients.
+// y of width eta1, then e1 and e2 of width eta2, from the coins.
 pub fn stage5(
     rec: Recorder,
+    p: Parameters,
     r0: &[u64],
     r1: &[u64],
     ws: &[u64],
@@ -163,22 +220,40 @@ pub fn stage5(
     n1: &mut [u16],
 ) -> Recorder
     requires { ⌜
-        MaskedNoiseInput 0 7 (sharedList (now r0) (now r1)) (now ws) (now cs) (sharedList (now n0) (now n1)) ⌝ }
+        Stage5Input p (sharedList (now r0) (now r1)) (now ws) (now cs) (sharedList (now n0) (now n1)) ⌝ }
     ensures { λ r. ⌜
-        Ran (stage5Of mlKem768 (sharedList (now (r0 .entry)) (now (r1 .entry))))
-        rec (now (ws .entry)) (now (cs .entry)) (polynomials 7 (sharedList (now (n0 .exit)) (now (n1 .exit))))
-        r (drop 4375 (now (ws .entry))) (drop 7168 (now (cs .entry))) ⌝ }
+        Ran (stage5Of p (sharedList (now (r0 .entry)) (now (r1 .entry))))
+        rec (now (ws .entry)) (now (cs .entry))
+        (polynomials (2 * p .k + 1) (sharedList (now (n0 .exit)) (now (n1 .exit))))
+        r (drop (stage5Words p) (now (ws .entry))) (drop (stage5Coeffs p) (now (cs .entry))) ⌝ }
 {
-    let rec = noise_polys(rec, r0, r1, 0, 3, ws, cs, &mut n0[0..768], &mut n1[0..768]);
-    noise_polys(
+    let k = p.k;
+    let a = 256 * k;
+    let eta = p.eta1;
+    let w = noise_words(eta) * k;
+    let c = noise_coeffs(eta) * k;
+    let rec = noise_polys(
         rec,
+        eta as usize,
         r0,
         r1,
-        3,
-        4,
-        &ws[1875..],
-        &cs[3072..],
-        &mut n0[768..],
-        &mut n1[768..],
+        0,
+        k,
+        ws,
+        cs,
+        &mut n0[..a],
+        &mut n1[..a],
+    );
+    noise_polys(
+        rec,
+        p.eta2 as usize,
+        r0,
+        r1,
+        k,
+        k + 1,
+        &ws[w..],
+        &cs[c..],
+        &mut n0[a..],
+        &mut n1[a..],
     )
 }

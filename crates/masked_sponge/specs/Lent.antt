@@ -1,7 +1,7 @@
 -- What the sponge's functions ask of a rate, a suffix and the buffers lent to them.
 use mathlib.Core.Path.{_≡_}
 use mathlib.Core.List.{List}
-use Prim.Native.Nat.{ℕ, _*_, _/_, _%_, _<_, _≤_}
+use Prim.Native.Nat.{ℕ, _-_, _*_, _/_, _%_, _<_, _≤_}
 use lib.ListN.{length}
 use Rattle.fips202.specs.Lent.{SpongeFits}
 use Rattle.masked_keccak.specs.MaskedKeccak.{keccakPWords}
@@ -28,10 +28,20 @@ pub record AbsorbLent (rate suffix : ℕ) (in0 in1 ws : List ℕ) : Type 0 where
   pub inputs : length in0 ≡ length in1
   pub masks : hashMaskWords (inputBlocks rate (length in0)) ≤ length ws
 
--- an output in two shares, and the masks for its further blocks
-pub record OutputLent (rate : ℕ) (ws out0 out1 : List ℕ) : Type 0 where
+-- an output in two shares, in blocks of so many elements, and the masks for its further blocks
+pub record OutputLent (most per : ℕ) (ws out0 out1 : List ℕ) : Type 0 where
   pub long : length out0 ≡ length out1
-  pub positive : 0 < rate
-  pub fits : rate ≤ 200
+  pub positive : 0 < per
+  pub fits : per ≤ most
+  pub masks : keccakPWords * furtherBlocks per (length out0) ≤ length ws
+
+-- in bytes, of which a block has rate, whole lanes
+pub record BytesLent (rate : ℕ) (ws out0 out1 : List ℕ) : Type 0 where
+  pub output : OutputLent 200 rate ws out0 out1
   pub whole : rate % 8 ≡ 0
-  pub masks : keccakPWords * furtherBlocks rate (length out0) ≤ length ws
+
+-- the part of one share's output from a to e
+pub record PartLent (most a e : ℕ) (out : List ℕ) : Type 0 where
+  pub order : a ≤ e
+  pub within : e ≤ length out
+  pub short : e - a ≤ most

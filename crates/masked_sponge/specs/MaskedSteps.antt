@@ -1,6 +1,8 @@
 -- What the functions of the masked sponge do by themselves: what goes in with a block, and what comes out.
-use mathlib.Core.List.{List}
-use Prim.Native.Nat.{ℕ, _+_, _/_}
+use mathlib.Core.List.{List, _++_}
+use Prim.Native.Nat.{ℕ, _+_, _-_, _/_}
+use lib.ListN.{getD, take, drop}
+use Rattle.words.specs.Tab.{tab}
 use Rattle.worksheet.specs.declared.Shares.{Shares}
 use Rattle.worksheet.specs.Prog.{Prog, ret, _>>=_}
 use Rattle.worksheet.specs.Sharing.{shares}
@@ -23,3 +25,13 @@ unfoldable pub squeezeBytes : ℕ → ℕ → SharedList → Prog SharedList
 squeezeBytes lanes d s = do
   z ← maskedSqueeze lanes ((d + 7) / 8) s
   ret (sharedBytes d z)
+
+-- ---- one share of the output
+
+-- lane i of a state
+abbrev pub lane : List ℕ → ℕ → ℕ
+lane s i = getD s i 0
+
+-- out, its elements from a to e replaced by the first that read gives of the state s
+abbrev pub given : (List ℕ → ℕ → ℕ) → List ℕ → ℕ → ℕ → List ℕ → List ℕ
+given read s a e out = take a out ++ (tab (e - a) (read s) ++ drop (e - a) (drop a out))

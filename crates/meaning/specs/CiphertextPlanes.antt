@@ -14,7 +14,8 @@ use Rattle.words.specs.TabLaws.{tab-cong}
 use Rattle.codec.specs.Bytes.{byteEncode, byteDecode}
 use Rattle.codec.specs.BytesLaws.{length-byteEncode, below-byteEncode, length-byteDecode, below-byteDecode}
 use Rattle.codec.specs.BytesLaws.{byteDecode-byteEncode, byteEncode-byteDecode}
-use Rattle.kpke.specs.Parameters.{Parameters, ctBytes}
+use Rattle.parameters.specs.declared.Parameters.{Parameters}
+use Rattle.parameters.specs.Lengths.{ctBytes}
 use Rattle.vectors.specs.Vector.{parts, concat}
 use Rattle.vectors.specs.VectorLaws.{Each, length-concat, below-concat}
 use Rattle.vectors.specs.VectorLaws.{concat-cong, concat-parts, parts-concat}

@@ -9,12 +9,13 @@ use Rattle.words.specs.Bounded.{Below}
 use Rattle.fips202.specs.Sponge.{sha3-512}
 use Rattle.worksheet.specs.Gives.{Gives, ret-g, gives-bind}
 use Rattle.worksheet.specs.SharingLaws.{Sharing}
-use Rattle.kpke.specs.Parameters.{Parameters, ctBytes}
+use Rattle.parameters.specs.declared.Parameters.{Parameters}
+use Rattle.parameters.specs.Lengths.{ctBytes}
 use Rattle.kpke.specs.KPke.{encrypt, decrypt}
 use Rattle.refusals.specs.Same.{same}
 use Rattle.mlkem.specs.MlKem.{secretPart, publicPart, hashPart}
 use Rattle.split_key.specs.SplitKey.{SplitKey, ekOf, hOf}
-use Rattle.stages.specs.Fits.{Fits}
+use Rattle.parameters.specs.Fits.{Fits}
 use Rattle.stages.specs.Worksheet.{Compared, maskedDecrypt, compared}
 use Rattle.meaning.specs.JoinedDk.{joinedDk}
 use Rattle.meaning.specs.InOrder.{InOrder}

@@ -16,10 +16,10 @@ use Rattle.worksheet.specs.Gives.{Gives, gives-bind, gives-weaken}
 use Rattle.worksheet.specs.Sharing.{none}
 use Rattle.worksheet.specs.SharingLaws.{Sharing}
 use Rattle.masked_comparison.specs.ComparisonLaws.{isZero, gives-addPublic, gives-allZero}
-use Rattle.kpke.specs.Parameters.{Parameters}
+use Rattle.parameters.specs.declared.Parameters.{Parameters}
 use Rattle.refusals.specs.Same.{same}
 use Rattle.refusals.specs.SameLaws.{same-refl, same-true}
-use Rattle.stages.specs.Fits.{Fits}
+use Rattle.parameters.specs.Fits.{Fits}
 use Rattle.stages.specs.Worksheet.{ciphertextPlanes, wordCount, stage8}
 use Rattle.meaning.specs.StageSharing.{SharingList}
 use Rattle.stages.specs.PlanesLaws.{below-ciphertextPlanes}
@@ -74,7 +74,7 @@ module _ (p : Parameters) {c d : List ℕ} (a : Ciphertext p c) (b : Ciphertext 
       → Gives (Sharing 1 (cond (same c d) 1 0)) (stage8 p c w)
   unfolding stage8
   gives-stage8 fits {w} s =
-      let n : suc (wordCount p - 1) ≡ wordCount p = omega (arith, fits .dv) in
+      let n : suc (wordCount p - 1) ≡ wordCount p = omega (arith, fits .dv .least) in
       let bit : Bool → ℕ = λ b. cond b 1 0 in
       gives-bind
       (gives-addPublic (wordCount p) (λ j. getD (ciphertextPlanes p c) j 0) (λ j. getD (ciphertextPlanes p d) j 0)

@@ -12,10 +12,11 @@ use Rattle.transform.specs.Transform.{ntt, inverseNtt}
 use Rattle.worksheet.specs.Turns.{Each}
 use Rattle.worksheet.specs.Gives.{Gives, ret-g, gives-bind, gives-times}
 use Rattle.worksheet.specs.SharedList.{SharedList}
-use Rattle.kpke.specs.Parameters.{Parameters, vectorBytes}
+use Rattle.parameters.specs.declared.Parameters.{Parameters}
+use Rattle.parameters.specs.Lengths.{vectorBytes}
 use Rattle.kpke.specs.KPke.{matrix, firstPart, secondPart, ephemeral, publicVector, encrypt}
 use Rattle.vectors.specs.VectorLaws.{concat-cong, dot-cong}
-use Rattle.stages.specs.Fits.{Fits}
+use Rattle.parameters.specs.Fits.{Fits}
 use Rattle.stages.specs.Moves.{nothing}
 use Rattle.stages.specs.Worksheet.{uShare, vShare, uvShare, planesOf, stage7, ciphertextPlanes, maskedEncrypt}
 use Rattle.meaning.specs.StageSharing.{PolySharing, BytesSharing, SharingList}

@@ -3,7 +3,8 @@ use mathlib.Core.Path.{_≡_}
 use Prim.Native.Nat.{_+_, _*_, _^_}
 use lib.ListN.{length}
 use Rattle.words.specs.Bounded.{Below}
-use Rattle.kpke.specs.Parameters.{Parameters, ekBytes}
+use Rattle.parameters.specs.declared.Parameters.{Parameters}
+use Rattle.parameters.specs.Lengths.{ekBytes}
 use Rattle.split_key.specs.SplitKey.{SplitKey, hOf}
 
 pub record InOrder (p : Parameters) (key : SplitKey) : Type 0 where

@@ -5,7 +5,7 @@ use Rattle.words.specs.LittleEndian.{wordsToBytes}
 use Rattle.codec.specs.Bytes.{byteEncode}
 use Rattle.ring.specs.Polynomial.{add}
 use Rattle.worksheet.specs.SharedList.{SharedList, joinedList}
-use Rattle.kpke.specs.Parameters.{Parameters}
+use Rattle.parameters.specs.declared.Parameters.{Parameters}
 use Rattle.vectors.specs.Vector.{parts, concat}
 use Rattle.split_key.specs.SplitKey.{SplitKey}
 

@@ -17,7 +17,8 @@ use Rattle.ring.specs.Polynomial.{sub}
 use Rattle.ring.specs.Sum.{below-add, length-add}
 use Rattle.transform.specs.Transform.{inverseNtt}
 use Rattle.worksheet.specs.SharedList.{joinedList}
-use Rattle.kpke.specs.Parameters.{Parameters, vectorBytes, ekBytes}
+use Rattle.parameters.specs.declared.Parameters.{Parameters}
+use Rattle.parameters.specs.Lengths.{vectorBytes, ekBytes}
 use Rattle.vectors.specs.Vector.{parts, concat}
 use Rattle.kpke.specs.KPke.{secondDecoded, noisyMessage, decrypt}
 use Rattle.vectors.specs.VectorLaws

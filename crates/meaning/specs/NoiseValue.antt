@@ -23,9 +23,9 @@ use Rattle.worksheet.specs.Gives.{Gives, ret-g, gives-bind, gives-times}
 use Rattle.worksheet.specs.Sharing.{joined, none}
 use Rattle.worksheet.specs.SharedList.{SharedList}
 use Rattle.masked_sampler.specs.SamplerLaws.{binomial, gives-sampler, getD-samplePolyCbd}
-use Rattle.kpke.specs.Parameters.{Parameters}
+use Rattle.parameters.specs.declared.Parameters.{Parameters}
 use Rattle.kpke.specs.KPke.{noise}
-use Rattle.stages.specs.Fits.{Fits}
+use Rattle.parameters.specs.Fits.{Fits}
 use Rattle.stages.specs.Moves.{stringBit}
 use Rattle.stages.specs.Worksheet.{noisePoly, stage5}
 use Rattle.meaning.specs.StageSharing.{PolySharing, BytesSharing}
@@ -85,14 +85,14 @@ module _ {r : List ℕ} {s : SharedList} (a : BytesSharing 4 r s) where
       → Gives (Each (λ j. PolySharing (noiseOf p r j)) (p .k + (p .k + 1))) (stage5 p s)
   unfolding stage5
   gives-stage5 p fits =
-      let b = fits .rank in
+      let b = fits .rank .most in
       gives-bind
       (gives-times (λ i. PolySharing (noiseOf p r i)) (p .k) (λ i h.
-      rw (noiseOf-first p r i h) (gives-noisePoly (p .eta1) i (fits .eta1) (omega arith))))
+      rw (noiseOf-first p r i h) (gives-noisePoly (p .eta1) i (fits .eta1 .least) (omega arith))))
       (λ y f.
       gives-bind
       (gives-times (λ i. PolySharing (noiseOf p r (p .k + i))) (p .k + 1) (λ i h.
       rw (noiseOf-later p r (p .k + i) (omega arith))
-      (gives-noisePoly (p .eta2) (p .k + i) (fits .eta2) (omega arith))))
+      (gives-noisePoly (p .eta2) (p .k + i) (fits .eta2 .least) (omega arith))))
       (λ e g.
       ret-g (each-append f g)))

@@ -20,7 +20,8 @@ use Rattle.worksheet.specs.PassLaws.{gives-enterBoth}
 use Rattle.worksheet.specs.Turns.{Each}
 use Rattle.worksheet.specs.Gives.{Gives, gives-weaken, gives-times}
 use Rattle.worksheet.specs.SharedList.{SharedList}
-use Rattle.kpke.specs.Parameters.{Parameters, vectorBytes}
+use Rattle.parameters.specs.declared.Parameters.{Parameters}
+use Rattle.parameters.specs.Lengths.{vectorBytes}
 use Rattle.hash_functions.specs.Functions.{XOF}
 use Rattle.vectors.specs.Vector.{parts, dot}
 use Rattle.kpke.specs.KPke.{matrix, firstDecoded, secondDecoded, noisyMessage}

@@ -3,7 +3,8 @@ use mathlib.Core.List.{List, _++_}
 use Prim.Native.Nat.{ℕ}
 use lib.ListN.{drop}
 use Rattle.codec.specs.Bytes.{byteEncode, byteDecode12}
-use Rattle.kpke.specs.Parameters.{Parameters, vectorBytes}
+use Rattle.parameters.specs.declared.Parameters.{Parameters}
+use Rattle.parameters.specs.Lengths.{vectorBytes}
 use Rattle.vectors.specs.Vector.{parts, concat}
 use Rattle.mlkem.specs.MlKem.{secretPart}
 

@@ -12,7 +12,8 @@ use Rattle.words.specs.Part.{length-part, part-fits}
 use Rattle.words.specs.Residue.{q}
 use Rattle.codec.specs.Bytes.{byteEncode, byteDecode}
 use Rattle.codec.specs.BytesLaws.{length-byteDecode, byteEncode-byteDecode, byteDecode12-below}
-use Rattle.kpke.specs.Parameters.{Parameters, vectorBytes}
+use Rattle.parameters.specs.declared.Parameters.{Parameters}
+use Rattle.parameters.specs.Lengths.{vectorBytes}
 use Rattle.vectors.specs.Vector.{parts, coefficients}
 use Rattle.vectors.specs.VectorLaws
 use Rattle.vectors.specs.VectorLaws.{concat-cong, parts-concat, concat-parts}

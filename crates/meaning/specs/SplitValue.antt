@@ -24,7 +24,8 @@ use Rattle.worksheet.specs.Prog.{word, coeff, bound}
 use Rattle.worksheet.specs.Run.{run}
 use Rattle.worksheet.specs.SharedList.{sharedList, joinedList}
 use Rattle.masked_fips202.specs.XorBytes.{laneOf-bits}
-use Rattle.kpke.specs.Parameters.{Parameters, vectorBytes, ekBytes, ctBytes}
+use Rattle.parameters.specs.declared.Parameters.{Parameters}
+use Rattle.parameters.specs.Lengths.{vectorBytes, ekBytes, ctBytes}
 use Rattle.kpke.specs.KPke.{secondDecoded, noisyMessage, decrypt}
 use Rattle.vectors.specs.Vector.{parts, concat, coefficients}
 use Rattle.vectors.specs.VectorLaws
@@ -33,7 +34,7 @@ use Rattle.mlkem.specs.MlKem.{secretPart, publicPart, hashPart, zPart, decaps}
 use Rattle.split_key.specs.SplitKey.{ekOf, hOf, secondCoeffs, secondWords, publicOf, split}
 use Rattle.split_key.specs.Importable.{Importable}
 use Rattle.split_key.specs.SplitLaws.{length-secondCoeffs, join-coefficients, join-words}
-use Rattle.stages.specs.Fits.{Fits}
+use Rattle.parameters.specs.Fits.{Fits}
 use Rattle.stages.specs.Worksheet.{worksheet}
 use Rattle.meaning.specs.JoinedDk.{joinedDk}
 use Rattle.meaning.specs.ReducedDk.{secretAt, reducedDk}

@@ -22,12 +22,13 @@ use Rattle.worksheet.specs.SharedListLaws.{joinedList-unzip}
 use Rattle.masked_comparison.specs.Comparison.{selectAll}
 use Rattle.masked_comparison.specs.ComparisonLaws.{isZero}
 use Rattle.masked_comparison.specs.SelectionLaws.{gives-select}
-use Rattle.kpke.specs.Parameters.{Parameters, ctBytes}
+use Rattle.parameters.specs.declared.Parameters.{Parameters}
+use Rattle.parameters.specs.Lengths.{ctBytes}
 use Rattle.hash_functions.specs.Functions.{J}
 use Rattle.refusals.specs.Same.{same}
 use Rattle.mlkem.specs.MlKem.{decaps}
 use Rattle.split_key.specs.SplitKey.{SplitKey}
-use Rattle.stages.specs.Fits.{Fits}
+use Rattle.parameters.specs.Fits.{Fits}
 use Rattle.stages.specs.Worksheet.{stage10, worksheet}
 use Rattle.meaning.specs.JoinedDk.{joinedDk}
 use Rattle.meaning.specs.InOrder.{InOrder}

@@ -5,7 +5,8 @@ use mathlib.Core.Bool.{not}
 use mathlib.Core.List.{List, [], _∷_, _++_}
 use Prim.Native.Nat.{ℕ, _<_}
 use lib.ListN.{take}
-use Rattle.kpke.specs.Parameters.{Parameters, vectorBytes}
+use Rattle.parameters.specs.declared.Parameters.{Parameters}
+use Rattle.parameters.specs.Lengths.{vectorBytes}
 use Rattle.hash_functions.specs.Functions.{G₁}
 use Rattle.vectors.specs.Vector.{coefficients}
 use Rattle.kpke.specs.KPke.{matrixFull}
@@ -59,3 +60,14 @@ module _ (p : Parameters) (r : Answer) where
 
     pub encaps-refused : (ek m ct k : List ℕ) → encapsAnswer p ek m ct k ≡ r → Encapsulated p ek m ct k (number r) ct k
     encaps-refused ek m ct k e = record { answer = ap number (sym e); ct = after-kept r _ _ h; k = after-kept r _ _ h }
+
+-- ---- the parameter set by another name
+
+module _ {p p′ : Parameters} (e : p ≡ p′) {n : ℕ} where
+  pub keys-made-of : {d z ek dk ek₁ dk₁ : List ℕ} → KeysMade p d z ek dk n ek₁ dk₁ → KeysMade p′ d z ek dk n ek₁ dk₁
+  keys-made-of h = rw e at h
+
+  pub encapsulated-of : {ek m ct k ct₁ k₁ : List ℕ}
+      → Encapsulated p ek m ct k n ct₁ k₁
+      → Encapsulated p′ ek m ct k n ct₁ k₁
+  encapsulated-of h = rw e at h

@@ -9,12 +9,13 @@ use lib.ListN.{take, drop}
 use Rattle.sampling.specs.Sample.{full, sampleNtt}
 use Rattle.refusals.specs.declared.Answer.{Answer}
 use Rattle.refusals.specs.declared.Answer.the-variants.{WrongLength, PublicKeyRange, ShortStream}
-use Rattle.kpke.specs.Parameters.{Parameters, vectorBytes, ekBytes, dkBytes, ctBytes}
+use Rattle.parameters.specs.declared.Parameters.{Parameters}
+use Rattle.parameters.specs.Lengths.{vectorBytes, ekBytes, dkBytes, ctBytes}
 use Rattle.hash_functions.specs.Functions.{G₁}
 use Rattle.vectors.specs.Vector.{coefficients}
 use Rattle.kpke.specs.KPke.{matrixFull}
 use Rattle.mlkem.specs.MlKem.{keyGenEk, keyGenDk, encapsKey, encapsCt}
-use Rattle.refusals.specs.Refusals.{number, row, answer, after, lent, sized}
+use Rattle.refusals.specs.Refusals.{number, row, answer, after, Lent, lent, sized}
 use Rattle.refusals.specs.Reduced.{reduced}
 
 -- ---- sampling (FIPS 203, algorithm 7)
@@ -34,10 +35,14 @@ module _ (p : Parameters) where
 
   -- ---- key making (algorithm 16)
 
+  -- the buffers with the lengths that they must have
+  abbrev pub keyGenLengths : List ℕ → List ℕ → List ℕ → List ℕ → List Lent
+  keyGenLengths d z ek dk = lent d 32 ∷ lent z 32 ∷ lent ek (ekBytes p) ∷ lent dk (dkBytes p) ∷ []
+
   unfoldable pub keyGenAnswer : List ℕ → List ℕ → List ℕ → List ℕ → Answer
   keyGenAnswer d z ek dk =
       answer
-      (row (not (sized (lent d 32 ∷ lent z 32 ∷ lent ek (ekBytes p) ∷ lent dk (dkBytes p) ∷ []))) WrongLength
+      (row (not (sized (keyGenLengths d z ek dk))) WrongLength
       ∷ row (not (matrixFull (p .k) (G₁ (d ++ p .k ∷ [])))) ShortStream
       ∷ [])
 
@@ -48,10 +53,13 @@ module _ (p : Parameters) where
 
   -- ---- encapsulation (algorithm 17)
 
+  abbrev pub encapsLengths : List ℕ → List ℕ → List ℕ → List ℕ → List Lent
+  encapsLengths ek m ct k = lent ek (ekBytes p) ∷ lent m 32 ∷ lent ct (ctBytes p) ∷ lent k 32 ∷ []
+
   unfoldable pub encapsAnswer : List ℕ → List ℕ → List ℕ → List ℕ → Answer
   encapsAnswer ek m ct k =
       answer
-      (row (not (sized (lent ek (ekBytes p) ∷ lent m 32 ∷ lent ct (ctBytes p) ∷ lent k 32 ∷ []))) WrongLength
+      (row (not (sized (encapsLengths ek m ct k))) WrongLength
       ∷ row (not (reduced (coefficients (p .k) (take (vectorBytes p) ek)))) PublicKeyRange
       ∷ row (not (matrixFull (p .k) (rhoOf ek))) ShortStream
       ∷ [])

@@ -4,7 +4,8 @@ use mathlib.Core.List.{List, _++_}
 use Prim.Native.Nat.{ℕ, _+_}
 use lib.ListN.{take, drop}
 use Rattle.refusals.specs.Same.{same}
-use Rattle.kpke.specs.Parameters.{Parameters, vectorBytes, ekBytes}
+use Rattle.parameters.specs.declared.Parameters.{Parameters}
+use Rattle.parameters.specs.Lengths.{vectorBytes, ekBytes}
 use Rattle.hash_functions.specs.Functions.{H, J, G₁, G₂}
 use Rattle.kpke.specs.KPke.{ekPke, dkPke, encrypt, decrypt}
 

@@ -3,7 +3,8 @@ use mathlib.Core.Path.{_≡_}
 use mathlib.Core.List.{List}
 use Prim.Native.Nat.{ℕ}
 use lib.ListN.{length}
-use Rattle.kpke.specs.Parameters.{Parameters, ekBytes, dkBytes, ctBytes}
+use Rattle.parameters.specs.declared.Parameters.{Parameters}
+use Rattle.parameters.specs.Lengths.{ekBytes, dkBytes, ctBytes}
 
 module _ (p : Parameters) where
   pub record KeyGenSized (d₀ z₀ ek₀ dk₀ : List ℕ) : Type 0 where

@@ -1,19 +1,30 @@
--- What the functions that write the results of key making and encapsulation ask, and what they leave.
+-- What the functions of key making and encapsulation ask once row 1 has passed, and what those that write the results
+-- leave.
 use mathlib.Core.Path.{_≡_}
 use mathlib.Core.List.{List}
-use Prim.Native.Nat.{ℕ}
+use Prim.Native.Nat.{ℕ, _*_}
 use lib.ListN.{length, take, drop}
-use Rattle.kpke.specs.Parameters.{Parameters, ekBytes, dkBytes}
+use Rattle.parameters.specs.declared.Parameters.{Parameters}
+use Rattle.parameters.specs.Lengths.{ekBytes, dkBytes}
+use Rattle.parameters.specs.Fits.{Fits}
 use Rattle.kpke.specs.KPke.{ekFrom, dkFrom}
 use Rattle.kpke.specs.Expanded.{Expanded}
 use Rattle.mlkem.specs.MlKem.{wholeDk, encapsKey, encapsCt}
 use Rattle.mlkem.specs.Calls.{rhoOf}
-use Rattle.mlkem.specs.Sized.{EncapsSized}
+use Rattle.mlkem.specs.Sized.{KeyGenSized, EncapsSized}
 
 module _ (p : Parameters) where
-  -- ---- key making, for rho || sigma in g and the matrix of rho in a
+  -- ---- key making
 
+  -- with room for the matrix in a₀
+  pub record KeyGenInput (d z a₀ ek dk : List ℕ) : Type 0 where
+    pub fits : Fits p
+    pub sized : KeyGenSized p d z ek dk
+    pub room : length a₀ ≡ 256 * p .k * p .k
+
+  -- for rho || sigma in g and the matrix of rho in a
   pub record KeysInput (a g z₀ ek₀ dk₀ : List ℕ) : Type 0 where
+    pub fits : Fits p
     pub matrix : Expanded (p .k) (take 32 g) a
     pub seeds : length g ≡ 64
     pub z : length z₀ ≡ 32
@@ -24,9 +35,17 @@ module _ (p : Parameters) where
     pub ek : ek₁ ≡ ekFrom p (take 32 g) (drop 32 g)
     pub dk : dk₁ ≡ wholeDk (dkFrom p (drop 32 g)) (ekFrom p (take 32 g) (drop 32 g)) z
 
-  -- ---- encapsulation, for the matrix of ek's rho in a
+  -- ---- encapsulation
 
+  -- with room for the matrix in a₀
+  pub record EncapsInput (ek m a₀ ct k : List ℕ) : Type 0 where
+    pub fits : Fits p
+    pub sized : EncapsSized p ek m ct k
+    pub room : length a₀ ≡ 256 * p .k * p .k
+
+  -- for the matrix of ek's rho in a
   pub record SecretInput (a ek m ct k : List ℕ) : Type 0 where
+    pub fits : Fits p
     pub matrix : Expanded (p .k) (rhoOf p ek) a
     pub sized : EncapsSized p ek m ct k
 

@@ -1,52 +1,75 @@
 // ML-KEM.Encaps_internal (FIPS 203, algorithm 17).
 ghost use mathlib.Core.Path.{_≡_};
+ghost use Prim.Native.Nat.{_*_, _≤_};
 ghost use lib.ListN.{length};
-ghost use Rattle.kpke.specs.Parameters.{mlKem768};
+ghost use Rattle.parameters.specs.Sets.{mlKem768};
+ghost use Rattle.parameters.specs.Fits.{Fits};
 ghost use Rattle.vectors.specs.Vector.{coefficients};
 ghost use Rattle.mlkem.specs.Calls.{Encapsulated};
 ghost use Rattle.mlkem.specs.Sized.{EncapsSized};
-ghost use Rattle.mlkem.specs.Written.{SecretInput, SecretWritten};
+ghost use Rattle.mlkem.specs.Written.{EncapsInput, SecretInput, SecretWritten};
 ghost use Rattle.refusals.specs.Reduced.{reduced as reducedOf};
 ghost use Rattle.refusals.specs.Refusals.{number};
 use hash_functions::hash_g;
 use hash_functions::hash_h;
 use kpke::encrypt::encrypt;
 use kpke::matrix::expand;
+use parameters::Parameters;
+use parameters::ct_bytes;
+use parameters::ek_bytes;
+use parameters::of_rank;
+use parameters::vector_bytes;
 use refusals::Answer;
 use refusals::conditions::reduced;
 use refusals::exact;
 use slices::copy_bytes;
 use vectors::decode_all;
 
-// Section 7.2, the modulus check: each coefficient of an encoded vector is below q.
-fn vector_reduced(b: &[u8]) -> bool
-    requires { ⌜ length (now b) ≡ 1152 ⌝ }
-    ensures { λ r. ⌜ r ≡ reducedOf (coefficients 3 (now (b .entry))) ⌝ }
+// Section 7.2, the modulus check: each coefficient of an encoded vector is below q. They go to t.
+fn vector_reduced_in(b: &[u8], k: usize, t: &mut [u16]) -> bool
+    requires { ⌜ (length (now b) ≡ 384 * k) × (length (now t) ≡ 256 * k) ⌝ }
+    ensures { λ r. ⌜ r ≡ reducedOf (coefficients k (now (b .entry))) ⌝ }
 {
-    let mut t = [0u16; 768];
-    decode_all(b, 3, &mut t);
-    reduced(&t)
+    decode_all(b, k, t);
+    reduced(t)
+}
+
+// The same, for a rank of at most 4.
+fn vector_reduced(b: &[u8], k: usize) -> bool
+    requires { ⌜ (k ≤ 4) × (length (now b) ≡ 384 * k) ⌝ }
+    ensures { λ r. ⌜ r ≡ reducedOf (coefficients k (now (b .entry))) ⌝ }
+{
+    let mut t = [0u16; 1024];
+    let n = 256 * k;
+    vector_reduced_in(b, k, &mut t[0..n])
 }
 
 // Lines 1 and 2, for the matrix A-hat in a: K and the coins r are the halves of g.
-fn write_secret(a: &[u16], ek: &[u8], m: &[u8], ct: &mut [u8], k: &mut [u8])
-    requires { ⌜ SecretInput mlKem768 (now a) (now ek) (now m) (now ct) (now k) ⌝ }
-    ensures { λ _. ⌜ SecretWritten mlKem768 (now (ek .entry)) (now (m .entry)) (now (ct .exit)) (now (k .exit)) ⌝ }
+fn write_secret(p: Parameters, a: &[u16], ek: &[u8], m: &[u8], ct: &mut [u8], k: &mut [u8])
+    requires { ⌜ SecretInput p (now a) (now ek) (now m) (now ct) (now k) ⌝ }
+    ensures { λ _. ⌜ SecretWritten p (now (ek .entry)) (now (m .entry)) (now (ct .exit)) (now (k .exit)) ⌝ }
 {
     let mut h = [0u8; 32];
     let mut g = [0u8; 64];
     hash_h(ek, &mut h);
     hash_g(m, &h, &mut g);
     copy_bytes(&g[0..32], k);
-    encrypt(a, ek, m, &g[32..], ct);
+    encrypt(p, a, ek, m, &g[32..], ct);
 }
 
-// Algorithm 17, row 1 passed.
-fn encaps_sized(ek: &[u8], m: &[u8], ct: &mut [u8], k: &mut [u8]) -> Answer
-    requires { ⌜ EncapsSized mlKem768 (now ek) (now m) (now ct) (now k) ⌝ }
+// Algorithm 17, row 1 passed; a becomes the matrix A-hat.
+fn encaps_in(
+    p: Parameters,
+    ek: &[u8],
+    m: &[u8],
+    a: &mut [u16],
+    ct: &mut [u8],
+    k: &mut [u8],
+) -> Answer
+    requires { ⌜ EncapsInput p (now ek) (now m) (now a) (now ct) (now k) ⌝ }
     ensures { λ r. ⌜
         Encapsulated
-        mlKem768
+        p
         (now (ek .entry))
         (now (m .entry))
         (now (ct .entry))
@@ -56,18 +79,38 @@ fn encaps_sized(ek: &[u8], m: &[u8], ct: &mut [u8], k: &mut [u8]) -> Answer
         (now (k .exit))
         ⌝ }
 {
-    let mut a = [0u16; 2304];
-    if !vector_reduced(&ek[0..1152]) {
+    let n = vector_bytes(p);
+    if !vector_reduced(&ek[0..n], p.k) {
         return Answer::PublicKeyRange;
     }
-    if !expand(&ek[1152..], 3, &mut a) {
+    if !expand(&ek[n..], p.k, a) {
         return Answer::ShortStream;
     }
-    write_secret(&a, ek, m, ct, k);
+    write_secret(p, a, ek, m, ct, k);
     Answer::Done
 }
 
-// Algorithm 17, with the modulus check of section 7.2.
+// Algorithm 17, row 1 passed.
+fn encaps_sized(p: Parameters, ek: &[u8], m: &[u8], ct: &mut [u8], k: &mut [u8]) -> Answer
+    requires { ⌜ Fits p × EncapsSized p (now ek) (now m) (now ct) (now k) ⌝ }
+    ensures { λ r. ⌜
+        Encapsulated
+        p
+        (now (ek .entry))
+        (now (m .entry))
+        (now (ct .entry))
+        (now (k .entry))
+        (number r)
+        (now (ct .exit))
+        (now (k .exit))
+        ⌝ }
+{
+    let mut a = [0u16; 4096];
+    let n = 256 * p.k * p.k;
+    encaps_in(p, ek, m, &mut a[0..n], ct, k)
+}
+
+// Algorithm 17 at ML-KEM-768, with the modulus check of section 7.2.
 pub fn encaps(ek: &[u8], m: &[u8], ct: &mut [u8], k: &mut [u8]) -> Answer
     ensures { λ r. ⌜
         Encapsulated
@@ -81,9 +124,11 @@ pub fn encaps(ek: &[u8], m: &[u8], ct: &mut [u8], k: &mut [u8]) -> Answer
         (now (k .exit))
         ⌝ }
 {
+    let p = of_rank(3);
     let has = [ek.len(), m.len(), ct.len(), k.len()];
-    if !exact(&has, &[1184, 32, 1088, 32]) {
+    let wants = [ek_bytes(p), 32, ct_bytes(p), 32];
+    if !exact(&has, &wants) {
         return Answer::WrongLength;
     }
-    encaps_sized(ek, m, ct, k)
+    encaps_sized(p, ek, m, ct, k)
 }

@@ -4,14 +4,20 @@ ghost use mathlib.Core.Path.{_≡_};
 ghost use Prim.Native.Nat.{_+_};
 ghost use lib.ListN.{length};
 ghost use Rattle.fips202.specs.Sponge.{sha3-256};
-ghost use Rattle.kpke.specs.Parameters.{mlKem768};
+ghost use Rattle.parameters.specs.Sets.{mlKem768};
+ghost use Rattle.parameters.specs.Fits.{Fits};
 ghost use Rattle.mlkem.specs.Calls.{KeysMade};
 ghost use Rattle.mlkem.specs.Sized.{KeyGenSized};
-ghost use Rattle.mlkem.specs.Written.{KeysInput, KeysWritten};
+ghost use Rattle.mlkem.specs.Written.{KeyGenInput, KeysInput, KeysWritten};
 ghost use Rattle.refusals.specs.Refusals.{number};
 use hash_functions::hash_g_seed;
 use hash_functions::hash_h;
 use kpke::matrix::expand;
+use parameters::Parameters;
+use parameters::dk_bytes;
+use parameters::ek_bytes;
+use parameters::of_rank;
+use parameters::vector_bytes;
 use refusals::Answer;
 use refusals::exact;
 use slices::copy_bytes;
@@ -29,22 +35,28 @@ fn write_rest(ek: &[u8], z: &[u8], rest: &mut [u8])
 }
 
 // Lines 1 to 3, for the matrix A-hat in a and the seeds rho || sigma in g that K-PKE's keys are made from.
-fn write_keys(a: &[u16], g: &[u8], z: &[u8], ek: &mut [u8], dk: &mut [u8])
-    requires { ⌜ KeysInput mlKem768 (now a) (now g) (now z) (now ek) (now dk) ⌝ }
-    ensures { λ _. ⌜
-        KeysWritten mlKem768 (now (g .entry)) (now (z .entry)) (now (ek .exit)) (now (dk .exit))
-        ⌝ }
+fn write_keys(p: Parameters, a: &[u16], g: &[u8], z: &[u8], ek: &mut [u8], dk: &mut [u8])
+    requires { ⌜ KeysInput p (now a) (now g) (now z) (now ek) (now dk) ⌝ }
+    ensures { λ _. ⌜ KeysWritten p (now (g .entry)) (now (z .entry)) (now (ek .exit)) (now (dk .exit)) ⌝ }
 {
-    kpke::key_making::write_keys(a, &g[0..32], &g[32..], ek, &mut dk[0..1152]);
-    write_rest(ek, z, &mut dk[1152..]);
+    let n = vector_bytes(p);
+    kpke::key_making::write_keys(p, a, &g[0..32], &g[32..], ek, &mut dk[0..n]);
+    write_rest(ek, z, &mut dk[n..]);
 }
 
-// Algorithm 16, row 1 passed.
-fn keygen_sized(d: &[u8], z: &[u8], ek: &mut [u8], dk: &mut [u8]) -> Answer
-    requires { ⌜ KeyGenSized mlKem768 (now d) (now z) (now ek) (now dk) ⌝ }
+// Algorithm 16, row 1 passed; a becomes the matrix A-hat.
+fn keygen_in(
+    p: Parameters,
+    d: &[u8],
+    z: &[u8],
+    a: &mut [u16],
+    ek: &mut [u8],
+    dk: &mut [u8],
+) -> Answer
+    requires { ⌜ KeyGenInput p (now d) (now z) (now a) (now ek) (now dk) ⌝ }
     ensures { λ r. ⌜
         KeysMade
-        mlKem768
+        p
         (now (d .entry))
         (now (z .entry))
         (now (ek .entry))
@@ -55,16 +67,35 @@ fn keygen_sized(d: &[u8], z: &[u8], ek: &mut [u8], dk: &mut [u8]) -> Answer
         ⌝ }
 {
     let mut g = [0u8; 64];
-    let mut a = [0u16; 2304];
-    hash_g_seed(d, 3, &mut g);
-    if !expand(&g[0..32], 3, &mut a) {
+    hash_g_seed(d, p.k as u8, &mut g);
+    if !expand(&g[0..32], p.k, a) {
         return Answer::ShortStream;
     }
-    write_keys(&a, &g, z, ek, dk);
+    write_keys(p, a, &g, z, ek, dk);
     Answer::Done
 }
 
-// Algorithm 16.
+// Algorithm 16, row 1 passed.
+fn keygen_sized(p: Parameters, d: &[u8], z: &[u8], ek: &mut [u8], dk: &mut [u8]) -> Answer
+    requires { ⌜ Fits p × KeyGenSized p (now d) (now z) (now ek) (now dk) ⌝ }
+    ensures { λ r. ⌜
+        KeysMade
+        p
+        (now (d .entry))
+        (now (z .entry))
+        (now (ek .entry))
+        (now (dk .entry))
+        (number r)
+        (now (ek .exit))
+        (now (dk .exit))
+        ⌝ }
+{
+    let mut a = [0u16; 4096];
+    let n = 256 * p.k * p.k;
+    keygen_in(p, d, z, &mut a[0..n], ek, dk)
+}
+
+// Algorithm 16 at ML-KEM-768.
 pub fn keygen(d: &[u8], z: &[u8], ek: &mut [u8], dk: &mut [u8]) -> Answer
     ensures { λ r. ⌜
         KeysMade
@@ -78,9 +109,11 @@ pub fn keygen(d: &[u8], z: &[u8], ek: &mut [u8], dk: &mut [u8]) -> Answer
         (now (dk .exit))
         ⌝ }
 {
+    let p = of_rank(3);
     let has = [d.len(), z.len(), ek.len(), dk.len()];
-    if !exact(&has, &[32, 32, 1184, 2400]) {
+    let wants = [32, 32, ek_bytes(p), dk_bytes(p)];
+    if !exact(&has, &wants) {
         return Answer::WrongLength;
     }
-    keygen_sized(d, z, ek, dk)
+    keygen_sized(p, d, z, ek, dk)
 }

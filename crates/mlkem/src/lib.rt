@@ -1,4 +1,4 @@
-// ML-KEM-768 (FIPS 203).
+// ML-KEM (FIPS 203). Key making and encapsulation are called at ML-KEM-768; what they call takes any parameter set.
 mod encapsulation;
 mod key_making;
 mod stream; // sampling of a lent stream

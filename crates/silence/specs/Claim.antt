@@ -1,4 +1,5 @@
--- Demand 3, in document 01's words ("Demand 3 is one claim about this worksheet from its first step to its last").
+-- Demand 3 for a parameter set, in document 01's words ("Demand 3 is one claim about this worksheet from its first step
+-- to its last").
 use mathlib.Core.Path.{_≡_}
 use mathlib.Core.List.{List}
 use Prim.Native.Nat.{ℕ, _^_}
@@ -9,7 +10,8 @@ use Rattle.words.specs.Residue.{q}
 use Rattle.worksheet.specs.Run.{run}
 use Rattle.worksheet.specs.Sum.{when}
 use Rattle.worksheet.specs.Count.{tally, strips, hit}
-use Rattle.kpke.specs.Parameters.{mlKem768}
+use Rattle.parameters.specs.declared.Parameters.{Parameters}
+use Rattle.parameters.specs.Lengths.{ctBytes}
 use Rattle.mlkem.specs.MlKem.{publicPart}
 use Rattle.kpke.specs.KPke.{matrixFull}
 use Rattle.mlkem.specs.Calls.{rhoOf}
@@ -19,38 +21,46 @@ use Rattle.stages.specs.Worksheet.{worksheet}
 use Rattle.refusals.specs.Refusals.{number}
 use Rattle.decapsulation.specs.Calls.{Input, imported, traceAnswer, traceValue}
 
--- a key that import doesn't refuse
-pub record Key (dk : List ℕ) : Type 0 where
-  pub bytes : Below 256 dk
-  pub accepts : Accepted mlKem768 dk
+-- The sum of f over all choices. A choice is so many first coefficients below q, four first words, and a strip of so
+-- many words and so many coefficients below q.
+abbrev pub overChoices : ℕ → ℕ → ℕ → (List ℕ → List ℕ → List ℕ → List ℕ → ℕ) → ℕ
+overChoices firsts words coeffs f =
+    tally (replicate firsts q) (λ a. tally (replicate 4 (2 ^ 64)) (λ w. strips words coeffs (f a w)))
 
--- any 1,088 bytes
-pub record Ciphertext (c : List ℕ) : Type 0 where
-  pub bytes : Below 256 c
-  pub long : length c ≡ 1088
+module _ (p : Parameters) where
+  -- a key that import doesn't refuse
+  pub record Key (dk : List ℕ) : Type 0 where
+    pub bytes : Below 256 dk
+    pub accepts : Accepted p dk
 
--- 1 where the worksheet for this split, ciphertext and strip has v as entry t, else 0
-abbrev pub gives : List ℕ → List ℕ → ℕ → ℕ → List ℕ → List ℕ → List ℕ → List ℕ → ℕ
-gives dk c t v a w ws cs = hit t v (run (worksheet mlKem768 (split mlKem768 dk a w) c) ws cs .entries)
+  -- any bytes of a ciphertext's length
+  pub record Ciphertext (c : List ℕ) : Type 0 where
+    pub bytes : Below 256 c
+    pub long : length c ≡ ctBytes p
 
--- How many choices give v at step t under the key dk and the ciphertext c. A choice is 768 first coefficients below q,
--- four first words, and a strip of 11,750 words and 7,424 coefficients below q; where a matrix stream runs dry there is
--- none.
-unfoldable pub choices : List ℕ → List ℕ → ℕ → ℕ → ℕ
-choices dk c t v =
-    when (matrixFull (mlKem768 .k) (rhoOf mlKem768 (publicPart mlKem768 dk)))
-    (tally (replicate 768 q)
-    (λ a. tally (replicate 4 (2 ^ 64)) (λ w. strips 11750 7424 (λ ws cs. gives dk c t v a w ws cs))))
+  -- 1 where the worksheet for this split, ciphertext and strip has v as entry t, else 0
+  abbrev pub gives : List ℕ → List ℕ → ℕ → ℕ → List ℕ → List ℕ → List ℕ → List ℕ → ℕ
+  gives dk c t v a w ws cs = hit t v (run (worksheet p (split p dk a w) c) ws cs .entries)
 
--- ---- by what the trace call hands back
+  -- How many choices give v at step t under the key dk and the ciphertext c; where a matrix stream runs dry there is
+  -- none.
+  unfoldable pub choices : ℕ → ℕ → ℕ → List ℕ → List ℕ → ℕ → ℕ → ℕ
+  choices firsts words coeffs dk c t v =
+      when (matrixFull (p .k) (rhoOf p (publicPart p dk))) (overChoices firsts words coeffs (gives dk c t v))
 
--- 1 where the trace of step t is carried out and hands back v, else 0
-abbrev pub handsBack : Input → ℕ → ℕ → ℕ
-handsBack g t v = when (eqb (number (traceAnswer mlKem768 g t)) 0) (when (eqb (traceValue mlKem768 g t) v) 1)
+  -- 1 where the trace of step t is carried out and hands back v, else 0
+  abbrev pub handsBack : Input → ℕ → ℕ → ℕ
+  handsBack g t v = when (eqb (number (traceAnswer p g t)) 0) (when (eqb (traceValue p g t) v) 1)
 
--- how many choices of first shares and strip make the trace of step t hand back v, under the key dk split by import
-unfoldable pub traceChoices : List ℕ → List ℕ → ℕ → ℕ → ℕ
-traceChoices dk c t v =
-    tally (replicate 768 q)
-    (λ a. tally (replicate 4 (2 ^ 64))
-    (λ w. strips 11750 7424 (λ ws cs. handsBack (imported mlKem768 dk a w c ws cs) t v)))
+  -- how many choices make the trace of step t hand back v, under the key dk split by import and the ciphertext c
+  unfoldable pub traceChoices : ℕ → ℕ → ℕ → List ℕ → List ℕ → ℕ → ℕ → ℕ
+  traceChoices firsts words coeffs dk c t v =
+      overChoices firsts words coeffs (λ a w ws cs. handsBack (imported p dk a w c ws cs) t v)
+
+  -- Demand 3: the worksheet has n steps, and under two keys with one public part, for any ciphertext, `count` is the
+  -- same at each step and for each value.
+  pub record Silent (n : ℕ) (count : List ℕ → List ℕ → ℕ → ℕ → ℕ) : Type 0 where
+    pub steps : {dk c : List ℕ} → Key dk → Ciphertext c → (a w ws cs : List ℕ)
+        → length (run (worksheet p (split p dk a w) c) ws cs .entries) ≡ n
+    pub equal : {dk dk′ c : List ℕ} → Key dk → Key dk′ → Ciphertext c → publicPart p dk ≡ publicPart p dk′
+        → (t v : ℕ) → count dk c t v ≡ count dk′ c t v

@@ -8,9 +8,9 @@ use Rattle.worksheet.specs.Stage.{Stage, comap}
 use Rattle.worksheet.specs.Sharing.{none}
 use Rattle.worksheet.specs.Choice.{Kept, KeptList}
 use Rattle.masked_comparison.specs.ComparisonSilence.{compare-stage}
-use Rattle.kpke.specs.Parameters.{Parameters}
+use Rattle.parameters.specs.declared.Parameters.{Parameters}
 use Rattle.stages.specs.EntryCounts.{stage8Entries}
-use Rattle.stages.specs.Fits.{Fits}
+use Rattle.parameters.specs.Fits.{Fits}
 use Rattle.stages.specs.PlanesLaws.{below-ciphertextPlanes}
 use Rattle.stages.specs.Worksheet.{ciphertextPlanes, stage8, wordCount}
 use Rattle.silence.specs.Recount.{stage-recount}
@@ -22,5 +22,5 @@ stage8-stage p f c =
     stage-recount (omega arith)
     (comap (KeptList (wordCount p)) (λ (w : List Shares) j. getD w j none) (λ w j. getD w j none) (λ e. e)
     (λ e a b r. record { at = λ j h. r .at none none j h })
-    (compare-stage (wordCount p) (λ j. getD (ciphertextPlanes p c) j 0) (omega (arith, f .dv))
+    (compare-stage (wordCount p) (λ j. getD (ciphertextPlanes p c) j 0) (omega (arith, f .dv .least))
     (λ j. record { lt = below-ciphertextPlanes p c .at j })))

@@ -17,7 +17,7 @@ use Rattle.worksheet.specs.Choice.{KeptList, SameShare}
 use Rattle.worksheet.specs.PassLaws.{pass-stage}
 use Rattle.masked_compression.specs.CompressionSilence.{coupled-maskedCompress, groups-stage}
 use Rattle.masked_sampler.specs.PolynomialSilence.{Anything}
-use Rattle.kpke.specs.Parameters.{Parameters}
+use Rattle.parameters.specs.declared.Parameters.{Parameters}
 use Rattle.vectors.specs.Vector.{parts, dot}
 use Rattle.kpke.specs.KPke.{firstDecoded, noisyMessage}
 use Rattle.stages.specs.EntryCounts.{compressPolyEntries, stage1Entries, stage2Entries, decryptEntries}

@@ -9,9 +9,9 @@ use Rattle.worksheet.specs.Stage.{Stage, Beside, andThen, andAlso, comap}
 use Rattle.worksheet.specs.SharedList.{SharedList}
 use Rattle.worksheet.specs.Choice.{KeptList, SameShare}
 use Rattle.masked_sampler.specs.PolynomialSilence.{Anything}
-use Rattle.kpke.specs.Parameters.{Parameters}
+use Rattle.parameters.specs.declared.Parameters.{Parameters}
 use Rattle.stages.specs.EntryCounts.{stage5Entries, stage6Entries, stage7Entries, encryptEntries}
-use Rattle.stages.specs.Fits.{Fits}
+use Rattle.parameters.specs.Fits.{Fits}
 use Rattle.stages.specs.Worksheet.{stage5, stage6, stage7, maskedEncrypt, wordCount}
 use Rattle.silence.specs.NoiseSilence.{SamePolys, stage4-stage, stage5-stage}
 use Rattle.silence.specs.ReencryptionSilence.{stage6-stage, stage7-stage}

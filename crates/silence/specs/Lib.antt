@@ -11,3 +11,4 @@ pub mod WorksheetSilence
 pub mod SplitSilence
 pub mod Demand3
 pub mod TraceClaim
+pub mod Demand3Sizes

@@ -14,9 +14,9 @@ use Rattle.worksheet.specs.Stage.{Stage, andThen, comap, times-stage}
 use Rattle.worksheet.specs.SharedList.{SharedList}
 use Rattle.worksheet.specs.Choice.{KeptShared, SameShare}
 use Rattle.masked_sampler.specs.PolynomialSilence.{Anything, bitsToCoeffs-stage, samples-stage}
-use Rattle.kpke.specs.Parameters.{Parameters}
+use Rattle.parameters.specs.declared.Parameters.{Parameters}
 use Rattle.stages.specs.EntryCounts.{noiseEntries, stage3Entries, stage4Entries, stage5Entries}
-use Rattle.stages.specs.Fits.{Fits}
+use Rattle.parameters.specs.Fits.{Fits}
 use Rattle.stages.specs.Moves.{stringBit}
 use Rattle.stages.specs.Worksheet.{noisePoly, stage3, stage4, stage5}
 use Rattle.silence.specs.HashSilence.{sha3-512-stage, shake256-stage}
@@ -60,12 +60,12 @@ module _ (p : Parameters) (f : Fits p) where
   y-stage : Stage Anything (SamePolys (p .k)) (p .k * noiseEntries (p .eta1))
       (λ w. times (p .k) (λ j. noisePoly (p .eta1) w j))
       (λ w. times (p .k) (λ j. noisePoly (p .eta1) w j))
-  y-stage = noisePolys-stage (p .eta1) (p .k) (λ n. n) (f .eta1) (λ j h. omega (arith, f .rank))
+  y-stage = noisePolys-stage (p .eta1) (p .k) (λ n. n) (f .eta1 .least) (λ j h. omega (arith, f .rank .most))
 
   e-stage : Stage Anything (SamePolys (p .k + 1)) ((p .k + 1) * noiseEntries (p .eta2))
       (λ w. times (p .k + 1) (λ j. noisePoly (p .eta2) w (p .k + j)))
       (λ w. times (p .k + 1) (λ j. noisePoly (p .eta2) w (p .k + j)))
-  e-stage = noisePolys-stage (p .eta2) (p .k + 1) (λ n. p .k + n) (f .eta2) (λ j h. omega (arith, f .rank))
+  e-stage = noisePolys-stage (p .eta2) (p .k + 1) (λ n. p .k + n) (f .eta2 .least) (λ j h. omega (arith, f .rank .most))
 
   pub stage5-stage : Stage Anything (SamePolys (p .k + (p .k + 1))) (stage5Entries p) (stage5 p) (stage5 p)
   unfolding stage5 stage5Entries

@@ -18,7 +18,7 @@ use Rattle.worksheet.specs.SharedList.{SharedList}
 use Rattle.worksheet.specs.Turns.{Turns}
 use Rattle.worksheet.specs.Choice.{KeptList, SameShare}
 use Rattle.worksheet.specs.PassLaws.{pass-stage, coupled-pass}
-use Rattle.kpke.specs.Parameters.{Parameters}
+use Rattle.parameters.specs.declared.Parameters.{Parameters}
 use Rattle.vectors.specs.VectorLaws.{dot-cong}
 use Rattle.stages.specs.EntryCounts.{stage6Entries, stage7Entries}
 use Rattle.stages.specs.Moves.{nothing, shares0, shares1}

@@ -21,7 +21,7 @@ use Rattle.worksheet.specs.CoeffSharing.{CoeffSharing, coeffKeep-lt, share-coef
 use Rattle.worksheet.specs.SharedList.{sharedList}
 use Rattle.worksheet.specs.Choice.{SameShare}
 use Rattle.ring.specs.Polynomial.{minus, sub}
-use Rattle.kpke.specs.Parameters.{Parameters}
+use Rattle.parameters.specs.declared.Parameters.{Parameters}
 use Rattle.mlkem.specs.MlKem.{secretPart}
 use Rattle.vectors.specs.Vector.{coefficients}
 use Rattle.vectors.specs.VectorLaws.{length-coefficients}

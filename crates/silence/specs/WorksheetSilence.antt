@@ -16,11 +16,12 @@ use Rattle.worksheet.specs.Choice.{Kept, KeptList, KeptShared, SameShare}
 use Rattle.masked_sampler.specs.PolynomialSilence.{Anything}
 use Rattle.masked_comparison.specs.Comparison.{selectAll}
 use Rattle.masked_comparison.specs.SelectionSilence.{Operands, selects-stage}
-use Rattle.kpke.specs.Parameters.{Parameters, ekBytes, ctBytes}
+use Rattle.parameters.specs.declared.Parameters.{Parameters}
+use Rattle.parameters.specs.Lengths.{ekBytes, ctBytes}
 use Rattle.split_key.specs.SplitKey.{SplitKey}
 use Rattle.stages.specs.EntryCounts.{stage3Entries, stage8Entries, stage9Entries, stage10Entries}
 use Rattle.stages.specs.EntryCounts.{encryptEntries, comparedEntries, steps}
-use Rattle.stages.specs.Fits.{Fits}
+use Rattle.parameters.specs.Fits.{Fits}
 use Rattle.stages.specs.Moves.{coinsOf}
 use Rattle.stages.specs.Worksheet.{Compared, maskedDecrypt, maskedEncrypt, stage3, stage8, stage9, stage10, compared}
 use Rattle.stages.specs.Worksheet.{worksheet, wordCount}

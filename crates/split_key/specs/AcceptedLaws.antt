@@ -11,7 +11,7 @@ use Rattle.refusals.specs.Reduced.{reduced}
 use Rattle.refusals.specs.Same.{same}
 use Rattle.refusals.specs.SameLaws.{same-refl, same-true}
 use Rattle.refusals.specs.RefusalLaws.{Exact, passed, no-row, done-passed, sized-exact}
-use Rattle.kpke.specs.Parameters.{Parameters}
+use Rattle.parameters.specs.declared.Parameters.{Parameters}
 use Rattle.hash_functions.specs.Functions.{H}
 use Rattle.mlkem.specs.MlKem.{publicPart, hashPart}
 use Rattle.split_key.specs.SplitKey.{SplitKey, publicOf}

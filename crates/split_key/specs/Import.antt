@@ -10,7 +10,8 @@ use Rattle.refusals.specs.declared.Answer.the-variants.{WrongLength, WrongHash,
 use Rattle.refusals.specs.Refusals.{number, Row, row, answer, after, Lent, lent, sized}
 use Rattle.refusals.specs.Same.{same}
 use Rattle.refusals.specs.Reduced.{reduced}
-use Rattle.kpke.specs.Parameters.{Parameters, dkBytes}
+use Rattle.parameters.specs.declared.Parameters.{Parameters}
+use Rattle.parameters.specs.Lengths.{dkBytes}
 use Rattle.hash_functions.specs.Functions.{H}
 use Rattle.mlkem.specs.MlKem.{publicPart, hashPart}
 use Rattle.split_key.specs.SplitKey.{SplitKey, keyLengths, split}

@@ -7,7 +7,7 @@ use Rattle.refusals.specs.declared.Answer.{Answer}
 use Rattle.refusals.specs.declared.Answer.the-variants.{WrongLength}
 use Rattle.refusals.specs.Refusals.{number, answer}
 use Rattle.refusals.specs.RefusalLaws.{passed, exact-sized, after-kept}
-use Rattle.kpke.specs.Parameters.{Parameters}
+use Rattle.parameters.specs.declared.Parameters.{Parameters}
 use Rattle.split_key.specs.SplitKey.{SplitKey}
 use Rattle.split_key.specs.Import.{importRows, importAnswer, Imported}
 use Rattle.split_key.specs.Sized.{ImportSized}
@@ -28,3 +28,9 @@ module _ (p : Parameters) (r : Answer) where
       → importAnswer p dk maskCoeffs maskWords key ≡ r
       → Imported p dk maskCoeffs maskWords key (number r) key
   import-refused h dk maskCoeffs maskWords key e = record { answer = ap number (sym e); key = after-kept r _ _ h }
+
+-- the parameter set by another name
+pub imported-of : {p p′ : Parameters} {dk maskCoeffs maskWords : List ℕ} {key₀ key₁ : SplitKey} {n : ℕ} → p ≡ p′
+    → Imported p dk maskCoeffs maskWords key₀ n key₁
+    → Imported p′ dk maskCoeffs maskWords key₀ n key₁
+imported-of e h = rw e at h

@@ -5,7 +5,7 @@ use Prim.Native.Nat.{ℕ, _^_}
 use Rattle.words.specs.Bounded.{Below}
 use Rattle.refusals.specs.declared.Answer.the-variants.{Done}
 use Rattle.refusals.specs.RefusalLaws.{number-done}
-use Rattle.kpke.specs.Parameters.{Parameters}
+use Rattle.parameters.specs.declared.Parameters.{Parameters}
 use Rattle.split_key.specs.Import.{importAnswer, Imported}
 use Rattle.split_key.specs.Importable.{Importable}
 use Rattle.split_key.specs.AcceptedLaws.{import-exact, import-accepted}

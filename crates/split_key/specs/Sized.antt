@@ -3,7 +3,8 @@ use mathlib.Core.Path.{_≡_}
 use mathlib.Core.List.{List}
 use Prim.Native.Nat.{ℕ, _+_, _*_}
 use lib.ListN.{length}
-use Rattle.kpke.specs.Parameters.{Parameters, ekBytes, dkBytes}
+use Rattle.parameters.specs.declared.Parameters.{Parameters}
+use Rattle.parameters.specs.Lengths.{ekBytes, dkBytes}
 use Rattle.split_key.specs.SplitKey.{SplitKey}
 
 -- x has m elements, the masks and both shares n

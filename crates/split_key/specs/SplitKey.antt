@@ -8,7 +8,8 @@ use Rattle.fips202.specs.Sponge.{laneOf}
 use Rattle.ring.specs.Polynomial.{sub}
 use Rattle.worksheet.specs.SharedList.{SharedList, sharedList}
 use Rattle.refusals.specs.Refusals.{Lent, lent}
-use Rattle.kpke.specs.Parameters.{Parameters, ekBytes}
+use Rattle.parameters.specs.declared.Parameters.{Parameters}
+use Rattle.parameters.specs.Lengths.{ekBytes}
 use Rattle.vectors.specs.Vector.{coefficients}
 use Rattle.mlkem.specs.MlKem.{secretPart, publicPart, hashPart, zPart}
 

@@ -11,7 +11,7 @@ use Rattle.words.specs.Residue.{q}
 use Rattle.words.specs.TabLaws.{getD-tab}
 use Rattle.fips202.specs.Sponge.{laneOf}
 use Rattle.ring.specs.Sum.{length-sub, getD-sub}
-use Rattle.kpke.specs.Parameters.{Parameters}
+use Rattle.parameters.specs.declared.Parameters.{Parameters}
 use Rattle.vectors.specs.Vector.{coefficients}
 use Rattle.vectors.specs.VectorLaws.{length-coefficients}
 use Rattle.mlkem.specs.MlKem.{secretPart, zPart}

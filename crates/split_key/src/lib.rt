@@ -1,12 +1,15 @@
 // Import: a decapsulation key (FIPS 203, algorithm 16) is tested, by section 7.3's checks of its length and its hash,
 // and split. Its coefficients are taken modulo q, as algorithm 6 takes them.
 ghost use mathlib.Core.Path.{_≡_};
+ghost use Prim.Native.Nat.{_-_, _*_, _≤_};
 ghost use lib.ListN.{getD, length, take, drop};
 ghost use Rattle.words.specs.Tab.{tab};
 ghost use Rattle.words.specs.Word.{xor};
 ghost use Rattle.ring.specs.Polynomial.{sub};
 ghost use Rattle.worksheet.specs.SharedList.{sharedList};
-ghost use Rattle.kpke.specs.Parameters.{mlKem768};
+ghost use Rattle.parameters.specs.Sets.{mlKem768};
+ghost use Rattle.parameters.specs.Lengths.{dkBytes};
+ghost use Rattle.parameters.specs.Fits.{Fits};
 ghost use Rattle.vectors.specs.Vector.{coefficients};
 ghost use Rattle.fips202.specs.Sponge.{laneOf};
 ghost use Rattle.hash_functions.specs.Functions.{H as hashOf};
@@ -18,6 +21,11 @@ ghost use Rattle.refusals.specs.Refusals.{number};
 ghost use Rattle.refusals.specs.Same.{same as sameOf};
 use fips202::bytes::load;
 use hash_functions::hash_h;
+use parameters::Parameters;
+use parameters::dk_bytes;
+use parameters::ek_bytes;
+use parameters::of_rank;
+use parameters::vector_bytes;
 use refusals::Answer;
 use refusals::conditions::reduced;
 use refusals::conditions::same;
@@ -28,29 +36,30 @@ use slices::copy_coefficients;
 use vectors::decode_all;
 
 // Section 7.3, the hash check: h is the public key's hash.
-fn hash_matches(dk: &[u8]) -> bool
-    requires { ⌜ length (now dk) ≡ 2400 ⌝ }
-    ensures { λ r. ⌜
-        r ≡ sameOf (hashPart mlKem768 (now (dk .entry))) (hashOf (publicPart mlKem768 (now (dk .entry))))
-        ⌝ }
+fn hash_matches(p: Parameters, dk: &[u8]) -> bool
+    requires { ⌜ Fits p × (length (now dk) ≡ dkBytes p) ⌝ }
+    ensures { λ r. ⌜ r ≡ sameOf (hashPart p (now (dk .entry))) (hashOf (publicPart p (now (dk .entry)))) ⌝ }
 {
     let mut t = [0u8; 32];
-    hash_h(&dk[1152..2336], &mut t);
-    same(&dk[2336..2368], &t)
+    let n = vector_bytes(p);
+    let h = n + ek_bytes(p);
+    let e = h + 32;
+    hash_h(&dk[n..h], &mut t);
+    same(&dk[h..e], &t)
 }
 
 // The shares of the coefficients that b encodes.
-fn split_coefficients(b: &[u8], mask_coeffs: &[u16], s0: &mut [u16], s1: &mut [u16])
-    requires { ⌜ SharingInput 1152 768 (now b) (now «mask_coeffs») (now s0) (now s1) ⌝ }
+fn split_coefficients(b: &[u8], k: usize, mask_coeffs: &[u16], s0: &mut [u16], s1: &mut [u16])
+    requires { ⌜ SharingInput (384 * k) (256 * k) (now b) (now «mask_coeffs») (now s0) (now s1) ⌝ }
     ensures { λ _. ⌜
         sharedList (now (s0 .exit)) (now (s1 .exit))
         ≡ sharedList
         (now («mask_coeffs» .entry))
-        (sub (coefficients 3 (now (b .entry))) (now («mask_coeffs» .entry)))
+        (sub (coefficients k (now (b .entry))) (now («mask_coeffs» .entry)))
         ⌝ }
 {
     copy_coefficients(mask_coeffs, s0);
-    decode_all(b, 3, s1);
+    decode_all(b, k, s1);
     sub_from(s1, mask_coeffs);
 }
 
@@ -72,16 +81,17 @@ fn split_words(z: &[u8], mask_words: &[u64], z0: &mut [u64], z1: &mut [u64])
     }
 }
 
-// The public key and h, as they stand in the key.
-fn copy_public(dk: &[u8], public: &mut [u8])
-    requires { ⌜ (length (now dk) ≡ 2400) × (length (now public) ≡ 1216) ⌝ }
-    ensures { λ _. ⌜ now (public .exit) ≡ take 1216 (drop 1152 (now (dk .entry))) ⌝ }
+// The public key and h, as they stand in the key from s to e.
+fn copy_public(dk: &[u8], s: usize, e: usize, public: &mut [u8])
+    requires { ⌜ (s ≤ e) × (e ≤ length (now dk)) × (length (now public) ≡ e - s) ⌝ }
+    ensures { λ _. ⌜ now (public .exit) ≡ take (e - s) (drop s (now (dk .entry))) ⌝ }
 {
-    copy_bytes(&dk[1152..2368], public);
+    copy_bytes(&dk[s..e], public);
 }
 
 // The split key.
 fn write_split(
+    p: Parameters,
     dk: &[u8],
     mask_coeffs: &[u16],
     mask_words: &[u64],
@@ -92,21 +102,26 @@ fn write_split(
     public: &mut [u8],
 )
     requires { ⌜
-        ImportSized mlKem768 (now dk) (now «mask_coeffs») (now «mask_words»)
+        Fits p
+        × ImportSized p (now dk) (now «mask_coeffs») (now «mask_words»)
         (splitKey (now s0) (now s1) (now z0) (now z1) (now public))
         ⌝ }
     ensures { λ _. ⌜
         splitKey (now (s0 .exit)) (now (s1 .exit)) (now (z0 .exit)) (now (z1 .exit)) (now (public .exit))
-        ≡ split mlKem768 (now (dk .entry)) (now («mask_coeffs» .entry)) (now («mask_words» .entry))
+        ≡ split p (now (dk .entry)) (now («mask_coeffs» .entry)) (now («mask_words» .entry))
         ⌝ }
 {
-    split_coefficients(&dk[0..1152], mask_coeffs, s0, s1);
-    split_words(&dk[2368..2400], mask_words, z0, z1);
-    copy_public(dk, public);
+    let n = vector_bytes(p);
+    let z = n + ek_bytes(p) + 32;
+    let e = z + 32;
+    split_coefficients(&dk[0..n], p.k, mask_coeffs, s0, s1);
+    split_words(&dk[z..e], mask_words, z0, z1);
+    copy_public(dk, n, z, public);
 }
 
 // Import, row 1 passed.
 fn import_sized(
+    p: Parameters,
     dk: &[u8],
     mask_coeffs: &[u16],
     mask_words: &[u64],
@@ -117,26 +132,28 @@ fn import_sized(
     public: &mut [u8],
 ) -> Answer
     requires { ⌜
-        ImportSized mlKem768 (now dk) (now «mask_coeffs») (now «mask_words»)
+        Fits p
+        × ImportSized p (now dk) (now «mask_coeffs») (now «mask_words»)
         (splitKey (now s0) (now s1) (now z0) (now z1) (now public))
         ⌝ }
     ensures { λ r. ⌜
-        Imported mlKem768 (now (dk .entry)) (now («mask_coeffs» .entry)) (now («mask_words» .entry))
+        Imported p (now (dk .entry)) (now («mask_coeffs» .entry)) (now («mask_words» .entry))
         (splitKey (now (s0 .entry)) (now (s1 .entry)) (now (z0 .entry)) (now (z1 .entry)) (now (public .entry)))
         (number r)
         (splitKey (now (s0 .exit)) (now (s1 .exit)) (now (z0 .exit)) (now (z1 .exit)) (now (public .exit)))
         ⌝ }
 {
-    if !hash_matches(dk) {
+    if !hash_matches(p, dk) {
         return Answer::WrongHash;
     }
     if !reduced(mask_coeffs) {
         return Answer::MaskRange;
     }
-    write_split(dk, mask_coeffs, mask_words, s0, s1, z0, z1, public);
+    write_split(p, dk, mask_coeffs, mask_words, s0, s1, z0, z1, public);
     Answer::Done
 }
 
+// Import at ML-KEM-768.
 pub fn import(
     dk: &[u8],
     mask_coeffs: &[u16],
@@ -154,6 +171,9 @@ pub fn import(
         (splitKey (now (s0 .exit)) (now (s1 .exit)) (now (z0 .exit)) (now (z1 .exit)) (now (public .exit)))
         ⌝ }
 {
+    let p = of_rank(3);
+    let n = 256 * p.k;
+    let m = ek_bytes(p) + 32;
     let has = [
         dk.len(),
         mask_coeffs.len(),
@@ -164,8 +184,9 @@ pub fn import(
         z1.len(),
         public.len(),
     ];
-    if !exact(&has, &[2400, 768, 4, 768, 768, 4, 4, 1216]) {
+    let wants = [dk_bytes(p), n, 4, n, n, 4, 4, m];
+    if !exact(&has, &wants) {
         return Answer::WrongLength;
     }
-    import_sized(dk, mask_coeffs, mask_words, s0, s1, z0, z1, public)
+    import_sized(p, dk, mask_coeffs, mask_words, s0, s1, z0, z1, public)
 }

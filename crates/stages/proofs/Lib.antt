@@ -1,3 +1,4 @@
 pub mod Laid
 pub mod StoredRun
 pub mod HashedInput
+pub mod Strips

@@ -4,7 +4,8 @@ use Rattle.masked_fips202.specs.MaskedWords.{sha3-512MaskWords, shake256MaskWor
 use Rattle.masked_compression.specs.Compression.{compressWords}
 use Rattle.masked_sampler.specs.Coefficient.{bitToCoeffCoeffs, samplerCoeffs}
 use Rattle.masked_comparison.specs.Comparison.{allZeroWords, selectWords}
-use Rattle.kpke.specs.Parameters.{Parameters, ctBytes}
+use Rattle.parameters.specs.declared.Parameters.{Parameters}
+use Rattle.parameters.specs.Lengths.{ctBytes}
 use Rattle.stages.specs.Worksheet.{wordCount}
 
 -- ---- parts common to several stages

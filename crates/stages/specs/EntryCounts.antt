@@ -4,7 +4,8 @@ use Rattle.masked_fips202.specs.EntryCounts.{sha3-512Entries, shake256Entries}
 use Rattle.masked_compression.specs.EntryCounts.{compressEntries}
 use Rattle.masked_sampler.specs.EntryCounts.{bitToCoeffEntries, samplerEntries}
 use Rattle.masked_comparison.specs.EntryCounts.{selectEntries, allZeroEntries}
-use Rattle.kpke.specs.Parameters.{Parameters, ctBytes}
+use Rattle.parameters.specs.declared.Parameters.{Parameters}
+use Rattle.parameters.specs.Lengths.{ctBytes}
 use Rattle.stages.specs.Worksheet.{wordCount}
 
 -- a polynomial entered, 256 coefficients of each share

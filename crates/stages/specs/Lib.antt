@@ -5,11 +5,10 @@ pub mod FlattenLaws
 pub mod PlanesLaws
 pub mod Counts
 pub mod EntryCounts
-pub mod Counts768
+pub mod CountsTable
 pub mod WorksheetUses
 pub mod Layout
 pub mod LayoutLaws
-pub mod Fits
 pub mod Lent
 pub mod LentLaws
 pub mod MakesResidues

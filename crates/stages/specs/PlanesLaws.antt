@@ -10,7 +10,7 @@ use Rattle.words.specs.BoundedLaws.{below-nil, below-append, below-tab}
 use Rattle.words.specs.PlaneLaws.{plane-bits}
 use Rattle.words.specs.Tab.{tab}
 use Rattle.words.specs.TabLaws.{length-tab, getD-tab}
-use Rattle.kpke.specs.Parameters.{Parameters}
+use Rattle.parameters.specs.declared.Parameters.{Parameters}
 use Rattle.stages.specs.FlattenLaws.{length-flatten}
 use Rattle.stages.specs.Worksheet.{planesOf, ciphertextPlanes}
 

@@ -19,7 +19,8 @@ use Rattle.masked_fips202.specs.MaskedWords.{maskedSha3-512Words, maskedShake25
 use Rattle.masked_compression.specs.Compression.{maskedCompress}
 use Rattle.masked_sampler.specs.Coefficient.{bitToCoeff, sampler}
 use Rattle.masked_comparison.specs.Comparison.{addPublic, allZero, selectAll}
-use Rattle.kpke.specs.Parameters.{Parameters, vectorBytes}
+use Rattle.parameters.specs.declared.Parameters.{Parameters}
+use Rattle.parameters.specs.Lengths.{vectorBytes}
 use Rattle.vectors.specs.Vector.{parts, dot}
 use Rattle.kpke.specs.KPke.{matrix, firstDecoded, noisyMessage}
 use Rattle.split_key.specs.SplitKey.{SplitKey, ekOf, hOf}

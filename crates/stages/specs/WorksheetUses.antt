@@ -18,7 +18,8 @@ use Rattle.masked_sampler.specs.CoefficientLaws.{uses-bitToCoeff}
 use Rattle.masked_sampler.specs.SamplerLaws.{uses-sampler}
 use Rattle.masked_comparison.specs.Comparison.{allZeroWords, selectAll}
 use Rattle.masked_comparison.specs.ComparisonLaws.{uses-addPublic, uses-allZero, uses-select}
-use Rattle.kpke.specs.Parameters.{Parameters, ctBytes}
+use Rattle.parameters.specs.declared.Parameters.{Parameters}
+use Rattle.parameters.specs.Lengths.{ctBytes}
 use Rattle.split_key.specs.SplitKey.{SplitKey, ekOf, hOf}
 use Rattle.stages.specs.Moves.{withPublic, coinsOf}
 use Rattle.stages.specs.MovesLaws.{length-withPublic}

@@ -8,6 +8,7 @@ use hash_functions::hash_g;
 use hash_functions::hash_h;
 use kpke::encrypt::encrypt;
 use kpke::matrix::expand;
+use parameters::of_rank;
 use slices::copy_bytes;
 
 // The parts of a key whose coefficients are raised by 3329, where 12 bits hold the sum. Edged: both, with 3329 first
@@ -39,7 +40,7 @@ pub fn fit_hash(dk: &mut [u8])
     copy_bytes(&h, &mut dk[2336..2368]);
 }
 
-// Algorithm 14, with the matrix A-hat.
+// Algorithm 14 at ML-KEM-768, with the matrix A-hat.
 fn encrypt_with(r: &[u8], ek: &[u8], m: &[u8], ct: &mut [u8])
     requires { ⌜
         (length (now r) ≡ 32) × (length (now ek) ≡ 1184) × (length (now m) ≡ 32) × (length (now ct) ≡ 1088)
@@ -47,7 +48,7 @@ fn encrypt_with(r: &[u8], ek: &[u8], m: &[u8], ct: &mut [u8])
 {
     let mut a = [0u16; 2304];
     if expand(&ek[1152..], 3, &mut a) {
-        encrypt(&a, ek, m, r, ct);
+        encrypt(of_rank(3), &a, ek, m, r, ct);
     }
 }
 

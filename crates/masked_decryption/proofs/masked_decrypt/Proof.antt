@@ -1,6 +1,7 @@
 -- Stage 1's residues are what stage 2 compresses; the two runs follow each other.
 use native.Mathlib.Omega.{arith}
 use Rattle.worksheet.specs.Ran.{bind}
+use Rattle.stages.specs.Counts.{decryptWords}
 use Rattle.stages.specs.Worksheet.{maskedDecrypt}
 use borrow.Author.Needs.{needs}
 use Rattle.masked_decryption.proofs.masked_decrypt.Statement.{statement}
@@ -27,13 +28,14 @@ abbrev start : tie.After-w1 → tie.Start
 start c = inputs (arrays c) .before .before
 
 stage2-requires : tie.Need-stage2-requires
+unfolding decryptWords
 stage2-requires c κs =
     let a = noisy (lent c) in
     let p = start (a .before) .pre in
     record { depth = omega arith; input = a .stage1 .ensures .range; words = p .words; out = p .out }
 
 returns : tie.Need-returns
-unfolding maskedDecrypt
+unfolding maskedDecrypt decryptWords
 returns c cs =
     let b = filled c .before in
     bind _ (noisy (lent (b .before)) .stage1 .ensures .ran _ cs) (b .stage2 .ensures cs)

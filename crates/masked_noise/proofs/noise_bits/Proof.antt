@@ -1,19 +1,16 @@
 -- The two slices are the shares of the coins' bytes and n, as the definition puts them together, and are hashed.
 use mathlib.Core.List.{List}
+use mathlib.Core.Path.{refl, sym}
 use Prim.Native.Nat.{ℕ}
 use native.Mathlib.Omega.{arith}
+use lib.ListN.{length}
 use Rattle.worksheet.specs.Prog.{Prog}
 use Rattle.worksheet.specs.SharedList.{SharedList}
 use Rattle.masked_fips202.specs.MaskedWords.{maskedShake256Words, shake256MaskWords}
-use Rattle.masked_noise.proofs.Sampled.{bits-words}
 use Rattle.stages.proofs.HashedInput.{hash-masks, hash-ran}
 use borrow.Author.Needs.{needs}
 use Rattle.masked_noise.proofs.noise_bits.Statement.{statement}
 use Rattle.masked_noise.proofs.noise_bits.Tie as tie
-
--- the hash
-abbrev words16 : List ℕ → List ℕ → Prog SharedList
-words16 b0 b1 = maskedShake256Words b0 b1 16
 
 -- ---- places: after the hash, after each share of its input, and the start
 
@@ -41,28 +38,32 @@ inputs c = c .before .before .before
 abbrev start : tie.After-with-public → tie.Start
 start c = inputs (arrays c) .before .before
 
+-- ---- the hash of any input to as many words as are lent, and its masks
+
+abbrev words : tie.Start → List ℕ → List ℕ → Prog SharedList
+words s b0 b1 = maskedShake256Words b0 b1 (length (s .args .o0 .now))
+
+abbrev masks : tie.Start → ℕ → ℕ
+masks s k = shake256MaskWords k (length (s .args .o0 .now))
+
 -- ---- facts
 
 masked-shake256-words-requires : tie.Need-masked-shake256-words-requires
 masked-shake256-words-requires c κs =
     let p = share0 (share1 (lent c)) in
-    let g = start p .pre in
-    let m = hash-masks g words16 (λ k. shake256MaskWords k 16) bits-words (p .with-public .ensures) in
-    record {
-      inputs = omega arith;
-      outputs = omega (arith, g .out .long0, g .out .long1);
-      block = omega (arith, g .out .long0);
-      masks = rw (g .out .long0, m) (g .words);
-    }
+    let s = start p in
+    let g = s .pre in
+    let m = hash-masks g (words s) (masks s) refl (p .with-public .ensures) in
+    record { inputs = omega arith; outputs = sym (g .out .long1); masks = rw m (g .words) }
 
 returns : tie.Need-returns
 returns c cs =
     let h = hashed (filled c) in
     let z = share1 (lent (h .before)) in
     let p = share0 z in
-    let g = start p .pre in
-    hash-ran g words16 (λ k. shake256MaskWords k 16) bits-words (p .with-public .ensures) (z .with-zeros .ensures)
-    (rw (g .out .long0) at (h .masked-shake256-words .ensures cs))
+    let s = start p in
+    hash-ran (s .pre) (words s) (masks s) refl (p .with-public .ensures) (z .with-zeros .ensures)
+    (h .masked-shake256-words .ensures cs)
 
 pub noise-bits-spec : {M : Type 1} → statement M
 noise-bits-spec =

@@ -1,11 +1,12 @@
--- Turn i makes noise polynomial n + i with 625 words and 1,024 coefficients of its own, and writes it at place i.
-use mathlib.Core.Path.{sym, _∙_}
-use Prim.Native.Nat.{_+_, _-_, _*_, _^_, _<_, _≤_}
+-- Turn i makes noise polynomial n + i with the words and coefficients of its own, and writes it at place i.
+use mathlib.Core.Path.{_≡_, sym, _∙_}
+use Prim.Native.Nat.{ℕ, _+_, _-_, _*_, _^_, _<_, _≤_}
 use native.Mathlib.Nat.{le-refl, le-trans, le-add-right}
 use native.Mathlib.Omega.{arith}
 use lib.ListN.{length}
 use Rattle.worksheet.specs.SharedList.{SharedList, sharedList}
-use Rattle.words.specs.Part.{part-fits, part-within, length-span}
+use Rattle.words.specs.Part.{part-within, length-span}
+use Rattle.stages.specs.Counts.{noiseWords, noiseCoeffs}
 use Rattle.stages.specs.Worksheet.{noisePoly}
 use Rattle.stages.specs.LentLaws.{masks-rest}
 use Rattle.stages.proofs.StoredRun.{Written, written-start, written-turn, written-end, fits0, fits1}
@@ -16,11 +17,12 @@ use Rattle.masked_noise.proofs.noise_polys.Tie as tie
 
 -- i polynomials made
 abbrev Inv-loop : tie.InvT-loop
-Inv-loop r0 r1 n k ws cs f0₀ f1₀ rec₀ i₀ f0 f1 rec i =
-    Written (λ t. t) (OnBoth (λ j. noisePoly 2 (sharedList r0 r1) (n + j)) 625 1024 k rec₀ ws cs) 256 k f0 f1 rec i
+Inv-loop eta r0 r1 n k ws cs f0₀ f1₀ words coeffs rec₀ i₀ f0 f1 rec i =
+    Written (λ t. t) (OnBoth (λ j. noisePoly eta (sharedList r0 r1) (n + j)) words coeffs k rec₀ ws cs) 256 k
+    f0 f1 rec i
 
 abbrev μ-loop : tie.MeasureT-loop
-μ-loop r0 r1 n k ws cs f0₀ f1₀ rec₀ i₀ f0 f1 rec i = k - i
+μ-loop eta r0 r1 n k ws cs f0₀ f1₀ words coeffs rec₀ i₀ f0 f1 rec i = k - i
 
 -- ---- places: a turn's head from where each slice is lent, the start, and after the call
 
@@ -33,14 +35,17 @@ with-f0 c = with-cs (c .before)
 abbrev with-f1 : tie.After-noise-poly-arg4 Inv-loop μ-loop → tie.In-loop Inv-loop μ-loop
 with-f1 c = with-f0 (c .before)
 
-abbrev outputs : tie.At-loop Inv-loop μ-loop → tie.After-shared-slice-known4 Inv-loop μ-loop
-outputs c = c .before .before .before
+abbrev outputs : tie.After-slice-known2 Inv-loop μ-loop → tie.After-shared-slice-known4 Inv-loop μ-loop
+outputs c = c .before .before
 
-abbrev inputs : tie.At-loop Inv-loop μ-loop → tie.After-shared-slice-known Inv-loop μ-loop
-inputs c = outputs c .before .before .before
+abbrev known : tie.After-slice-known2 Inv-loop μ-loop → tie.After-shared-slice-known Inv-loop μ-loop
+known c = outputs c .before .before .before
+
+abbrev inputs : tie.After-noise-words Inv-loop μ-loop → tie.After-shared-slice-known Inv-loop μ-loop
+inputs c = known (c .before)
 
 abbrev entered : tie.At-loop Inv-loop μ-loop → tie.Start Inv-loop μ-loop
-entered c = inputs c .before
+entered c = inputs (c .before .before) .before
 
 abbrev start : tie.In-loop Inv-loop μ-loop → tie.Start Inv-loop μ-loop
 start c = entered (c .before)
@@ -53,36 +58,59 @@ turn c = with-f1 (stored c .before .before)
 
 -- what the call leaves in the parts that it is lent
 abbrev noise : tie.After-noise-poly Inv-loop μ-loop → SharedList
-noise c = let o = c .noise-poly .last .1 .1 .1 .1 .1 .1 in sharedList (o .0) (o .1 .0)
+noise c = let o = c .noise-poly .last .1 .1 .1 .1 .1 .1 .1 in sharedList (o .0) (o .1 .0)
 
--- ---- facts: of a turn's parts, and of the code
+-- the masks of a polynomial, as they are counted
+abbrev words-each : tie.At-loop Inv-loop μ-loop → ℕ
+words-each c = c .before .before .noise-words .result
+
+abbrev coeffs-each : tie.At-loop Inv-loop μ-loop → ℕ
+coeffs-each c = c .before .noise-coeffs .result
+
+-- ---- facts: of the counts, of a turn's parts, and of the code
+
+counted : {w n m : ℕ} (k : ℕ) → w ≡ n → n * k ≤ m → w * k ≤ m
+counted k e h = rw e h
+
+module _ (c : tie.At-loop Inv-loop μ-loop) where
+  words-are : words-each c ≡ noiseWords (entered c .args .eta)
+  words-are = c .before .before .noise-words .ensures .0
+
+  coeffs-are : coeffs-each c ≡ noiseCoeffs (entered c .args .eta)
+  coeffs-are = c .before .noise-coeffs .ensures .0
 
 -- what is lent takes fewer than 2 ^ 63 bytes
 module _ (c : tie.Start Inv-loop μ-loop) where
-  words-room : 625 * c .args .k * 8 < 2 ^ 63
-  words-room = omega arith
+  words-room : noiseWords (c .args .eta) * c .args .k * 8 < 2 ^ 63
+  words-room = omega (arith, c .pre .words)
 
-  coeffs-room : 1024 * c .args .k * 2 < 2 ^ 63
-  coeffs-room = omega arith
+  coeffs-room : noiseCoeffs (c .args .eta) * c .args .k * 2 < 2 ^ 63
+  coeffs-room = omega (arith, c .pre .coeffs .enough)
 
   noise-room : 256 * c .args .k * 2 < 2 ^ 63
   noise-room = omega arith
 
 module _ (c : tie.In-loop Inv-loop μ-loop) where
-  words : Placed 8 625 (c .before .loop .i)
-  words = placed (words-room (start c)) (c .loop-test .taken)
+  words : Placed 8 (words-each (c .before)) (c .before .loop .i)
+  words = placed (rw (words-are (c .before)) (words-room (start c))) (c .loop-test .taken)
 
-  coeffs : Placed 2 1024 (c .before .loop .i)
-  coeffs = placed (coeffs-room (start c)) (c .loop-test .taken)
+  coeffs : Placed 2 (coeffs-each (c .before)) (c .before .loop .i)
+  coeffs = placed (rw (coeffs-are (c .before)) (coeffs-room (start c))) (c .loop-test .taken)
 
   written : Placed 2 256 (c .before .loop .i)
   written = placed (noise-room (start c)) (c .loop-test .taken)
 
-  words-within : 625 * c .before .loop .i + 625 ≤ length (start c .args .ws .now)
-  words-within = part-within 625 (start c .pre .words) (c .loop-test .taken)
+  words-within : words-each (c .before) * c .before .loop .i + words-each (c .before) ≤ length (start c .args .ws .now)
+  words-within =
+      part-within _ (counted (start c .args .k) (words-are (c .before)) (start c .pre .words)) (c .loop-test .taken)
 
-  coeffs-within : 1024 * c .before .loop .i + 1024 ≤ length (start c .args .cs .now)
-  coeffs-within = part-within 1024 (start c .pre .coeffs .enough) (c .loop-test .taken)
+  coeffs-fit : (let n = coeffs-each (c .before) in
+      n * c .before .loop .i + n ≤ noiseCoeffs (start c .args .eta) * start c .args .k)
+  coeffs-fit = part-within _ (counted (start c .args .k) (coeffs-are (c .before)) (le-refl _)) (c .loop-test .taken)
+
+  coeffs-within :
+      coeffs-each (c .before) * c .before .loop .i + coeffs-each (c .before) ≤ length (start c .args .cs .now)
+  coeffs-within = le-trans coeffs-fit (start c .pre .coeffs .enough)
 
   span0 : 256 * c .before .loop .i + 256 ≤ length (c .before .loop .f0)
   span0 = fits0 (c .before .loop .inv) (c .loop-test .taken)
@@ -95,11 +123,14 @@ noise-poly-requires c κs =
     let t = with-f1 c in
     let l = t .before .loop in
     let s = start t in
+    let w = words-are (t .before) in
+    let m = coeffs-are (t .before) in
     record {
+      width = s .pre .width;
       numbers = omega arith;
       coins = s .pre .coins;
-      words = length-rest (625 * l .i) 625 (s .args .ws .now) (words-within t);
-      coeffs = masks-rest (1024 * l .i) 1024 (part-fits 1024 (t .loop-test .taken)) (s .pre .coeffs);
+      words = length-rest (words-each (t .before) * l .i) _ (s .args .ws .now) (omega (arith, words-within t));
+      coeffs = masks-rest (coeffs-each (t .before) * l .i) _ (omega (arith, coeffs-fit t)) (s .pre .coeffs);
       out =
           record {
             long0 = length-span (256 * l .i) 256 (l .f0) (span0 t);
@@ -110,10 +141,16 @@ noise-poly-requires c κs =
 loop-again : tie.Need-loop-again Inv-loop μ-loop
 loop-again c =
     let o = stored c .before in
-    let l = turn c .before .loop in
-    let k = o .noise-poly .kept .1 .1 .1 .1 .1 .1 in
+    let h = turn c .before in
+    let l = h .loop in
+    let k = o .noise-poly .kept .1 .1 .1 .1 .1 .1 .1 in
     written-turn (l .inv) (noise o .s0) (noise o .s1) (turn c .loop-test .taken) (k .0) (k .1 .0)
-    (both-turn (l .inv .ran) (o .noise-poly .ensures))
+    (both-turn (l .inv .ran) (rw (← words-are h, ← coeffs-are h) at (o .noise-poly .ensures)))
+
+returns : tie.Need-returns Inv-loop μ-loop
+returns c =
+    let h = c .before in
+    rw (← words-are h, ← coeffs-are h) (written-end (h .loop .inv) (c .loop-test .left) .ran)
 
 pub noise-polys-spec : {M : Type 1} → statement M
 noise-polys-spec =
@@ -121,6 +158,10 @@ noise-polys-spec =
     (tie.spec
     Inv-loop
     μ-loop
+    (λ c. omega arith)
+    (λ c κs. known c .before .pre .width)
+    (λ c. omega arith)
+    (λ c κs. inputs c .before .pre .width)
     (λ c. written-start (omega arith) (omega arith) both-start)
     (λ c. written c .start)
     (λ c. written c .end)
@@ -150,4 +191,4 @@ noise-polys-spec =
     loop-again
     (λ c. c .before .loop .inv .long0 ∙ sym (entered (c .before) .pre .out .long0))
     (λ c. c .before .loop .inv .long1 ∙ sym (entered (c .before) .pre .out .long1))
-    (λ c. written-end (c .before .loop .inv) (c .loop-test .left) .ran))
+    returns)

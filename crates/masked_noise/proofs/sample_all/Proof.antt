@@ -1,30 +1,36 @@
--- Coefficient i's four bits stand in one word, at 4 (i % 16); turn i samples it with four masks and stores it.
-use Prim.Native.Nat.{_+_, _-_, _*_}
+-- Turn i reads the 2 eta bits of coefficient i from either share, samples it with the next 2 eta masks and stores it.
+use Prim.Native.Nat.{ℕ, _+_, _-_, _*_, _≤_}
 use mathlib.Core.Path.{_≡_}
+use mathlib.Core.List.{List}
+use native.Mathlib.Nat.{mul-zero}
 use native.Mathlib.Omega.{arith}
+use lib.ListN.{length}
+use Rattle.words.specs.Part.{part-fits}
 use Rattle.worksheet.specs.Prog.{coeff, times}
 use Rattle.worksheet.specs.Ran.{Draws, part-coeffs}
 use Rattle.worksheet.specs.RanLoops.{times-start, times-turn}
 use Rattle.worksheet.specs.SharedList.{sharedList}
 use Rattle.worksheet.specs.StoredSharings.{StoredSharings, sharings-start, sharings-turn, sharings-end}
 use Rattle.masked_sampler.specs.Coefficient.{sampler}
+use Rattle.stages.specs.Counts.{noiseCoeffs}
 use Rattle.stages.specs.Moves.{stringBit}
 use Rattle.stages.specs.LentLaws.{masks-rest}
+use Rattle.masked_noise.specs.Lent.{BitsLent}
 use Rattle.masked_noise.proofs.Sampled.{sampled}
-use borrow.Author.Needs.{needs}
 use Rattle.masked_noise.proofs.sample_all.Statement.{statement}
 use Rattle.masked_noise.proofs.sample_all.Tie as tie
 
 -- i coefficients sampled
 abbrev Inv-loop : tie.InvT-loop
-Inv-loop o0 o1 cs f0₀ f1₀ rec₀ i₀ f0 f1 rec i =
+Inv-loop eta o0 o1 cs f0₀ f1₀ n rec₀ i₀ f0 f1 rec i =
     StoredSharings
-    (λ n ys r.
-    Draws coeff (4 * n) (times n (λ k. sampler 2 (λ j. stringBit (sharedList o0 o1) (2 * 2 * k + j)))) rec₀ cs ys r)
+    (λ m ys r.
+    Draws coeff (2 * eta * m) (times m (λ k. sampler eta (λ j. stringBit (sharedList o0 o1) (2 * eta * k + j))))
+    rec₀ cs ys r)
     256 256 f0 f1 rec i
 
 abbrev μ-loop : tie.MeasureT-loop
-μ-loop o0 o1 cs f0₀ f1₀ rec₀ i₀ f0 f1 rec i = 256 - i
+μ-loop eta o0 o1 cs f0₀ f1₀ n rec₀ i₀ f0 f1 rec i = 256 - i
 
 -- ---- places: the start, and where a turn has read its bits
 
@@ -34,30 +40,62 @@ inputs c = c .before .before .before
 abbrev start : tie.At-loop Inv-loop μ-loop → tie.Start Inv-loop μ-loop
 start c = inputs c .before .before .before
 
-abbrev words : tie.After-bits-from Inv-loop μ-loop → tie.In-loop Inv-loop μ-loop
-words c = c .before .before .before
+abbrev read : tie.After-sampler-arg Inv-loop μ-loop → tie.After-bits-at Inv-loop μ-loop
+read c = c .before .before
+
+abbrev test : tie.After-sampler-arg Inv-loop μ-loop → tie.In-loop Inv-loop μ-loop
+test c = read c .before
 
 -- ---- facts
 
+-- there are 2 eta masks for each of the 256 coefficients
+coeffs-all : (s : tie.Start Inv-loop μ-loop) → 2 * s .args .eta * 256 ≤ length (s .args .cs .now)
+unfolding noiseCoeffs
+coeffs-all s = omega (arith, s .pre .convert .coeffs .enough)
+
+-- a turn's bits and masks are among them
+among : (c : tie.In-loop Inv-loop μ-loop)
+    → (let n = 2 * start (c .before) .args .eta in n * c .before .loop .i + n ≤ n * 256)
+among c = part-fits (2 * start (c .before) .args .eta) (c .loop-test .taken)
+
+-- both shares have the bits
+bits-lent : (c : tie.In-loop Inv-loop μ-loop) (o : List ℕ) → length o ≡ 8 * start (c .before) .args .eta
+    → (let n = 2 * start (c .before) .args .eta in BitsLent (n * c .before .loop .i) n o)
+bits-lent c o e =
+    let w = start (c .before) .pre .width in
+    record { some = omega (arith, w .least); most = omega (arith, w .most); within = omega (arith, among c) }
+
 sampler-requires : tie.Need-sampler-requires Inv-loop μ-loop
+unfolding noiseCoeffs
 sampler-requires c κs =
-    let h = words (c .before) .before in
-    let m = masks-rest (4 * h .loop .i) 4 (omega arith) (start h .pre .coeffs) in
-    record { positive = omega arith; width = omega arith; masks = m .enough; below = m .below }
+    let h = test c .before in
+    let g = start h .pre in
+    let n = 2 * start h .args .eta in
+    let m = masks-rest (n * h .loop .i) n (omega (arith, among (test c))) (g .convert .coeffs) in
+    record { positive = g .width .least; width = g .width .most; masks = m .enough; below = m .below }
 
 loop-again : tie.Need-loop-again Inv-loop μ-loop
 loop-again c =
     let o = c .before in
-    let b = o .before .before in
-    let h = words b .before in
+    let b0 = read (o .before) in
+    let h = b0 .before .before in
     let l = h .loop in
     let a = start h .args in
-    let e : 4 * (l .i + 1) ≡ 4 * l .i + 4 = omega arith in
+    let n = 2 * a .eta in
+    let e : n * (l .i + 1) ≡ n * l .i + n = omega arith in
     sharings-turn (l .inv) _ _ (omega arith) (λ ws.
     rw e
     (times-turn _ (l .i) (l .inv .ran ws)
-    (sampled (sharedList (a .o0 .now) (a .o1 .now)) (l .i) (b .bits-from .ensures)
-    (part-coeffs (a .cs .now) (4 * l .i) 4 (o .sampler .ensures ws)))))
+    (sampled (a .eta) (sharedList (a .o0 .now) (a .o1 .now)) (n * l .i) (b0 .bits-at .ensures)
+    (o .before .before .bits-at2 .ensures)
+    (part-coeffs (a .cs .now) (n * l .i) n (o .sampler .ensures ws)))))
+
+returns : tie.Need-returns Inv-loop μ-loop
+unfolding noiseCoeffs
+returns c ws =
+    let h = c .before in
+    let e : 256 * (2 * start h .args .eta) ≡ 2 * start h .args .eta * 256 = omega arith in
+    rw e (sharings-end (h .loop .inv) (omega arith) ws)
 
 pub sample-all-spec : {M : Type 1} → statement M
 sample-all-spec =
@@ -65,17 +103,14 @@ sample-all-spec =
     (tie.spec
     Inv-loop
     μ-loop
-    (λ c. sharings-start (omega arith) (omega arith) (omega arith) (λ ws. times-start _))
     (λ c. omega arith)
-    (λ c. omega arith)
-    (λ c. omega arith)
-    (λ c. omega arith)
-    (λ c. omega arith)
-    (λ c. omega arith)
-    (λ c κs. search needs)
-    (λ c. omega arith)
-    (λ c. omega arith)
-    (λ c. omega arith)
+    (λ c. sharings-start (omega arith) (omega arith) (omega arith) (λ ws. rw mul-zero (times-start _)))
+    (λ c. omega (arith, among c))
+    (λ c κs. bits-lent c _ (start (c .before) .pre .convert .input .long0))
+    (λ c κs. bits-lent (c .before) _ (start (c .before .before) .pre .convert .input .long1))
+    (λ c. omega (arith, among (c .before .before)))
+    (λ c. omega (arith, among (c .before .before), coeffs-all (start (c .before .before .before))))
+    (λ c. omega (arith, among (c .before .before), coeffs-all (start (c .before .before .before))))
     (λ c. omega arith)
     sampler-requires
     (λ c. omega arith)
@@ -87,4 +122,4 @@ sample-all-spec =
     loop-again
     (λ c. omega arith)
     (λ c. omega arith)
-    (λ c. sharings-end (c .before .loop .inv) (omega arith)))
+    returns)

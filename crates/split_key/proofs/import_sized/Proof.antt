@@ -5,7 +5,6 @@ use mathlib.Core.Bool.{true}
 use borrow.Author.Needs.{needs}
 use borrow.Author.Tests.{not-true, not-false}
 use native.Mathlib.Omega.{arith}
-use Rattle.kpke.specs.Parameters.{mlKem768}
 use Rattle.hash_functions.specs.Functions.{H}
 use Rattle.refusals.specs.declared.Answer.the-variants.{Done, WrongHash, MaskRange}
 use Rattle.refusals.specs.Same.{same}
@@ -49,8 +48,8 @@ returned-s c = c .before .before .before
 -- ---- facts: what the tests say, where they have been passed
 
 hash-passed : (c : tie.Else1)
-    → (let dk = start (c .before) .args .dk .now in
-    same (hashPart mlKem768 dk) (H (publicPart mlKem768 dk)) ≡ true)
+    → (let s = start (c .before) .args in
+    same (hashPart (s .p) (s .dk .now)) (H (publicPart (s .p) (s .dk .now))) ≡ true)
 hash-passed c = sym (c .before .hash-matches .ensures) ∙ not-false _ (c .if1 .left)
 
 masks-passed : (c : tie.Else2) → reduced (start (matched (c .before) .before) .args .mask-coeffs .now) ≡ true
@@ -60,16 +59,18 @@ masks-passed c = sym (c .before .reduced .ensures) ∙ not-false _ (c .if2 .left
 
 returns : tie.Need-returns
 returns c =
+    let s = start (c .before) in
     let row3 = refused WrongHash _ (sym (c .before .hash-matches .ensures) ∙ not-true _ (c .if1 .taken)) in
-    import-refused mlKem768 WrongHash (omega arith) _ _ _ _
-    (import-answer mlKem768 WrongHash (start (c .before) .pre) row3)
+    import-refused (s .args .p) WrongHash (omega arith) _ _ _ _
+    (import-answer (s .args .p) WrongHash (s .pre .1) row3)
 
 returns-2 : tie.Need-returns-2
 returns-2 c =
     let hash = matched (c .before) in
+    let s = start (hash .before) in
     let row5 = refused MaskRange _ (sym (c .before .reduced .ensures) ∙ not-true _ (c .if2 .taken)) in
-    import-refused mlKem768 MaskRange (omega arith) _ _ _ _
-    (import-answer mlKem768 MaskRange (start (hash .before) .pre) (passed WrongHash _ (hash-passed hash) row5))
+    import-refused (s .args .p) MaskRange (omega arith) _ _ _ _
+    (import-answer (s .args .p) MaskRange (s .pre .1) (passed WrongHash _ (hash-passed hash) row5))
 
 write-split-requires : tie.Need-write-split-requires
 write-split-requires c κs = start (matched (masked c .before) .before) .pre
@@ -79,9 +80,10 @@ returns-3 c =
     let split = returned-s (returned-z (returned c)) .before in
     let masks = masked (split .before) in
     let hash = matched (masks .before) in
+    let s = start (hash .before) in
     let rows = passed WrongHash _ (hash-passed hash) (passed MaskRange _ (masks-passed masks) no-row) in
     record {
-      answer = ap number (sym (import-answer mlKem768 Done (start (hash .before) .pre) rows));
+      answer = ap number (sym (import-answer (s .args .p) Done (s .pre .1) rows));
       key = split .write-split .ensures;
     }
 

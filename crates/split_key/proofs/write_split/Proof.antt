@@ -1,12 +1,17 @@
 -- The three calls write the shares of the secret, those of z, and the public key and h, which stand side by side in dk.
 use mathlib.Core.Path.{_≡_, ap, ap₂, _∙_}
 use mathlib.Core.List.{List, _++_}
-use Prim.Native.Nat.{ℕ}
+use Prim.Native.Nat.{ℕ, _+_, _-_}
 use native.Mathlib.Omega.{arith}
 use borrow.Author.Needs.{needs}
-use lib.ListN.{take, drop}
+use lib.ListN.{getD, take, drop}
 use lib.Seq.{take-add, drop-drop}
-use Rattle.worksheet.specs.SharedList.{SharedList}
+use Rattle.words.specs.Part.{part-span}
+use Rattle.words.specs.Tab.{tab}
+use Rattle.words.specs.Word.{xor}
+use Rattle.fips202.specs.Sponge.{laneOf}
+use Rattle.worksheet.specs.SharedList.{SharedList, sharedList}
+use Rattle.parameters.specs.Lengths.{vectorBytes}
 use Rattle.split_key.specs.SplitKey.{SplitKey, secondCoeffs, secondWords, split}
 use Rattle.split_key.proofs.write_split.Statement.{statement}
 use Rattle.split_key.proofs.write_split.Tie as tie
@@ -37,14 +42,33 @@ coefficients c = returned-s (lent-z c) .before .before
 abbrev lent-s : tie.After-split-coefficients → tie.After-split-coefficients-arg
 lent-s c = c .before .before .before
 
-abbrev known : tie.After-split-coefficients-arg → tie.After-slice-known3
+abbrev counted : tie.After-split-coefficients → tie.After-ek-bytes
+counted c = lent-s c .before
+
+abbrev counted-secret : tie.After-split-coefficients → tie.After-vector-bytes
+counted-secret c = counted c .before
+
+abbrev known : tie.After-vector-bytes → tie.After-slice-known3
 known c = c .before .before .before
 
 abbrev shared : tie.After-slice-known3 → tie.After-shared-slice-known3
 shared c = c .before .before .before
 
 abbrev start : tie.After-split-coefficients → tie.Start
-start c = shared (known (lent-s c)) .before .before .before
+start c = shared (known (counted-secret c)) .before .before .before
+
+-- ---- facts: the parts of dk by the lengths that were counted, n to the public key and m of it
+
+module _ (dk : List ℕ) {n m a b : ℕ} (e : n ≡ a) (f : m ≡ b) where
+  z-by : take (n + m + 32 + 32 - (n + m + 32)) (drop (n + m + 32) dk) ≡ take 32 (drop (a + b + 32) dk)
+  z-by = part-span (n + m + 32) 32 dk ∙ ap₂ (λ (x y : ℕ). take 32 (drop (x + y + 32) dk)) e f
+
+  public-by : take (n + m + 32 - n) (drop n dk) ≡ take b (drop a dk) ++ take 32 (drop (a + b) dk)
+  public-by =
+      let g : n + m + 32 - n ≡ b + 32 = omega arith in
+      ap₂ (λ (x y : ℕ). take x (drop y dk)) g e
+      ∙ take-add b 32 (drop a dk)
+      ∙ ap (λ (l : List ℕ). take b (drop a dk) ++ take 32 l) (drop-drop b a dk)
 
 abbrev keyOf : SharedList → SharedList → List ℕ → SplitKey
 keyOf s z public = record { s = s; z = z; public = public }
@@ -58,15 +82,25 @@ returns c =
     let public = copied c in
     let z = words public in
     let s = coefficients z in
-    let dk = start s .args .dk .now in
-    let beside = ap (λ (l : List ℕ). take 1184 (drop 1152 dk) ++ take 32 l) (drop-drop 1184 1152 dk) in
-    let e = public .copy-public .ensures ∙ take-add 1184 32 (drop 1152 dk) ∙ beside in
-    same-key (s .split-coefficients .ensures) (z .split-words .ensures) e
+    let i = start s .args in
+    let n = counted-secret s .vector-bytes in
+    let m = counted s .ek-bytes .ensures in
+    let w = i .mask-words .now in
+    let split-z : List ℕ → SharedList = λ l. sharedList w (tab 4 (λ i. xor (laneOf l i) (getD w i 0))) in
+    let secret : n .result - 0 ≡ vectorBytes (i .p) = omega (arith, n .ensures) in
+    same-key (rw secret at (s .split-coefficients .ensures))
+    (z .split-words .ensures ∙ ap split-z (z-by (i .dk .now) (n .ensures) m))
+    (public .copy-public .ensures ∙ public-by (i .dk .now) (n .ensures) m)
 
 pub write-split-spec : {M : Type 1} → statement M
 write-split-spec =
     tie.close
     (tie.spec
+    (λ c κs. search needs)
+    (λ c κs. search needs)
+    (λ c. omega arith)
+    (λ c. omega arith)
+    (λ c. omega arith)
     (λ c. omega arith)
     (λ c. omega arith)
     (λ c. omega arith)

@@ -1,40 +1,56 @@
 -- The test of lengths is row 1's; where it is passed the lengths are exact, as the rest asks.
-use mathlib.Core.Path.{_≡_, sym, _∙_}
-use mathlib.Core.Bool.{true}
+use mathlib.Core.Path.{_≡_, refl, sym, _∙_}
+use Prim.Native.Nat.{_*_, _≤_}
+use native.Mathlib.Nat.{mul-le-mul}
 use native.Mathlib.Omega.{arith}
 use borrow.Author.Tests.{not-true, not-false}
 use Rattle.refusals.specs.declared.Answer.the-variants.{WrongLength}
 use Rattle.refusals.specs.Refusals.{sized}
 use Rattle.refusals.specs.RefusalLaws.{refused}
-use Rattle.kpke.specs.Parameters.{mlKem768}
 use Rattle.decapsulation.specs.Calls.{Input, input}
-use Rattle.decapsulation.proofs.Outcome.{all, sized-same, all-sized, shares-long, told-row}
+use Rattle.decapsulation.proofs.Outcome.{all, sized-same, same-wants, all-sized, shares-long, told-row}
+use Rattle.decapsulation.proofs.LentParts.{length-front}
 use borrow.Author.Needs.{needs}
 use Rattle.decapsulation.proofs.decapsulation.decapsulate.Statement.{statement}
 use Rattle.decapsulation.proofs.decapsulation.decapsulate.Tie as tie
 
 -- ---- places: the test, and the start before it
 
-abbrev known : tie.After-exact → tie.After-slice-known2
-known c = c .before .before .before
+abbrev counted : tie.After-exact → tie.After-strip-coeffs
+counted c = c .before .before
 
-abbrev strip : tie.After-slice-known2 → tie.After-shared-slice-known7
+abbrev lengths : tie.After-strip-coeffs → tie.After-has
+lengths c = c .before .before .before
+
+abbrev set : tie.After-has → tie.After-struct-known
+set c = c .before .before .before
+
+abbrev outputs : tie.After-struct-known → tie.After-shared-slice-known8
+outputs c = c .before .before .before
+
+abbrev strip : tie.After-shared-slice-known8 → tie.After-shared-slice-known5
 strip c = c .before .before .before
 
-abbrev public : tie.After-shared-slice-known7 → tie.After-shared-slice-known4
-public c = c .before .before .before
+abbrev key : tie.After-shared-slice-known5 → tie.After-shared-slice-known2
+key c = c .before .before .before
 
-abbrev secret : tie.After-shared-slice-known4 → tie.After-shared-slice-known
-secret c = c .before .before .before
+abbrev begun : tie.After-struct-known → tie.Start
+begun c = key (strip (outputs c)) .before .before
 
 abbrev start : tie.After-exact → tie.Start
-start c = secret (public (strip (known c))) .before
+start c = begun (set (lengths (counted c)))
 
-abbrev tested : tie.After-decapsulate-sized-arg3 → tie.Else1
-tested c = c .before .before .before
+abbrev lent-a : tie.After-decapsulate-in-arg3 → tie.After-a
+lent-a c = c .before .before .before
 
-abbrev ran : tie.After-slice-known3 → tie.After-decapsulate-sized
-ran c = c .before .before
+abbrev tested : tie.After-decapsulate-in-arg3 → tie.Else1
+tested c = lent-a c .before
+
+abbrev filled : tie.After-slice-known4 → tie.After-k0
+filled c = c .before .before .before
+
+abbrev ran : tie.After-slice-known4 → tie.After-decapsulate-in
+ran c = filled c .before .before
 
 abbrev lent : tie.Start → Input
 lent s =
@@ -42,37 +58,65 @@ lent s =
     input (a .s0 .now) (a .s1 .now) (a .z0 .now) (a .z1 .now) (a .public .now) (a .ct .now)
     (a .words .now) (a .coeffs .now)
 
-returns : tie.Need-returns
-returns c =
-    let s = start (c .before) in
-    told-row WrongLength (omega arith)
-    (refused WrongLength _
-    (sized-same (lent s) (s .args .k0 .now) (s .args .k1 .now)
-    ∙ sym (c .before .exact .ensures)
-    ∙ not-true _ (c .if1 .taken)))
+-- ---- facts
 
-decapsulate-sized-requires : tie.Need-decapsulate-sized-requires
-decapsulate-sized-requires c κs =
+square : (s : tie.Start) → 256 * s .args .p .k * s .args .p .k ≤ 4096
+square s =
+    let k = s .pre .rank .most in
+    let n : 256 * s .args .p .k ≤ 1024 = omega (arith, k) in
+    mul-le-mul n k
+
+-- the test is row 1's
+row1 : (c : tie.After-exact)
+    → (let a = start c .args in
+    sized (all (a .p) (lent (start c)) (a .k0 .now) (a .k1 .now)) ≡ c .exact .result)
+row1 c =
+    let a = start c .args in
+    let n = counted c in
+    let words = n .before in
+    let ct = words .before in
+    let public = lengths n .before .ek-bytes .ensures in
+    sized-same (a .p) (lent (start c)) (a .k0 .now) (a .k1 .now)
+    ∙ same-wants (a .p) (lent (start c)) (a .k0 .now) (a .k1 .now) public (ct .ct-bytes .ensures)
+    (words .strip-words .ensures .0) (n .strip-coeffs .ensures .0)
+    ∙ sym (c .exact .ensures)
+
+returns : tie.Need-returns
+returns c = told-row WrongLength (omega arith) (refused WrongLength _ (row1 (c .before) ∙ not-true _ (c .if1 .taken)))
+
+decapsulate-in-requires : tie.Need-decapsulate-in-requires
+decapsulate-in-requires c κs =
     let t = tested c in
     let s = start (t .before) in
-    let e : sized (all mlKem768 (lent s) (s .args .k0 .now) (s .args .k1 .now)) ≡ true =
-    sized-same (lent s) (s .args .k0 .now) (s .args .k1 .now)
-    ∙ sym (t .before .exact .ensures)
-    ∙ not-false _ (t .if1 .left) in
-    record {
-      input = all-sized (lent s) (s .args .k0 .now) (s .args .k1 .now) e;
-      out = shares-long (lent s) (s .args .k0 .now) (s .args .k1 .now) e;
-    }
+    let a = s .args in
+    let e = row1 (t .before) ∙ not-false _ (t .if1 .left) in (
+      s .pre,
+      record {
+        input = all-sized (a .p) (lent s) (a .k0 .now) (a .k1 .now) e;
+        out = shares-long (a .p) (lent s) (a .k0 .now) (a .k1 .now) e;
+      },
+      length-front _ refl (omega (arith, square s)),
+    )
 
 pub decapsulate-spec : {M : Type 1} → statement M
 decapsulate-spec =
     tie.close
     (tie.spec
+    (λ c. search needs)
+    (λ c. record { fits = omega (arith, square (begun (c .before))) })
+    (λ c κs. search needs)
+    (λ c. search needs)
     (λ c. omega arith)
+    (λ c κs. search needs)
+    (λ c κs. search needs)
+    (λ c κs. search needs)
     (λ c. omega arith)
     (λ c κs. search needs)
     returns
-    decapsulate-sized-requires
-    (λ c. omega arith)
-    (λ c. omega arith)
-    (λ c. ran (c .before .before) .decapsulate-sized .ensures))
+    (λ c. search needs)
+    (λ c. search needs)
+    (λ c. omega (arith, square (start (c .before))))
+    decapsulate-in-requires
+    (λ c. search needs)
+    (λ c. search needs)
+    (λ c. ran c .decapsulate-in .ensures))

@@ -7,7 +7,7 @@ use native.Mathlib.Omega.{arith}
 use Rattle.words.specs.Iterate.{iterate}
 use Rattle.words.specs.IterateLaws.{ReachedBy, reached-by-start, reached-by-turn}
 use Rattle.keccak.specs.KeccakP.{keccak-p}
-use Rattle.fips202.specs.Sponge.{squeezed}
+use Rattle.fips202.specs.Sponge.{byteOf, squeezed}
 use Rattle.fips202.proofs.Output.{Output, output-start, output-part, output-end}
 use Rattle.fips202.proofs.squeeze.squeeze.Statement.{statement}
 use Rattle.fips202.proofs.squeeze.squeeze.Tie as tie
@@ -15,7 +15,7 @@ use Rattle.fips202.proofs.squeeze.squeeze.Tie as tie
 -- a bytes are given out, and t is the state that gives the next
 abbrev Inv-loop : tie.InvT-loop
 Inv-loop rate out₀ n t₀ a₀ out t a =
-    Output rate n (λ q. iterate q (λ _. keccak-p) (t₀ .lanes)) a out
+    Output byteOf rate n (λ q. iterate q (λ _. keccak-p) (t₀ .lanes)) a out
     × ReachedBy rate (λ _. keccak-p) (t₀ .lanes) a (t .lanes)
 
 abbrev μ-loop : tie.MeasureT-loop

@@ -1,203 +1,193 @@
--- A group is compressed by itself, so the twelve groups of u in one loop are its three polynomials one after the other;
--- v's words stand behind theirs.
+-- u's words are those of its k polynomials one after the other; v's stand behind theirs.
 use mathlib.Core.Path.{_≡_, refl, sym, ap, _∙_}
-use mathlib.Core.List.{List, _++_, flatten}
-use Prim.Native.Nat.{_+_, _*_, _≤_, zero-le}
-use native.Mathlib.Nat.{le-refl}
+use Prim.Native.Nat.{ℕ, _+_, _-_, _*_, _≤_}
+use native.Mathlib.Nat.{mul-le-mul}
 use native.Mathlib.Omega.{arith}
-use lib.ListN.{length, getD, take}
+use borrow.Author.Needs.{needs}
+use lib.ListN.{length}
 use lib.Seq.{length-take-le}
-use Rattle.worksheet.specs.declared.Shares.{Shares}
-use Rattle.worksheet.specs.Prog.{Prog, ret, _>>=_, times}
-use Rattle.worksheet.specs.ProgLaws.{times-cong}
-use Rattle.worksheet.specs.Ran.{bind, over, part-words}
-use Rattle.worksheet.specs.SharedList.{SharedList, sharedList, sharedAt}
+use Rattle.worksheet.specs.SharedList.{SharedList, sharedList}
 use Rattle.worksheet.specs.Zip.{zip}
-use Rattle.masked_compression.specs.Compression.{maskedCompress}
-use Rattle.stages.specs.Moves.{nothing}
-use Rattle.stages.specs.Layout.{polynomials}
-use Rattle.stages.specs.Worksheet.{compressPoly, stage7}
+use Rattle.parameters.specs.declared.Parameters.{Parameters}
+use Rattle.stages.specs.Worksheet.{wordCount}
+use Rattle.stages.specs.Counts.{compressPolyWords, stage7Words}
 use Rattle.stages.specs.LentLaws.{residues-part, residues-rest}
-use Rattle.masked_polynomials.proofs.Compressed.{group-of}
-use Rattle.masked_encryption.proofs.Groups.{bind-map, times-bundles}
-use Rattle.stages.proofs.Laid.{front-polynomial, last-polynomial, zip-append, flatten-zips}
-use Rattle.stages.proofs.Laid.{Front, Whole, front-long, rest-long, whole}
-use Rattle.stages.proofs.Laid.{front-within0, front-within1, same-length0, same-length1}
+use Rattle.stages.proofs.Laid.{Front, Whole, front-long, rest-long, whole, zip-append, same-length0, same-length1}
 use Rattle.stages.proofs.StoredRun.{length-rest, ran-as}
+use Rattle.masked_encryption.proofs.Polynomials.{group-masks, stage7-ran}
 use Rattle.masked_encryption.proofs.compression.stage7.Statement.{statement}
 use Rattle.masked_encryption.proofs.compression.stage7.Tie as tie
 
--- ---- places: after v's compression, after u's, and the start
+-- ---- places: after v's compression, after u's, where the masks are counted, and the start
 
 abbrev filled : tie.After-slice-known6 → tie.After-planes02
 filled c = c .before .before .before
 
-abbrev v : tie.After-planes02 → tie.After-compress-groups2
+abbrev v : tie.After-planes02 → tie.After-compress-groups
 v c = c .before
 
-abbrev lent : tie.After-compress-groups-arg9 → tie.After-compress-groups-arg6
-lent c = c .before .before .before
+abbrev v-lent : tie.After-compress-groups-arg5 → tie.After-compress-groups-arg2
+v-lent c = c .before .before .before
 
-abbrev stored : tie.After-slice-known4 → tie.After-slice-known3
-stored c = c .before .before
+abbrev written : tie.After-compress-groups-arg2 → tie.After-slice-known4
+written c = c .before .before
 
-abbrev u : tie.After-slice-known4 → tie.After-compress-groups
-u c = stored c .before .before
+abbrev stored : tie.After-slice-known4 → tie.After-planes0
+stored c = c .before .before .before
 
-abbrev written : tie.After-compress-groups-arg6 → tie.After-compress-groups
-written c = u (c .before .before)
+abbrev u : tie.After-compress-groups-arg2 → tie.After-compress-polynomials
+u c = stored (written c) .before
 
-abbrev parts-lent : tie.After-compress-groups-arg4 → tie.After-compress-groups-arg
-parts-lent c = c .before .before .before
+abbrev u-lent : tie.After-compress-polynomials-arg4 → tie.After-compress-polynomials-arg
+u-lent c = c .before .before .before
 
-abbrev inputs : tie.After-slice-known2 → tie.After-shared-slice-known3
-inputs c = c .before .before
+abbrev counted : tie.After-compress-polynomials → tie.After-compress-poly-words
+counted c = u-lent (c .before) .before
 
-abbrev start : tie.After-slice-known2 → tie.Start
-start c = inputs c .before .before .before
+abbrev depths : tie.After-compress-poly-words → tie.After-slice-known2
+depths c = c .before .before .before
 
-abbrev start-of : tie.After-compress-groups → tie.Start
-start-of c = start (parts-lent (c .before) .before)
+abbrev inputs : tie.After-slice-known2 → tie.After-shared-slice-known2
+inputs c = c .before .before .before
 
-abbrev first : tie.After-compress-groups2 → tie.After-compress-groups
-first c = written (lent (c .before))
+abbrev start : tie.After-compress-poly-words → tie.Start
+start c = inputs (depths c) .before .before
 
--- ---- slices: the lent ones, u's planes in front, and v's behind them
+abbrev first : tie.After-compress-groups → tie.After-compress-polynomials
+first c = u (v-lent (c .before))
 
-abbrev planes : tie.Start → SharedList
-planes s = sharedList (s .args .planes0 .now) (s .args .planes1 .now)
+-- ---- what is lent and written
 
-abbrev u-planes : tie.After-compress-groups → SharedList
-u-planes c = let o = c .compress-groups .last .1 .1 .1 .1 .1 .1 in sharedList (o .0) (o .1 .0)
+abbrev p : tie.After-compress-poly-words → Parameters
+p c = start c .args .p
 
-abbrev v-planes : tie.After-compress-groups2 → SharedList
-v-planes c = let o = c .compress-groups2 .last .1 .1 .1 .1 .1 .1 in sharedList (o .0) (o .1 .0)
+abbrev planes : tie.After-compress-poly-words → SharedList
+planes c = let a = start c .args in sharedList (a .planes0 .now) (a .planes1 .now)
 
--- ---- facts
+abbrev u-planes : tie.After-compress-polynomials → SharedList
+u-planes c = let o = c .compress-polynomials .last .1 .1 .1 .1 .1 .1 in sharedList (o .0) (o .1 .0)
 
--- what is lent reaches beyond u's parts
-module _ (s : tie.Start) where
-  u-reach0 : 768 ≤ length (s .args .uv0 .now)
-  u-reach0 = omega arith
+abbrev v-planes : tie.After-compress-groups → SharedList
+v-planes c = let o = c .compress-groups .last .1 .1 .1 .1 .1 .1 in sharedList (o .0) (o .1 .0)
 
-  u-reach1 : 768 ≤ length (s .args .uv1 .now)
-  u-reach1 = omega arith
+-- ---- facts: the masks of u, and the planes
 
-  words-reach : 816 ≤ length (s .args .ws .now)
-  words-reach = omega arith
+module _ (c : tie.After-compress-poly-words) where
+  u-masks : p c .k * c .compress-poly-words .result ≡ p c .k * compressPolyWords (p c .du)
+  u-masks = ap (λ (n : ℕ). p c .k * n) (c .compress-poly-words .ensures .0)
 
-  planes-reach0 : 120 ≤ length (s .args .planes0 .now)
-  planes-reach0 = omega arith
+  few-masks : p c .k * c .compress-poly-words .result ≤ 4 * 284
+  few-masks = mul-le-mul (start c .pre .fits .rank .most) (c .compress-poly-words .ensures .1)
 
-  planes-reach1 : 120 ≤ length (s .args .planes1 .now)
-  planes-reach1 = omega arith
+  all-masks : p c .k * compressPolyWords (p c .du) + compressPolyWords (p c .dv) ≤ length (start c .args .ws .now)
+  unfolding stage7Words
+  all-masks = start c .pre .words
 
-front : (c : tie.After-compress-groups) → Front 120 136 (planes (start-of c)) (u-planes c)
+  masks-within : p c .k * c .compress-poly-words .result ≤ length (start c .args .ws .now)
+  masks-within = omega (arith, u-masks, all-masks)
+
+  few-planes : p c .k * (4 * p c .du) ≤ 4 * 44
+  few-planes =
+      let h : 4 * p c .du ≤ 44 = omega (arith, start c .pre .fits .du .most) in
+      mul-le-mul (start c .pre .fits .rank .most) h
+
+front : (c : tie.After-compress-polynomials)
+    → (let m = counted c in Front (p m .k * (4 * p m .du)) (wordCount (p m)) (planes m) (u-planes c))
 front c =
-    let k = c .compress-groups .kept .1 .1 .1 .1 .1 .1 in
-    record { long = start-of c .pre .out; within = omega arith; kept0 = k .0; kept1 = k .1 .0 }
+    let k = c .compress-polynomials .kept .1 .1 .1 .1 .1 .1 in
+    record { long = start (counted c) .pre .out; within = omega arith; kept0 = k .0; kept1 = k .1 .0 }
 
-both : (c : tie.After-compress-groups2) → Whole 120 136 (planes (start-of (first c))) (u-planes (first c)) (v-planes c)
+both : (c : tie.After-compress-groups)
+    → (let m = counted (first c) in
+    Whole (p m .k * (4 * p m .du)) (wordCount (p m)) (planes m) (u-planes (first c)) (v-planes c))
 both c =
-    let k = c .compress-groups2 .kept .1 .1 .1 .1 .1 .1 in
+    let k = c .compress-groups .kept .1 .1 .1 .1 .1 .1 in
     record { front = front (first c); kept0 = k .0; kept1 = k .1 .0 }
 
-compress-groups-requires : tie.Need-compress-groups-requires
-compress-groups-requires c κs =
-    let s = start (parts-lent c .before) in
-    let p = s .pre in
+compress-polynomials-requires : tie.Need-compress-polynomials-requires
+compress-polynomials-requires c κs =
+    let m = u-lent c .before in
+    let s = start m in
+    let n = p m .k * (4 * p m .du) in
     record {
-      depth = omega arith;
-      input = residues-part 0 768 (omega arith) (p .input);
-      words = omega (arith, p .words);
+      depth = s .pre .fits .du .most;
+      input = residues-part 0 (256 * p m .k) (omega arith) (s .pre .input);
+      words = omega (arith, all-masks m);
       out =
           record {
-            long0 = length-take-le 120 (s .args .planes0 .now) (planes-reach0 s);
-            long1 = length-take-le 120 (s .args .planes1 .now) (planes-reach1 s);
+            long0 = length-take-le n (s .args .planes0 .now) (omega arith);
+            long1 = length-take-le n (s .args .planes1 .now) (omega arith);
           };
     }
 
-compress-groups-requires-2 : tie.Need-compress-groups-requires-2
-compress-groups-requires-2 c κs =
-    let uc = written (lent c) in
-    let s = start-of uc in
+compress-groups-requires : tie.Need-compress-groups-requires
+compress-groups-requires c κs =
+    let uc = u (v-lent c) in
+    let m = counted uc in
+    let s = start m in
+    let rest : wordCount (p m) - p m .k * (4 * p m .du) ≡ p m .dv * 4 = omega arith in
     record {
-      depth = omega arith;
-      input = residues-rest 768 256 refl (s .pre .input);
-      words = length-rest 816 200 (s .args .ws .now) (s .pre .words);
-      out = rest-long (front uc);
+      depth = omega (arith, s .pre .fits .dv .most);
+      input = residues-rest (256 * p m .k) 256 (omega arith) (s .pre .input);
+      words =
+          length-rest (p m .k * m .compress-poly-words .result) ((3 * p m .dv + 38) * 4) (s .args .ws .now)
+          (omega (arith, u-masks m, all-masks m, group-masks (p m .dv) 1));
+      out = rw rest at (rest-long (front uc));
     }
 
--- the groups of u are those of its three polynomials
-u-groups : (uv : SharedList)
-    → (let z = sharedList (take 768 (uv .s0)) (take 768 (uv .s1)) in
-    times 12 (λ g. maskedCompress 10 (λ i. sharedAt z (64 * g + i))) >>= λ w. ret (flatten w))
-    ≡ (times 3 (λ i. compressPoly 10 (getD (polynomials 4 uv) i nothing)) >>= λ w. ret (flatten w))
-unfolding compressPoly
-u-groups uv =
-    let z = sharedList (take 768 (uv .s0)) (take 768 (uv .s1)) in
-    sym (times-bundles 4 (λ g. maskedCompress 10 (λ i. sharedAt z (64 * g + i))) 3)
-    ∙ ap (λ p. p >>= λ w. ret (flatten w))
-    (times-cong 3 (λ i h.
-    ap (λ p. p >>= λ w. ret (flatten w)) (times-cong 4 (λ j l. group-of 10 i j z l))
-    ∙ ap (compressPoly 10) (front-polynomial 3 4 uv i h (omega arith))))
-
--- what follows u's words
-abbrev then-v : SharedList → List Shares → Prog (List Shares)
-then-v uv x = compressPoly 4 (getD (polynomials 4 uv) 3 nothing) >>= λ y. ret (x ++ y)
-
 returns : tie.Need-returns
-unfolding stage7 compressPoly
 returns c cs =
     let vc = v (filled c) in
     let uc = first vc in
-    let s = start-of uc in
-    let uv = sharedList (s .args .uv0 .now) (s .args .uv1 .now) in
-    let r = s .pre .input in
+    let m = counted uc in
+    let s = start m in
     let value =
-    ap (zip 136) (whole (both vc)) ∙ zip-append 120 16 (u-planes uc) (v-planes vc) (front-long (front uc)) in
-    let us = times 3 (λ i. compressPoly 10 (getD (polynomials 4 uv) i nothing)) in
-    ran-as (bind-map us flatten (then-v uv)) (sym value)
-    (bind (then-v uv)
-    (ran-as (u-groups uv) (flatten-zips 10 12 (u-planes uc)) (bind _ (uc .compress-groups .ensures cs) over))
-    (bind (λ y. ret (zip 120 (u-planes uc) ++ y))
-    (ran-as (ap (compressPoly 4) (last-polynomial 3 (uv .s0) (uv .s1) (r .long0) (r .long1)))
-    (flatten-zips 4 4 (v-planes vc))
-    (bind _ (part-words (s .args .ws .now) 816 200 (vc .compress-groups2 .ensures cs)) over)) over))
+    ap (zip (wordCount (p m))) (whole (both vc))
+    ∙ zip-append (p m .k * (4 * p m .du)) (4 * p m .dv) (u-planes uc) (v-planes vc) (front-long (front uc)) in
+    ran-as refl (sym value)
+    (stage7-ran (p m) (s .args .uv0 .now) (s .args .uv1 .now) (s .pre .input .long0) (s .pre .input .long1)
+    (s .args .ws .now) (v-planes vc) (u-masks m) (uc .compress-polynomials .ensures cs)
+    (vc .compress-groups .ensures cs))
 
 pub stage7-spec : {M : Type 1} → statement M
 stage7-spec =
     tie.close
     (tie.spec
-    (λ c. zero-le)
-    (λ c. zero-le)
-    (λ c. u-reach0 (start c))
-    (λ c. zero-le)
-    (λ c. zero-le)
-    (λ c. u-reach1 (start (c .before)))
-    (λ c. zero-le)
-    (λ c. zero-le)
-    (λ c. planes-reach0 (start (c .before .before)))
-    (λ c. zero-le)
-    (λ c. zero-le)
-    (λ c. planes-reach1 (start (c .before .before .before)))
+    (λ c. omega arith)
+    (λ c. omega arith)
+    (λ c. omega arith)
+    (λ c κs. search needs)
+    (λ c. record { fits = omega (arith, few-masks c) })
+    (λ c. omega arith)
+    (λ c. omega (arith, few-planes c))
+    (λ c. sym (length-take-le _ _ (omega arith)))
+    (λ c. sym (length-take-le _ _ (omega arith)))
+    (λ c. omega arith)
+    (λ c. sym (length-take-le _ _ (omega arith)))
+    (λ c. omega arith)
+    (λ c. sym (length-take-le _ _ (omega arith)))
+    compress-polynomials-requires
+    (λ c. omega arith)
+    (λ c. omega arith)
+    (λ c. omega arith)
+    (λ c. omega arith)
+    (λ c. omega arith)
+    (λ c. omega arith)
+    (λ c. omega arith)
+    (λ c. omega arith)
+    (λ c. omega (arith, few-masks (counted (u c))))
+    (λ c. masks-within (counted (u c)))
+    (λ c. masks-within (counted (u c)))
+    (λ c. omega arith)
+    (λ c. omega (arith, few-planes (counted (u (c .before)))))
+    (λ c. omega arith)
+    (λ c. omega arith)
+    (λ c. omega arith)
+    (λ c. omega (arith, few-planes (counted (u (c .before .before)))))
+    (λ c. omega arith)
+    (λ c. omega arith)
+    (λ c. omega arith)
     compress-groups-requires
-    (λ c. u-reach0 (start-of (u c)))
-    (λ c. u-reach0 (start-of (u c)))
-    (λ c. le-refl _)
-    (λ c. u-reach1 (start-of (u (c .before))))
-    (λ c. u-reach1 (start-of (u (c .before))))
-    (λ c. le-refl _)
-    (λ c. words-reach (start-of (written c)))
-    (λ c. words-reach (start-of (written c)))
-    (λ c. le-refl _)
-    (λ c. front-within0 (front (written (c .before))))
-    (λ c. front-within0 (front (written (c .before))))
-    (λ c. le-refl _)
-    (λ c. front-within1 (front (written (c .before .before))))
-    (λ c. front-within1 (front (written (c .before .before))))
-    (λ c. le-refl _)
-    compress-groups-requires-2
     (λ c. same-length0 (both (v (filled c))))
     (λ c. same-length1 (both (v (filled c))))
     returns)

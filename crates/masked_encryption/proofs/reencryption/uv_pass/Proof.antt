@@ -1,5 +1,5 @@
--- y is the first three polynomials of n and is transformed there, e1 the next three and e2 the last; u is written in
--- front of v.
+-- y is the first k polynomials of n and is transformed there, e1 the next k and e2 the last; u is written in front of
+-- v.
 use Rattle.vectors.specs.Vector.{parts}
 use Rattle.kpke.specs.Expanded.{placesOf}
 use Rattle.masked_encryption.proofs.Reencrypted.{uv-written-in}
@@ -13,8 +13,8 @@ use Rattle.masked_encryption.proofs.reencryption.uv_pass.Tie as tie
 abbrev v : tie.After-slice-known5 → tie.After-v-pass
 v c = c .before .before
 
-abbrev v-lent : tie.After-v-pass → tie.After-v-pass-arg
-v-lent c = c .before .before .before
+abbrev v-lent : tie.After-v-pass-arg3 → tie.After-v-pass-arg
+v-lent c = c .before .before
 
 abbrev noise : tie.After-v-pass-arg → tie.After-slice-known4
 noise c = c .before .before
@@ -40,15 +40,28 @@ inputs c = c .before .before .before
 abbrev start : tie.After-ntt-all → tie.Start
 start c = inputs (y-lent c) .before .before
 
+-- ---- facts
+
+v-pass-requires : tie.Need-v-pass-requires
+v-pass-requires c κs =
+    let s = start (transformed (y (u-lent (u (noise (v-lent c)))))) in
+    record {
+      public = omega arith;
+      vector = omega arith;
+      error = omega arith;
+      message = omega arith;
+      out = omega arith;
+    }
+
 returns : tie.Need-returns
 returns c =
     let vc = v c in
-    let uc = u (noise (v-lent vc)) in
+    let uc = u (noise (v-lent (vc .before))) in
     let tc = transformed (y (u-lent uc)) in
     let s = start tc in
     let a = s .args in
-    uv-written-in 3 (a .uv .now) (a .n .now) (a .mu .now) (placesOf 3 (a .a .now)) (parts 256 (a .t .now)) (s .pre .out)
-    (s .pre .share .noise) _ (tc .ntt-all .ensures) (uc .u-passes .ensures) (vc .v-pass .ensures)
+    uv-written-in (a .k) (a .uv .now) (a .n .now) (a .mu .now) (placesOf (a .k) (a .a .now)) (parts 256 (a .t .now))
+    (s .pre .out) (s .pre .share .noise) _ (tc .ntt-all .ensures) (uc .u-passes .ensures) (vc .v-pass .ensures)
 
 pub uv-pass-spec : {M : Type 1} → statement M
 uv-pass-spec =
@@ -57,14 +70,6 @@ uv-pass-spec =
     (λ c. omega arith)
     (λ c. omega arith)
     (λ c. omega arith)
-    (λ c κs. search needs)
-    (λ c. omega arith)
-    (λ c. omega arith)
-    (λ c. omega arith)
-    (λ c. omega arith)
-    (λ c. omega arith)
-    (λ c. omega arith)
-    (λ c. omega arith)
     (λ c. omega arith)
     (λ c. omega arith)
     (λ c κs. search needs)
@@ -77,7 +82,20 @@ uv-pass-spec =
     (λ c. omega arith)
     (λ c. omega arith)
     (λ c. omega arith)
+    (λ c. omega arith)
     (λ c κs. search needs)
+    (λ c. omega arith)
+    (λ c. omega arith)
+    (λ c. omega arith)
+    (λ c. omega arith)
+    (λ c. omega arith)
+    (λ c. omega arith)
+    (λ c. omega arith)
+    (λ c. omega arith)
+    (λ c. omega arith)
+    (λ c. omega arith)
+    (λ c. omega arith)
+    v-pass-requires
     (λ c. omega arith)
     (λ c. omega arith)
     returns)

@@ -1,4 +1,4 @@
--- SHA3-512's eight words are less than a block of 72 bytes, so the sponge serves.
+-- SHA3-512 is the sponge with a rate of 72 bytes and eight words of output.
 use native.Mathlib.Omega.{arith}
 use Rattle.masked_fips202.specs.MaskedWords.{maskedSha3-512Words, sha3-512MaskWords}
 use Rattle.masked_fips202.specs.MaskedWordsLaws.{sha3-512-fits}
@@ -30,7 +30,6 @@ sponge-words-requires c κs =
       sponge = sha3-512-fits;
       inputs = s .pre .inputs;
       outputs = omega arith;
-      block = omega arith;
       masks = rw (s .pre .long0) (s .pre .masks);
     }
 

@@ -1,4 +1,4 @@
--- A block of 136 bytes is 17 words, so the sponge serves.
+-- SHAKE256 is the sponge with a rate of 136 bytes.
 use Rattle.masked_fips202.specs.MaskedWords.{maskedShake256Words, shake256MaskWords}
 use native.Mathlib.Omega.{arith}
 use borrow.Author.Needs.{needs}

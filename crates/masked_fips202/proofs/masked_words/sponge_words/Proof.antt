@@ -1,57 +1,55 @@
--- One block at most is asked for, so the absorbed state's first lanes are the output, and nothing more is permuted or
--- drawn.
+-- Absorbing draws the first masks of the strip and squeezing those behind them, as the program does.
+use Prim.Native.Nat.{_+_, _*_, _/_}
+use mathlib.Core.Path.{_≡_}
 use native.Mathlib.Omega.{arith}
-use lib.ListN.{length}
-use Rattle.masked_fips202.specs.MaskedWordsLaws.{spongeMaskWords-one}
-use Rattle.masked_fips202.proofs.OneBlockSponge.{sponge-one}
 use borrow.Author.Needs.{needs}
+use lib.ListN.{length}
+use Rattle.worksheet.specs.Ran.{bind, part-words}
+use Rattle.masked_keccak.specs.MaskedKeccak.{keccakPWords}
+use Rattle.masked_sponge.specs.MaskedSponge.{inputBlocks, furtherBlocks, hashMaskWords, spongeMaskWords, maskedSponge}
 use Rattle.masked_fips202.proofs.masked_words.sponge_words.Statement.{statement}
 use Rattle.masked_fips202.proofs.masked_words.sponge_words.Tie as tie
 
--- ---- places: where both shares' lanes are out, where those of share 0 are, after the absorbing, and the start
+-- ---- places, each by the one before
 
-abbrev second : tie.After-result → tie.After-first-lanes2
-second c = c .before .before .before
+abbrev lent : tie.After-masked-absorb → tie.After-shared-slice-known3
+lent c = c .before .before .before
 
-abbrev first : tie.After-first-lanes-arg2 → tie.After-first-lanes
-first c = c .before .before .before
+abbrev start : tie.After-masked-absorb → tie.Start
+start c = lent c .before .before .before
 
-abbrev absorbed : tie.After-first-lanes → tie.After-masked-absorb
-absorbed c = c .before .before
+abbrev squeezing : tie.After-masked-squeeze-words → tie.After-masked-squeeze-words-arg
+squeezing c = c .before .before .before
 
-abbrev lent : tie.After-slice-known2 → tie.After-shared-slice-known3
-lent c = c .before .before
-
-abbrev start : tie.After-shared-slice-known3 → tie.Start
-start c = c .before .before .before
-
--- ---- facts
-
-masked-absorb-requires : tie.Need-masked-absorb-requires
-masked-absorb-requires c κs =
-    let s = start (lent c) in
-    let e =
-    spongeMaskWords-one (s .args .rate) (length (s .args .in0 .now)) (length (s .args .o0 .now)) (omega arith)
-    (omega arith) in
-    record { sponge = s .pre .sponge; inputs = s .pre .inputs; masks = rw e at (s .pre .masks) }
+abbrev filled : tie.After-slice-known4 → tie.After-o0
+filled c = c .before .before .before
 
 returns : tie.Need-returns
+unfolding maskedSponge
 returns c cs =
-    let l1 = second c in
-    let l0 = first (l1 .before) in
-    let m = absorbed l0 in
-    let s = start (lent (m .before)) in
-    let a = s .args in
-    sponge-one (a .rate) (a .suffix) (length (a .o0 .now)) (length (a .o1 .now)) (a .in0 .now) (a .in1 .now)
-    (omega (arith, s .pre .sponge .positive, s .pre .sponge .whole)) (s .pre .block) (omega (arith, s .pre .outputs))
-    (l0 .first-lanes .ensures) (l1 .first-lanes2 .ensures) (m .masked-absorb .ensures cs)
+    let squeezed = filled c .before in
+    let absorbed = squeezing squeezed .before in
+    let a = start absorbed .args in
+    let k = hashMaskWords (inputBlocks (a .rate) (length (a .in0 .now))) in
+    let m = keccakPWords * furtherBlocks (a .rate / 8) (length (a .o0 .now)) in
+    let e : k + m ≡ spongeMaskWords (a .rate) (length (a .in0 .now)) (length (a .o0 .now)) = omega arith in
+    rw (← e)
+    (bind _ (absorbed .masked-absorb .ensures cs)
+    (part-words (a .ws .now) k m (squeezed .masked-squeeze-words .ensures cs)))
 
 pub sponge-words-spec : {M : Type 1} → statement M
 sponge-words-spec =
     tie.close
     (tie.spec
-    masked-absorb-requires
+    (λ c. omega arith)
+    (λ c. omega arith)
+    (λ c. omega arith)
+    (λ c. omega arith)
     (λ c κs. search needs)
+    (λ c. omega arith)
+    (λ c. omega arith)
+    (λ c. omega arith)
+    (λ c. omega arith)
     (λ c κs. search needs)
     (λ c. omega arith)
     (λ c. omega arith)

@@ -1,7 +1,7 @@
--- SHA3-512 of m' and h: the arrays hold the two shares of its input, and for 64 bytes it draws 625 words.
+-- SHA3-512 of m' and h: the arrays hold the two shares of its input, which has 64 bytes.
+use mathlib.Core.Path.{refl}
 use native.Mathlib.Omega.{arith}
 use Rattle.masked_fips202.specs.MaskedWords.{maskedSha3-512Words, sha3-512MaskWords}
-use Rattle.stages.specs.Counts768.{counts768}
 use Rattle.stages.specs.Worksheet.{stage3}
 use Rattle.stages.proofs.HashedInput.{hash-masks, hash-ran}
 use borrow.Author.Needs.{needs}
@@ -35,7 +35,7 @@ masked-sha3-512-words-requires : tie.Need-masked-sha3-512-words-requires
 masked-sha3-512-words-requires c κs =
     let p = public (zeros (arrays c)) in
     let g = start p .pre in
-    let m = hash-masks g maskedSha3-512Words sha3-512MaskWords (counts768 .stage3Words) (p .with-public .ensures) in
+    let m = hash-masks g maskedSha3-512Words sha3-512MaskWords refl (p .with-public .ensures) in
     record { inputs = omega arith; masks = rw m (g .words); long0 = omega arith; long1 = omega arith }
 
 returns : tie.Need-returns
@@ -44,7 +44,7 @@ returns c cs =
     let h = hashed (c .before .before) in
     let z = zeros (arrays (h .before)) in
     let p = public z in
-    hash-ran (start p .pre) maskedSha3-512Words sha3-512MaskWords (counts768 .stage3Words) (p .with-public .ensures)
+    hash-ran (start p .pre) maskedSha3-512Words sha3-512MaskWords refl (p .with-public .ensures)
     (z .with-zeros .ensures) (h .masked-sha3-512-words .ensures cs)
 
 pub stage3-spec : {M : Type 1} → statement M

@@ -7,7 +7,6 @@ use native.Mathlib.Omega.{arith}
 use lib.ListN.{take, drop, length-drop}
 use lib.Seq.{take-all}
 use Rattle.fips202.specs.Sponge.{sha3-512}
-use Rattle.kpke.specs.Parameters.{mlKem768}
 use Rattle.kpke.specs.KPke.{encrypt}
 use Rattle.mlkem.specs.MlKem.{encapsKey, encapsCt}
 use Rattle.mlkem.proofs.encapsulation.write_secret.Statement.{statement}
@@ -56,7 +55,7 @@ returns c =
     let e = g .hash-g .ensures ∙ ap (λ (l : List ℕ). sha3-512 (s .m .now ++ l)) (h .hash-h .ensures) in
     let digest = g .hash-g .last .1 .1 .0 in
     let coins = take-all 32 (drop 32 digest) (omega (arith, length-drop 32 digest)) ∙ ap (drop 32) e in
-    let by-coins = ap (encrypt mlKem768 (s .ek .now) (s .m .now)) coins in
+    let by-coins = ap (encrypt (s .p) (s .ek .now) (s .m .now)) coins in
     record { ct = ct .encrypt .ensures ∙ by-coins; k = k .copy-bytes .ensures ∙ ap (take 32) e }
 
 pub write-secret-spec : {M : Type 1} → statement M
