@@ -1,10 +1,21 @@
 // Key making and encapsulation on files.
+ghost use Rattle.cli_support.specs.Bounded.{Bounded};
 use cli_support::answers::is_refused;
 use cli_support::inputs::read_exact;
 use cli_support::outputs::write_pair;
+use cli_support::sets::Sizes;
+
+fn write_keys(d: &[u8], z: &[u8], ek: &mut [u8], dk: &mut [u8]) {
+    if is_refused(mlkem::keygen(d, z, ek, dk)) {
+        return;
+    }
+    write_pair(4, ek, 5, dk);
+}
 
 // mlkem keygen D Z EK DK
-pub fn keygen() {
+pub fn keygen(set: Sizes)
+    requires { ⌜ Bounded set ⌝ }
+{
     let mut d = [0u8; 32];
     let mut z = [0u8; 32];
     if !read_exact(2, &mut d) {
@@ -13,28 +24,39 @@ pub fn keygen() {
     if !read_exact(3, &mut z) {
         return;
     }
-    let mut ek = [0u8; 1184];
-    let mut dk = [0u8; 2400];
-    if is_refused(mlkem::keygen(&d, &z, &mut ek, &mut dk)) {
+    let mut ek = [0u8; 1568];
+    let mut dk = [0u8; 3168];
+    let m = set.ek;
+    let n = set.dk;
+    write_keys(&d, &z, &mut ek[0..m], &mut dk[0..n]);
+}
+
+fn write_encapsulated(ek: &[u8], m: &[u8], ct: &mut [u8]) {
+    let mut k = [0u8; 32];
+    if is_refused(mlkem::encaps(ek, m, ct, &mut k)) {
         return;
     }
-    write_pair(4, &ek, 5, &dk);
+    write_pair(4, ct, 5, &k);
+}
+
+// With the files of arguments 2 and 3, a public key and a message.
+fn encapsulate(ek: &mut [u8], ct: &mut [u8]) {
+    let mut m = [0u8; 32];
+    if !read_exact(2, ek) {
+        return;
+    }
+    if read_exact(3, &mut m) {
+        write_encapsulated(ek, &m, ct);
+    }
 }
 
 // mlkem encaps EK M CT K
-pub fn encaps() {
-    let mut ek = [0u8; 1184];
-    let mut m = [0u8; 32];
-    if !read_exact(2, &mut ek) {
-        return;
-    }
-    if !read_exact(3, &mut m) {
-        return;
-    }
-    let mut ct = [0u8; 1088];
-    let mut k = [0u8; 32];
-    if is_refused(mlkem::encaps(&ek, &m, &mut ct, &mut k)) {
-        return;
-    }
-    write_pair(4, &ct, 5, &k);
+pub fn encaps(set: Sizes)
+    requires { ⌜ Bounded set ⌝ }
+{
+    let mut ek = [0u8; 1568];
+    let mut ct = [0u8; 1568];
+    let m = set.ek;
+    let n = set.ct;
+    encapsulate(&mut ek[0..m], &mut ct[0..n]);
 }

@@ -1,40 +1,77 @@
 // Import on files.
+ghost use Prim.Native.Nat.{_≤_};
+ghost use lib.ListN.{length};
+ghost use Rattle.buffers.specs.Split.{Sized};
+ghost use Rattle.cli_support.specs.Bounded.{Bounded};
 use cli_support::answers::is_refused;
 use cli_support::inputs::read_exact;
 use cli_support::mask_file::read_masks;
+use cli_support::sets::Sizes;
 use cli_support::split_file::write_split;
 
 // The split key is written to the file of argument 4.
-fn write_imported(dk: &[u8], mask_coeffs: &[u16], mask_words: &[u64]) {
-    let mut s0 = [0u16; 768];
-    let mut s1 = [0u16; 768];
+fn write_imported(
+    k: usize,
+    dk: &[u8],
+    mask_coeffs: &[u16],
+    mask_words: &[u64],
+    s0: &mut [u16],
+    s1: &mut [u16],
+    z0: &mut [u64],
+    z1: &mut [u64],
+    public: &mut [u8],
+)
+    requires { ⌜ Sized k (now s0) (now s1) (now z0) (now z1) (now public) × (k ≤ 4) ⌝ }
+{
+    let answer = split_key::import(dk, mask_coeffs, mask_words, s0, s1, z0, z1, public);
+    if !is_refused(answer) {
+        write_split(4, k, s0, s1, z0, z1, public);
+    }
+}
+
+fn import_masked(k: usize, dk: &[u8], mask_coeffs: &[u16], mask_words: &[u64])
+    requires { ⌜ k ≤ 4 ⌝ }
+{
+    let mut s0 = [0u16; 1024];
+    let mut s1 = [0u16; 1024];
     let mut z0 = [0u64; 4];
     let mut z1 = [0u64; 4];
-    let mut public = [0u8; 1216];
-    let answer = split_key::import(
+    let mut public = [0u8; 1600];
+    let m = 256 * k;
+    let n = 384 * k + 64;
+    write_imported(
+        k,
         dk,
         mask_coeffs,
         mask_words,
-        &mut s0,
-        &mut s1,
+        &mut s0[0..m],
+        &mut s1[0..m],
         &mut z0,
         &mut z1,
-        &mut public,
+        &mut public[0..n],
     );
-    if !is_refused(answer) {
-        write_split(4, &s0, &s1, &z0, &z1, &public);
+}
+
+// With the files of arguments 2 and 3, a decapsulation key and masks.
+fn import_files(k: usize, dk: &mut [u8], mask_coeffs: &mut [u16])
+    requires { ⌜ (k ≤ 4) × (length (now «mask_coeffs») ≤ 1024) ⌝ }
+{
+    let mut mask_words = [0u64; 4];
+    if !read_exact(2, dk) {
+        return;
+    }
+    if read_masks(3, mask_coeffs, &mut mask_words) {
+        import_masked(k, dk, mask_coeffs, &mask_words);
     }
 }
 
 // mlkem import DK MASKS SPLIT
-pub fn import() {
-    let mut dk = [0u8; 2400];
-    let mut mask_coeffs = [0u16; 768];
-    let mut mask_words = [0u64; 4];
-    if !read_exact(2, &mut dk) {
-        return;
-    }
-    if read_masks(3, &mut mask_coeffs, &mut mask_words) {
-        write_imported(&dk, &mask_coeffs, &mask_words);
-    }
+pub fn import(set: Sizes)
+    requires { ⌜ Bounded set ⌝ }
+{
+    let mut dk = [0u8; 3168];
+    let mut mask_coeffs = [0u16; 1024];
+    let m = set.dk;
+    let n = 256 * set.k;
+    import_files(set.k, &mut dk[0..m], &mut mask_coeffs[0..n]);
 }

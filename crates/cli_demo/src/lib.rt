@@ -1,6 +1,9 @@
 // A run of the calls on fixed values: a key is made, split and used, with a right ciphertext and a wrong one.
 ghost use mathlib.Core.Path.{_≡_};
+ghost use Prim.Native.Nat.{_+_, _*_, _<_, _≤_};
 ghost use lib.ListN.{length};
+ghost use Rattle.cli_support.specs.Bounded.{Bounded};
+ghost use Rattle.cli_demo.specs.Lent.{KeyLent};
 use crate::lines::print_bytes;
 use crate::lines::print_start;
 use crate::lines::print_step;
@@ -11,6 +14,7 @@ use cli_support::answers::is_refused;
 use cli_support::arguments::same;
 use cli_support::mask_file;
 use cli_support::messages;
+use cli_support::sets::Sizes;
 use cli_support::strip_file;
 use libc::STDOUT_FILENO;
 use text::print;
@@ -40,7 +44,7 @@ fn print_secret(k0: &[u64], k1: &[u64], secret: &[u8])
 }
 
 fn print_encapsulated(ek: &[u8], dk: &[u8], ct: &[u8], secret: &[u8])
-    requires { ⌜ (length (now ek) ≡ 1184) × (length (now dk) ≡ 2400) × (length (now ct) ≡ 1088) ⌝ }
+    requires { ⌜ (16 ≤ length (now ek)) × (16 ≤ length (now dk)) × (16 ≤ length (now ct)) ⌝ }
 {
     print_start(b"public key", ek);
     print_start(b"decapsulation key", dk);
@@ -54,7 +58,7 @@ fn decapsulate(
     z0: &[u64],
     z1: &[u64],
     public: &[u8],
-    ct: &[u8; 1088],
+    ct: &[u8],
     words: &[u64],
     coeffs: &[u16],
     secret: &[u8],
@@ -69,21 +73,24 @@ fn decapsulate(
     true
 }
 
-// The ciphertext's first bit is changed.
+// The ciphertext's first bit is changed, and changed back.
 fn decapsulate_damaged(
     s0: &[u16],
     s1: &[u16],
     z0: &[u64],
     z1: &[u64],
     public: &[u8],
-    ct: &[u8; 1088],
+    ct: &mut [u8],
     words: &[u64],
     coeffs: &[u16],
     secret: &[u8],
-) -> bool {
-    let mut damaged = *ct;
-    damaged[0] = damaged[0] ^ 1;
-    decapsulate(s0, s1, z0, z1, public, &damaged, words, coeffs, secret)
+) -> bool
+    requires { ⌜ 0 < length (now ct) ⌝ }
+{
+    ct[0] = ct[0] ^ 1;
+    let done = decapsulate(s0, s1, z0, z1, public, ct, words, coeffs, secret);
+    ct[0] = ct[0] ^ 1;
+    done
 }
 
 fn trace(
@@ -108,120 +115,235 @@ fn trace(
 
 // Decapsulation of the ciphertext and of a damaged one, and three steps of the first.
 fn run_ciphertexts(
+    last_step: u64,
     s0: &[u16],
     s1: &[u16],
     z0: &[u64],
     z1: &[u64],
     public: &[u8],
-    ct: &[u8; 1088],
+    ct: &mut [u8],
     words: &[u64],
     coeffs: &[u16],
     secret: &[u8],
-) -> bool {
+) -> bool
+    requires { ⌜ 0 < length (now ct) ⌝ }
+{
     print(b"decapsulation\n");
     let own = decapsulate(s0, s1, z0, z1, public, ct, words, coeffs, secret);
     print(b"decapsulation, the ciphertext's first bit changed\n");
     let other = decapsulate_damaged(s0, s1, z0, z1, public, ct, words, coeffs, secret);
     print(b"trace of the first decapsulation\n");
     let first = trace(s0, s1, z0, z1, public, ct, words, coeffs, 0);
-    let middle = trace(s0, s1, z0, z1, public, ct, words, coeffs, 256);
-    let last = trace(s0, s1, z0, z1, public, ct, words, coeffs, 187793);
-    own & other & first & middle & last
+    let second = trace(s0, s1, z0, z1, public, ct, words, coeffs, 256);
+    let last = trace(s0, s1, z0, z1, public, ct, words, coeffs, last_step);
+    own & other & first & second & last
+}
+
+fn run_imported(
+    last_step: u64,
+    dk: &[u8],
+    ct: &mut [u8],
+    secret: &[u8],
+    mask_coeffs: &[u16],
+    mask_words: &[u64],
+    s0: &mut [u16],
+    s1: &mut [u16],
+    public: &mut [u8],
+    words: &[u64],
+    coeffs: &[u16],
+) -> bool
+    requires { ⌜ 0 < length (now ct) ⌝ }
+{
+    let mut z0 = [0u64; 4];
+    let mut z1 = [0u64; 4];
+    let answer = split_key::import(
+        dk,
+        mask_coeffs,
+        mask_words,
+        s0,
+        s1,
+        &mut z0,
+        &mut z1,
+        public,
+    );
+    if is_refused(answer) {
+        return false;
+    }
+    run_ciphertexts(
+        last_step,
+        s0,
+        s1,
+        &z0,
+        &z1,
+        public,
+        ct,
+        words,
+        coeffs,
+        secret,
+    )
 }
 
 fn run_split(
+    set: Sizes,
     dk: &[u8],
-    ct: &[u8; 1088],
+    ct: &mut [u8],
     secret: &[u8],
     mask_coeffs: &[u16],
     mask_words: &[u64],
     words: &[u64],
     coeffs: &[u16],
-) -> bool {
-    let mut s0 = [0u16; 768];
-    let mut s1 = [0u16; 768];
-    let mut z0 = [0u64; 4];
-    let mut z1 = [0u64; 4];
-    let mut public = [0u8; 1216];
-    let answer = split_key::import(
+) -> bool
+    requires { ⌜ Bounded set × (0 < length (now ct)) ⌝ }
+{
+    let mut s0 = [0u16; 1024];
+    let mut s1 = [0u16; 1024];
+    let mut public = [0u8; 1600];
+    let m = 256 * set.k;
+    let n = 384 * set.k + 64;
+    run_imported(
+        set.steps - 1,
         dk,
+        ct,
+        secret,
         mask_coeffs,
         mask_words,
-        &mut s0,
-        &mut s1,
-        &mut z0,
-        &mut z1,
-        &mut public,
-    );
-    if is_refused(answer) {
-        return false;
-    }
-    run_ciphertexts(&s0, &s1, &z0, &z1, &public, ct, words, coeffs, secret)
+        &mut s0[0..m],
+        &mut s1[0..m],
+        &mut public[0..n],
+        words,
+        coeffs,
+    )
 }
 
 // The seeds are d, z and m.
+fn encapsulate(seeds: &[u8], ek: &mut [u8], dk: &mut [u8], ct: &mut [u8], secret: &mut [u8]) -> bool
+    requires { ⌜ KeyLent (now seeds) (now ek) (now dk) (now ct) ⌝ }
+{
+    if is_refused(mlkem::keygen(&seeds[0..32], &seeds[32..64], ek, dk)) {
+        return false;
+    }
+    if is_refused(mlkem::encaps(ek, &seeds[64..96], ct, secret)) {
+        return false;
+    }
+    print_encapsulated(ek, dk, ct, secret);
+    true
+}
+
+fn run_encapsulated(
+    set: Sizes,
+    seeds: &[u8],
+    mask_coeffs: &[u16],
+    mask_words: &[u64],
+    ek: &mut [u8],
+    dk: &mut [u8],
+    ct: &mut [u8],
+    words: &[u64],
+    coeffs: &[u16],
+) -> bool
+    requires { ⌜ Bounded set × KeyLent (now seeds) (now ek) (now dk) (now ct) ⌝ }
+{
+    let mut secret = [0u8; 32];
+    if !encapsulate(seeds, ek, dk, ct, &mut secret) {
+        return false;
+    }
+    run_split(set, dk, ct, &secret, mask_coeffs, mask_words, words, coeffs)
+}
+
 fn run_key(
+    set: Sizes,
     seeds: &[u8],
     mask_coeffs: &[u16],
     mask_words: &[u64],
     words: &[u64],
     coeffs: &[u16],
 ) -> bool
-    requires { ⌜ length (now seeds) ≡ 96 ⌝ }
+    requires { ⌜ Bounded set × (length (now seeds) ≡ 96) ⌝ }
 {
-    let mut ek = [0u8; 1184];
-    let mut dk = [0u8; 2400];
-    if is_refused(mlkem::keygen(&seeds[0..32], &seeds[32..64], &mut ek, &mut dk)) {
-        return false;
-    }
-    let mut ct = [0u8; 1088];
-    let mut secret = [0u8; 32];
-    if is_refused(mlkem::encaps(&ek, &seeds[64..96], &mut ct, &mut secret)) {
-        return false;
-    }
-    print_encapsulated(&ek, &dk, &ct, &secret);
-    run_split(&dk, &ct, &secret, mask_coeffs, mask_words, words, coeffs)
+    let mut ek = [0u8; 1568];
+    let mut dk = [0u8; 3168];
+    let mut ct = [0u8; 1568];
+    let m = set.ek;
+    let n = set.dk;
+    let l = set.ct;
+    run_encapsulated(
+        set,
+        seeds,
+        mask_coeffs,
+        mask_words,
+        &mut ek[0..m],
+        &mut dk[0..n],
+        &mut ct[0..l],
+        words,
+        coeffs,
+    )
 }
 
 // The draws are seeds and import's masks.
-fn run_masks(draws: &[u8], words: &[u64], coeffs: &[u16]) -> bool
-    requires { ⌜ length (now draws) ≡ 1664 ⌝ }
+fn run_masks(
+    set: Sizes,
+    draws: &[u8],
+    mask_coeffs: &mut [u16],
+    words: &[u64],
+    coeffs: &[u16],
+) -> bool
+    requires { ⌜ Bounded set × (length (now draws) ≡ 2 * length (now «mask_coeffs») + 128) ⌝ }
 {
-    let mut mask_coeffs = [0u16; 768];
     let mut mask_words = [0u64; 4];
-    mask_file::unpack(&draws[96..1664], &mut mask_coeffs, &mut mask_words);
-    reduce(&mut mask_coeffs);
-    run_key(&draws[0..96], &mask_coeffs, &mask_words, words, coeffs)
+    mask_file::unpack(&draws[96..], mask_coeffs, &mut mask_words);
+    reduce(mask_coeffs);
+    run_key(set, &draws[0..96], mask_coeffs, &mask_words, words, coeffs)
 }
 
 // The draws are seeds, import's masks and a strip.
-fn run(draws: &[u8]) -> bool
-    requires { ⌜ length (now draws) ≡ 110512 ⌝ }
+fn run_strip(set: Sizes, draws: &[u8], words: &mut [u64], coeffs: &mut [u16]) -> bool
+    requires { ⌜ Bounded set
+        × (length (now draws) ≡ 512 * set .k + 128 + (8 * length (now words) + 2 * length (now coeffs))) ⌝ }
+{
+    let n = 512 * set.k + 128;
+    strip_file::unpack(&draws[n..], words, coeffs);
+    reduce(coeffs);
+    let mut mask_coeffs = [0u16; 1024];
+    let m = 256 * set.k;
+    run_masks(set, &draws[0..n], &mut mask_coeffs[0..m], words, coeffs)
+}
+
+fn run(set: Sizes, draws: &[u8]) -> bool
+    requires { ⌜ Bounded set × (length (now draws) ≡ 512 * set .k + 128 + (8 * set .words + 2 * set .coeffs)) ⌝ }
 {
     let mut words = strip_file::words();
     let mut coeffs = strip_file::coefficients();
-    strip_file::unpack(&draws[1664..], &mut words, &mut coeffs);
-    reduce(&mut coeffs);
-    run_masks(&draws[0..1664], &words, &coeffs)
+    let m = set.words;
+    let n = set.coeffs;
+    run_strip(set, draws, &mut words[0..m], &mut coeffs[0..n])
 }
 
-fn room() -> [u8; 110512]
-    ensures { λ r. ⌜ 110512 ≡ length r ⌝ }
+fn show(set: Sizes, draws: &mut [u8])
+    requires { ⌜ Bounded set × (length (now draws) ≡ 512 * set .k + 128 + (8 * set .words + 2 * set .coeffs)) ⌝ }
 {
-    [0; 110512]
-}
-
-// mlkem demo
-pub fn demo() {
-    let mut draws = room();
-    fips202::shake256(b"mlkem demo", &mut draws);
+    fips202::shake256(b"mlkem demo", draws);
     print(b"Seeds and masks are SHAKE256 of 'mlkem demo', known to all: ");
     print(b"for demonstration, not for use.\n");
-    if !run(&draws) {
+    if !run(set, draws) {
         print(b"not done: a call was refused\n");
         return;
     }
     if !io::write_all(STDOUT_FILENO, b"done\n") {
         messages::failed(b"standard output");
     }
+}
+
+// Of the largest set.
+fn room() -> [u8; 142656]
+    ensures { λ r. ⌜ 142656 ≡ length r ⌝ }
+{
+    [0; 142656]
+}
+
+// mlkem demo
+pub fn demo(set: Sizes)
+    requires { ⌜ Bounded set ⌝ }
+{
+    let mut draws = room();
+    let n = 512 * set.k + 128 + (8 * set.words + 2 * set.coeffs);
+    show(set, &mut draws[0..n]);
 }

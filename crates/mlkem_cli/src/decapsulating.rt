@@ -1,4 +1,8 @@
 // Masked decapsulation and its trace on files.
+ghost use Prim.Native.Nat.{_≤_};
+ghost use lib.ListN.{length};
+ghost use Rattle.buffers.specs.Split.{Sized};
+ghost use Rattle.cli_support.specs.Bounded.{Bounded};
 use buffers::split_key::pack_words;
 use cli_support::answers::is_refused;
 use cli_support::arguments;
@@ -6,6 +10,7 @@ use cli_support::arguments::Natural;
 use cli_support::inputs::read_exact;
 use cli_support::messages;
 use cli_support::outputs::write_secret;
+use cli_support::sets::Sizes;
 use cli_support::split_file::read_split;
 use cli_support::strip_file;
 use cli_support::strip_file::read_strip;
@@ -69,47 +74,107 @@ fn run_strip(
     z1: &[u64],
     public: &[u8],
     ct: &[u8],
-) {
-    let mut words = strip_file::words();
-    let mut coeffs = strip_file::coefficients();
-    if !read_strip(4, &mut words, &mut coeffs) {
+    words: &mut [u64],
+    coeffs: &mut [u16],
+)
+    requires { ⌜ (length (now words) ≤ 15192) × (length (now coeffs) ≤ 9472) ⌝ }
+{
+    if !read_strip(4, words, coeffs) {
         return;
     }
     match asked {
-        Asked::Shares => write_shares(s0, s1, z0, z1, public, ct, &words, &coeffs),
-        Asked::Step(step) => print_step(s0, s1, z0, z1, public, ct, &words, &coeffs, step),
+        Asked::Shares => write_shares(s0, s1, z0, z1, public, ct, words, coeffs),
+        Asked::Step(step) => print_step(s0, s1, z0, z1, public, ct, words, coeffs, step),
     }
 }
 
 // With the file of argument 3, a ciphertext.
-fn run_ciphertext(asked: Asked, s0: &[u16], s1: &[u16], z0: &[u64], z1: &[u64], public: &[u8]) {
-    let mut ct = [0u8; 1088];
-    if read_exact(3, &mut ct) {
-        run_strip(asked, s0, s1, z0, z1, public, &ct);
+fn run_ciphertext(
+    set: Sizes,
+    asked: Asked,
+    s0: &[u16],
+    s1: &[u16],
+    z0: &[u64],
+    z1: &[u64],
+    public: &[u8],
+    ct: &mut [u8],
+)
+    requires { ⌜ Bounded set ⌝ }
+{
+    if !read_exact(3, ct) {
+        return;
     }
+    let mut words = strip_file::words();
+    let mut coeffs = strip_file::coefficients();
+    let m = set.words;
+    let n = set.coeffs;
+    run_strip(
+        asked,
+        s0,
+        s1,
+        z0,
+        z1,
+        public,
+        ct,
+        &mut words[0..m],
+        &mut coeffs[0..n],
+    );
 }
 
 // With the file of argument 2, a split key.
-fn run(asked: Asked) {
-    let mut s0 = [0u16; 768];
-    let mut s1 = [0u16; 768];
+fn run_split(
+    set: Sizes,
+    asked: Asked,
+    s0: &mut [u16],
+    s1: &mut [u16],
+    z0: &mut [u64],
+    z1: &mut [u64],
+    public: &mut [u8],
+)
+    requires { ⌜ Bounded set × Sized (set .k) (now s0) (now s1) (now z0) (now z1) (now public) ⌝ }
+{
+    if !read_split(2, set.k, s0, s1, z0, z1, public) {
+        return;
+    }
+    let mut ct = [0u8; 1568];
+    let n = set.ct;
+    run_ciphertext(set, asked, s0, s1, z0, z1, public, &mut ct[0..n]);
+}
+
+fn run(set: Sizes, asked: Asked)
+    requires { ⌜ Bounded set ⌝ }
+{
+    let mut s0 = [0u16; 1024];
+    let mut s1 = [0u16; 1024];
     let mut z0 = [0u64; 4];
     let mut z1 = [0u64; 4];
-    let mut public = [0u8; 1216];
-    if read_split(2, &mut s0, &mut s1, &mut z0, &mut z1, &mut public) {
-        run_ciphertext(asked, &s0, &s1, &z0, &z1, &public);
-    }
+    let mut public = [0u8; 1600];
+    let m = 256 * set.k;
+    let n = 384 * set.k + 64;
+    run_split(
+        set,
+        asked,
+        &mut s0[0..m],
+        &mut s1[0..m],
+        &mut z0,
+        &mut z1,
+        &mut public[0..n],
+    );
 }
 
 // mlkem decaps SPLIT CT STRIP SHARES
-pub fn decaps() {
-    run(Asked::Shares);
+pub fn decaps(set: Sizes)
+    requires { ⌜ Bounded set ⌝ }
+{
+    run(set, Asked::Shares);
 }
 
 // mlkem trace SPLIT CT STRIP STEP
-pub fn trace() {
+pub fn trace(set: Sizes)
+    requires { ⌜ Bounded set ⌝ }
+{
     let Natural::Is(step) = arguments::number(5, 0xffff_ffff_ffff_ffff) else {
         return;
     };
-    run(Asked::Step(step));
+    run(set, Asked::Step(step));
 }

@@ -1,4 +1,5 @@
 // The program mlkem: the library's calls on files. The first argument names the call, the others are files and numbers.
+ghost use Rattle.cli_support.specs.Bounded.{Bounded};
 use cli_commands::commands;
 use cli_commands::commands::Call;
 use cli_commands::commands::Command;
@@ -7,18 +8,25 @@ use cli_commands::keys;
 use cli_commands::sampling;
 use cli_commands::splitting;
 use cli_support::messages;
+use cli_support::sets::Sizes;
+use cli_support::sets::sizes_of;
 use libc::STDERR_FILENO;
 use libc::STDOUT_FILENO;
 
 mod decapsulating; // decaps, trace
 
-fn run_call(call: Call) {
+// The rank of ML-KEM-768.
+const RANK: u32 = 3;
+
+fn run_call(call: Call, set: Sizes)
+    requires { ⌜ Bounded set ⌝ }
+{
     match call {
-        Call::KeyGen => keys::keygen(),
-        Call::Encaps => keys::encaps(),
-        Call::Import => splitting::import(),
-        Call::Decaps => decapsulating::decaps(),
-        Call::Trace => decapsulating::trace(),
+        Call::KeyGen => keys::keygen(set),
+        Call::Encaps => keys::encaps(set),
+        Call::Import => splitting::import(set),
+        Call::Decaps => decapsulating::decaps(set),
+        Call::Trace => decapsulating::trace(set),
         Call::Sample => sampling::sample(),
     }
 }
@@ -27,8 +35,8 @@ fn run(command: Command) {
     match command {
         Command::Help => commands::print_usage(STDOUT_FILENO),
         Command::Hashing(hash) => hashes::run(hash),
-        Command::Calling(call) => run_call(call),
-        Command::Demo => cli_demo::demo(),
+        Command::Calling(call) => run_call(call, sizes_of(RANK)),
+        Command::Demo => cli_demo::demo(sizes_of(RANK)),
         Command::Unknown => commands::print_usage(STDERR_FILENO),
     }
 }

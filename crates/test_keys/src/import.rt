@@ -46,7 +46,7 @@ fn import_into(dk: &[u8], mask_coeffs: &[u16], mask_words: &[u64], split: &mut [
         &mut z1,
         &mut public,
     ));
-    pack(&s0, &s1, &z0, &z1, &public, split);
+    pack(3, &s0, &s1, &z0, &z1, &public, split);
     n
 }
 

@@ -1,4 +1,5 @@
 -- The shares' bytes are the first part of the string and all the rest is the second, each as its call leaves it.
+use Prim.Native.Nat.{_*_}
 use mathlib.Core.Path.{_∙_}
 use mathlib.Core.List.{_++_}
 use borrow.Author.Needs.{needs}
@@ -40,7 +41,7 @@ returns c =
     let s = start (known (lent one)) in
     let a = s .args in
     let z = wordsToBytes 8 (a .z0 .now) ++ wordsToBytes 8 (a .z1 .now) in
-    two-parts (a .out .now) 3072
+    two-parts (a .out .now) (1024 * a .k)
     (length-bytes-two 2 (a .s0 .now) (a .s1 .now) ∙ omega (arith, s .pre))
     (omega (arith, length-append z (a .public .now), length-bytes-two 8 (a .z0 .now) (a .z1 .now), s .pre))
     (one .pack-coefficients .ensures)
@@ -50,6 +51,7 @@ pub pack-spec : {M : Type 1} → statement M
 pack-spec =
     tie.close
     (tie.spec
+    (λ c. omega arith)
     (λ c. omega arith)
     (λ c. omega arith)
     (λ c. omega arith)

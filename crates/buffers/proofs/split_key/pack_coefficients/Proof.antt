@@ -1,4 +1,5 @@
 -- The string is written in two parts: the first ends where the second begins, and each is what its call leaves.
+use Prim.Native.Nat.{_*_}
 use borrow.Author.Needs.{needs}
 use native.Mathlib.Omega.{arith}
 use Rattle.words.specs.Overwrite.{two-parts}
@@ -30,7 +31,7 @@ returns c =
     let one = first (cut (second c)) in
     let s = start (lent one) in
     let a = s .args in
-    two-parts (a .out .now) 1536
+    two-parts (a .out .now) (512 * a .k)
     (omega (arith, length-wordsToBytes 2 (a .s0 .now), s .pre))
     (omega (arith, length-wordsToBytes 2 (a .s1 .now), s .pre))
     (one .put-coefficients .ensures)
@@ -40,6 +41,7 @@ pub pack-coefficients-spec : {M : Type 1} → statement M
 pack-coefficients-spec =
     tie.close
     (tie.spec
+    (λ c. omega arith)
     (λ c. omega arith)
     (λ c. omega arith)
     (λ c. omega arith)

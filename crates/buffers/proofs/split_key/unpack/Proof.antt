@@ -1,9 +1,10 @@
 -- Each call reads its own part of the string into its own buffer, and no later one touches that buffer.
+use Prim.Native.Nat.{_+_, _*_}
+use mathlib.Core.Path.{_∙_}
 use borrow.Author.Needs.{needs}
 use native.Mathlib.Omega.{arith}
-use lib.ListN.{take, drop}
-use Rattle.words.specs.Part.{length-part}
-use Rattle.buffers.specs.LittleEndian.{numbers-sized}
+use Rattle.words.specs.Part.{part-rest}
+use Rattle.buffers.specs.LittleEndian.{numbers-part}
 use Rattle.buffers.proofs.split_key.unpack.Statement.{statement}
 use Rattle.buffers.proofs.split_key.unpack.Tie as tie
 
@@ -47,12 +48,6 @@ start c = c .before .before .before
 
 -- ---- facts
 
-copy-bytes-requires : tie.Need-copy-bytes-requires
-copy-bytes-requires c κs =
-    let s0 = s0-read (s1-lent (s1-read (z0-lent (z0-read (z1-lent (z1-read (public-lent c))))))) in
-    let s = start (known (s0-lent s0)) in
-    omega (arith, length-part 3136 1216 (s .args .b .now) (omega (arith, s .pre)), s .pre)
-
 returns : tie.Need-returns
 returns c =
     let z1 = z1-read (public-lent (public-read c .before)) in
@@ -61,12 +56,17 @@ returns c =
     let s0 = s0-read (s1-lent s1) in
     let s = start (known (s0-lent s0)) in
     let b = s .args .b .now in
+    let half = 512 * s .args .k in
+    let words = 1024 * s .args .k in
+    let second = words + 32 in
+    let rest = words + 64 in
+    let lengths = s .pre in
     record {
-      secret0 = numbers-sized 2 (take 1536 b) (s0 .get-coefficients .ensures) (omega (arith, s .pre));
-      secret1 = numbers-sized 2 (take 1536 (drop 1536 b)) (s1 .get-coefficients2 .ensures) (omega (arith, s .pre));
-      reject0 = numbers-sized 8 (take 32 (drop 3072 b)) (z0 .get-words .ensures) (omega (arith, s .pre));
-      reject1 = numbers-sized 8 (take 32 (drop 3104 b)) (z1 .get-words2 .ensures) (omega (arith, s .pre));
-      public = public-read c .copy-bytes .ensures;
+      secret0 = numbers-part 2 0 half half b (s0 .get-coefficients .ensures) (omega arith) (omega arith);
+      secret1 = numbers-part 2 half words half b (s1 .get-coefficients2 .ensures) (omega arith) (omega arith);
+      reject0 = numbers-part 8 words second 32 b (z0 .get-words .ensures) (omega arith) (omega arith);
+      reject1 = numbers-part 8 second rest 32 b (z1 .get-words2 .ensures) (omega arith) (omega arith);
+      public = public-read c .copy-bytes .ensures ∙ part-rest rest b;
     }
 
 pub unpack-spec : {M : Type 1} → statement M
@@ -76,11 +76,7 @@ unpack-spec =
     (λ c. omega arith)
     (λ c. omega arith)
     (λ c. omega arith)
-    (λ c κs. search needs)
     (λ c. omega arith)
-    (λ c. omega arith)
-    (λ c. omega arith)
-    (λ c κs. search needs)
     (λ c. omega arith)
     (λ c. omega arith)
     (λ c. omega arith)
@@ -92,7 +88,15 @@ unpack-spec =
     (λ c. omega arith)
     (λ c. omega arith)
     (λ c. omega arith)
-    copy-bytes-requires
+    (λ c κs. search needs)
+    (λ c. omega arith)
+    (λ c. omega arith)
+    (λ c. omega arith)
+    (λ c κs. search needs)
+    (λ c. omega arith)
+    (λ c. omega arith)
+    (λ c. omega arith)
+    (λ c κs. search needs)
     (λ c. omega arith)
     (λ c. omega arith)
     (λ c. omega arith)

@@ -1,10 +1,11 @@
--- 11,750 words are 94,000 bytes and 7,424 coefficients the rest, so that each call reads its own part into its own
--- buffer.
+-- The words are the first bytes and the coefficients the rest, so that each call reads its own part into its own buffer.
+use Prim.Native.Nat.{_*_}
 use borrow.Author.Needs.{needs}
-use mathlib.Core.Path.{ap, _∙_}
-use lib.ListN.{take, drop}
+use native.Mathlib.Omega.{arith}
+use mathlib.Core.Path.{refl, ap, _∙_}
+use lib.ListN.{length}
 use Rattle.words.specs.Part.{part-rest}
-use Rattle.buffers.specs.LittleEndian.{numbers, numbers-sized}
+use Rattle.buffers.specs.LittleEndian.{numbers, numbers-part}
 use Rattle.cli_support.proofs.strip_file.unpack.Statement.{statement}
 use Rattle.cli_support.proofs.strip_file.unpack.Tie as tie
 
@@ -33,17 +34,17 @@ returns c =
     let words = words-read (coeffs-lent coeffs) in
     let s = start (words-lent words) in
     let b = s .args .b .now in
-    let p = s .pre in
-    let rest = coeffs .get-coefficients .ensures ∙ ap (numbers 2 _) (part-rest 94000 b) in
+    let n = 8 * length (s .args .words .now) in
     record {
-      words = numbers-sized 8 (take 94000 b) (words .get-words .ensures) (p .words);
-      coeffs = numbers-sized 2 (drop 94000 b) rest (p .coeffs);
+      words = numbers-part 8 0 n n b (words .get-words .ensures) refl (omega arith);
+      coeffs = coeffs .get-coefficients .ensures ∙ ap (numbers 2 _) (part-rest n b);
     }
 
 pub unpack-spec : {M : Type 1} → statement M
 unpack-spec =
     tie.close
     (tie.spec
+    (λ c. search needs)
     (λ c. search needs)
     (λ c. search needs)
     (λ c. search needs)

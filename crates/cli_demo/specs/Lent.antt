@@ -1,0 +1,12 @@
+-- What the demonstration lends to key making and encapsulation.
+use mathlib.Core.Path.{_≡_}
+use mathlib.Core.List.{List}
+use Prim.Native.Nat.{ℕ, _≤_}
+use lib.ListN.{length}
+
+-- three seeds; of the keys and the ciphertext 16 bytes are printed
+pub record KeyLent (seeds₀ ek₀ dk₀ ct₀ : List ℕ) : Type 0 where
+  pub seeds : length seeds₀ ≡ 96
+  pub ek : 16 ≤ length ek₀
+  pub dk : 16 ≤ length dk₀
+  pub ct : 16 ≤ length ct₀

@@ -1,0 +1,24 @@
+-- A parameter set's lengths and counts lie between those of ML-KEM-512 and those of ML-KEM-1024.
+use Prim.Native.Nat.{ℕ}
+use Rattle.parameters.specs.declared.Parameters.{Parameters}
+use Rattle.parameters.specs.Lengths.{ekBytes, dkBytes, ctBytes}
+use Rattle.parameters.specs.Fits.{Within}
+use Rattle.stages.specs.Counts.{stripWords, stripCoeffs}
+use Rattle.stages.specs.EntryCounts.{steps}
+use Rattle.cli_support.specs.declared.sets.Sizes.{Sizes}
+
+pub record Between (k ek₀ dk₀ ct₀ words₀ coeffs₀ steps₀ : ℕ) : Type 0 where
+  pub rank : Within 2 4 k
+  pub ek : Within 800 1568 ek₀
+  pub dk : Within 1632 3168 dk₀
+  pub ct : Within 768 1568 ct₀
+  pub words : Within 9588 15192 words₀
+  pub coeffs : Within 6400 9472 coeffs₀
+  pub steps : Within 155928 242052 steps₀
+
+abbrev pub Bounded : Sizes → Type 0
+Bounded s = Between (s .k) (s .ek) (s .dk) (s .ct) (s .words) (s .coeffs) (s .steps)
+
+-- the same of the set, whose sizes these are
+abbrev pub SetBounded : Parameters → Type 0
+SetBounded p = Between (p .k) (ekBytes p) (dkBytes p) (ctBytes p) (stripWords p) (stripCoeffs p) (steps p)
