@@ -34,6 +34,7 @@ fn weight(eta: usize, j: usize) -> u16
     3328
 }
 
+// Both loops here have a constant bound, so that the compiler unrolls them, and end where the width says.
 fn convert_bits(rec: Recorder, eta: usize, b: Shares, cs: &[u16]) -> EnteredTerms
     requires { ⌜ SamplerLent eta (now cs) ⌝ }
     ensures { λ r. ⌜
@@ -44,7 +45,10 @@ fn convert_bits(rec: Recorder, eta: usize, b: Shares, cs: &[u16]) -> EnteredTerm
     let mut rec = rec;
     let mut s0 = [0u16; 6];
     let mut s1 = [0u16; 6];
-    for j in 0..2 * eta {
+    for j in 0..6 {
+        if j == 2 * eta {
+            return EnteredTerms { s0, s1, rec };
+        }
         let z = bit_to_coeff(rec, weight(eta, j), bit_of(b, j), cs[j]);
         s0[j] = z.s0;
         s1[j] = z.s1;
@@ -60,7 +64,10 @@ fn sum_terms(rec: Recorder, n: usize, x: [u16; 6]) -> EnteredCoeff
 {
     let mut rec = rec;
     let mut s = x[0];
-    for j in 0..n {
+    for j in 0..5 {
+        if j == n {
+            return EnteredCoeff { value: s, rec };
+        }
         let e = enter_sum(rec, s, x[j + 1]);
         s = e.value;
         rec = e.rec;
