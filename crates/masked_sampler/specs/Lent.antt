@@ -7,6 +7,7 @@ use Rattle.words.specs.Bounded.{Below}
 use Rattle.words.specs.Residue.{q}
 use Rattle.worksheet.specs.declared.Shares.{Shares}
 use Rattle.worksheet.specs.BitShares.{BitShares}
+use Rattle.worksheet.specs.SharedList.{SharedList}
 use Rattle.masked_sampler.specs.Coefficient.{samplerCoeffs}
 use Rattle.masked_sampler.specs.Bit.{bitOf}
 
@@ -21,3 +22,9 @@ pub record SamplerLent (eta : ℕ) (cs : List ℕ) : Type 0 where
   pub width : eta ≤ 3
   pub masks : samplerCoeffs eta ≤ length cs
   pub below : Below q cs
+
+-- the same, and room for six terms in two shares
+pub record TermsLent (eta : ℕ) (cs : List ℕ) (terms : SharedList) : Type 0 where
+  pub lent : SamplerLent eta cs
+  pub long0 : length (terms .s0) ≡ 6
+  pub long1 : length (terms .s1) ≡ 6
