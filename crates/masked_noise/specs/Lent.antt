@@ -4,7 +4,9 @@ use mathlib.Core.Path.{_≡_}
 use Prim.Native.Nat.{ℕ, _+_, _*_, _/_, _%_, _<_, _≤_}
 use lib.ListN.{length, getD}
 use Rattle.words.specs.Digit.{digit}
+use Rattle.worksheet.specs.declared.Shares.{Shares}
 use Rattle.worksheet.specs.SharedList.{SharedList}
+use Rattle.masked_sampler.specs.Coefficient.{samplerCoeffs}
 use Rattle.parameters.specs.declared.Parameters.{Parameters}
 use Rattle.parameters.specs.Fits.{Within, Fits}
 use Rattle.stages.specs.Counts.{noiseWords, noiseCoeffs, stage5Words, stage5Coeffs}
@@ -22,7 +24,23 @@ pub record BitsLent (s n : ℕ) (o : List ℕ) : Type 0 where
 pub record BitsRead (o : List ℕ) (s n r : ℕ) : Type 0 where
   pub at : (j : ℕ) → j < n → digit j r ≡ digit ((s + j) % 64) (getD o ((s + j) / 64) 0)
 
+-- of both shares
+pub record SharedBitsRead (o : SharedList) (s n : ℕ) (r : Shares) : Type 0 where
+  pub bits0 : BitsRead (o .s0) s n (r .s0)
+  pub bits1 : BitsRead (o .s1) s n (r .s1)
+
 -- ---- noise of width eta
+
+-- a polynomial's bits o, of which those of coefficient i are read
+pub record CoefficientBits (eta i : ℕ) (o : SharedList) : Type 0 where
+  pub width : Within 1 3 eta
+  pub number : i < 256
+  pub input : Long (8 * eta) o
+
+-- the same, with the coefficient's masks
+pub record CoefficientInput (eta i : ℕ) (o : SharedList) (cs : List ℕ) : Type 0 where
+  pub bits : CoefficientBits eta i o
+  pub coeffs : Masks (samplerCoeffs eta) cs
 
 -- a polynomial's bits o, to be sampled
 pub record SampleInput (eta : ℕ) (o : SharedList) (cs : List ℕ) (f : SharedList) : Type 0 where

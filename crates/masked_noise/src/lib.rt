@@ -5,20 +5,23 @@ ghost use Prim.Native.Nat.{_+_, _*_};
 ghost use lib.ListN.{drop, length};
 ghost use Rattle.worksheet.specs.Prog.{times, word, coeff};
 ghost use Rattle.worksheet.specs.Ran.{Ran, Draws};
+ghost use Rattle.worksheet.specs.Sharing.{shares};
 ghost use Rattle.worksheet.specs.SharedList.{sharedList};
 ghost use Rattle.worksheet.specs.Zip.{zip};
 ghost use Rattle.masked_fips202.specs.MaskedWords.{maskedShake256Words, shake256MaskWords};
-ghost use Rattle.masked_sampler.specs.Coefficient.{sampler as samplerOf};
+ghost use Rattle.masked_sampler.specs.Coefficient.{sampler as samplerOf, samplerCoeffs};
 ghost use Rattle.stages.specs.Counts.{noiseWords, noiseCoeffs, stage5Words, stage5Coeffs};
 ghost use Rattle.stages.specs.Moves.{stringBit, withPublic};
 ghost use Rattle.stages.specs.Worksheet.{noisePoly, stage5 as stage5Of};
 ghost use Rattle.stages.specs.Layout.{polynomials};
 ghost use Rattle.stages.specs.Lent.{HashInput};
-ghost use Rattle.masked_noise.specs.Lent.{BitsLent, BitsRead, SampleInput};
+ghost use Rattle.masked_noise.specs.Lent.{BitsLent, BitsRead, SharedBitsRead};
+ghost use Rattle.masked_noise.specs.Lent.{CoefficientBits, CoefficientInput, SampleInput};
 ghost use Rattle.masked_noise.specs.Lent.{MaskedNoiseInput, PolynomialInput, Stage5Input};
 use masked_fips202::masked_words::masked_shake256_words;
 use masked_fips202::shared_input::with_public;
 use masked_fips202::shared_input::with_zeros;
+use masked_sampler::coefficient::EnteredCoeffs;
 use masked_sampler::sampler::sampler;
 use parameters::Parameters;
 use stages::mask_counts::noise_coeffs;
@@ -41,6 +44,42 @@ fn bits_at(o: &[u64], s: usize, n: usize) -> u64
     w ^ (o[i + 1] << (64 - b))
 }
 
+// The 2 eta bits of coefficient i, of both shares.
+fn coefficient_bits(eta: usize, i: usize, o0: &[u64], o1: &[u64]) -> Shares
+    requires { ⌜ CoefficientBits eta i (sharedList (now o0) (now o1)) ⌝ }
+    ensures { λ r. ⌜ SharedBitsRead (sharedList (now (o0 .entry)) (now (o1 .entry))) (2 * eta * i) (2 * eta) r ⌝ }
+{
+    let n = 2 * eta;
+    let k = n * i;
+    Shares {
+        s0: bits_at(o0, k, n),
+        s1: bits_at(o1, k, n),
+    }
+}
+
+// Coefficient i, with the masks from its first on. Where the width is 2, that of most polynomials, it is handed on as a
+// number, for which the compiler unrolls the sampler's loops. Calls that differed in the width alone it would make one
+// again; these differ in the bits too.
+fn sample_one(
+    rec: Recorder,
+    eta: usize,
+    i: usize,
+    o0: &[u64],
+    o1: &[u64],
+    cs: &[u16],
+) -> EnteredCoeffs
+    requires { ⌜ CoefficientInput eta i (sharedList (now o0) (now o1)) (now cs) ⌝ }
+    ensures { λ r. ⌜
+        Draws coeff (samplerCoeffs eta)
+        (samplerOf eta (λ j. stringBit (sharedList (now (o0 .entry)) (now (o1 .entry))) (2 * eta * i + j)))
+        rec (now (cs .entry)) (shares (r .s0) (r .s1)) (r .rec) ⌝ }
+{
+    if eta == 2 {
+        return sampler(rec, 2, coefficient_bits(2, i, o0, o1), cs);
+    }
+    sampler(rec, eta, coefficient_bits(eta, i, o0, o1), cs)
+}
+
 // 256 coefficients, each from 2 eta bits and with 2 eta masks.
 fn sample_all(
     rec: Recorder,
@@ -59,15 +98,10 @@ fn sample_all(
         samplerOf eta (λ j. stringBit (sharedList (now (o0 .entry)) (now (o1 .entry))) (2 * eta * i + j))))
         rec (now (cs .entry)) (zip 256 (sharedList (now (f0 .exit)) (now (f1 .exit)))) r ⌝ }
 {
-    let n = 2 * eta;
     let mut rec = rec;
     for i in 0..256 {
-        let k = n * i;
-        let b = Shares {
-            s0: bits_at(o0, k, n),
-            s1: bits_at(o1, k, n),
-        };
-        let o = sampler(rec, eta, b, &cs[k..]);
+        let k = 2 * eta * i;
+        let o = sample_one(rec, eta, i, o0, o1, &cs[k..]);
         f0[i] = o.s0;
         f1[i] = o.s1;
         rec = o.rec;
