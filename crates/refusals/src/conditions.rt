@@ -8,12 +8,11 @@ ghost use Rattle.refusals.specs.Same.{same as sameOf};
 pub fn reduced(f: &[u16]) -> bool
     ensures { λ r. ⌜ r ≡ reducedOf (now (f .entry)) ⌝ }
 {
+    let mut all = true;
     for i in 0..f.len() {
-        if f[i] >= 3329 {
-            return false;
-        }
+        all = all & (f[i] < 3329);
     }
-    true
+    all
 }
 
 // Two strings of one length are equal.
