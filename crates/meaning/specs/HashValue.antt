@@ -58,13 +58,17 @@ module _ {b : List ℕ} {s : SharedList} (public : List ℕ) (bytes : Below 256 
   -- SHAKE256 of shared words and a public string, n words of output
   pub gives-shake : (n : ℕ) → Gives (BytesSharing n (shake256 (b ++ public) (8 * n)))
       (maskedShake256Words (withPublic s public .s0) (withPublic s public .s1) n)
-  gives-shake n = rw joined-withPublic at (gives-maskedShake256Words same-length (below-withPublic0 s public bytes) (below-withPublic1 s public) n)
+  gives-shake n =
+      rw joined-withPublic at
+      (gives-maskedShake256Words same-length (below-withPublic0 s public bytes) (below-withPublic1 s public) n)
 
   -- ---- the stages
 
   pub gives-stage3 : Gives (BytesSharing 8 (sha3-512 (b ++ public))) (stage3 s public)
   unfolding stage3
-  gives-stage3 = rw joined-withPublic at (gives-maskedSha3-512Words same-length (below-withPublic0 s public bytes) (below-withPublic1 s public))
+  gives-stage3 =
+      rw joined-withPublic at
+      (gives-maskedSha3-512Words same-length (below-withPublic0 s public bytes) (below-withPublic1 s public))
 
   pub gives-stage9 : Gives (BytesSharing 4 (J (b ++ public))) (stage9 s public)
   unfolding stage9

@@ -1,16 +1,14 @@
 -- The test of coefficients holds of lists below q alone.
 use mathlib.Core.Path.{_≡_, refl, ap₂}
-use mathlib.Core.Bool.{Bool, true, false, _&&_}
+use mathlib.Core.Bool.{Bool, true, _&&_}
 use mathlib.Core.List.{List, [], _∷_}
-use Prim.Native.Nat.{ℕ, _≤_}
+use Prim.Native.Nat.{ℕ}
 use native.Mathlib.Omega.{arith}
 use borrow.Author.Tests.{lt-ltb, ltb-true}
 use lib.Dec.{ltb}
-use lib.ListN.{getD}
 use Rattle.words.specs.Residue.{q}
 use Rattle.words.specs.Bounded.{Below}
 use Rattle.words.specs.BoundedLaws.{below-nil, below-cons, below-head, below-tail}
-use Rattle.words.specs.Walk.{refuted}
 use Rattle.refusals.specs.SameLaws.{and-left, and-right}
 use Rattle.refusals.specs.Reduced.{reduced}
 
@@ -24,6 +22,3 @@ pub below-reduced : (l : List ℕ) → Below q l → reduced l ≡ true
 unfolding reduced
 below-reduced [] b = refl
 below-reduced (x ∷ l) b = ap₂ (λ (c d : Bool). c && d) (lt-ltb x q (below-head b)) (below-reduced l (below-tail b))
-
-pub reduced-false : (l : List ℕ) (i : ℕ) → q ≤ getD l i 0 → reduced l ≡ false
-reduced-false l i g = refuted (reduced l) (reduced-below l) (λ b. omega (arith, b .at i))

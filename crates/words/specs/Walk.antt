@@ -5,7 +5,7 @@
 --     before the loop  walked-start
 --     a turn           walked-turn INVARIANT (omega arith) (c .if1 .left)
 --     after the loop   walked-equal 0 INVARIANT (omega arith) LENGTHS says a ≡ b; where the test is another,
---                      walked-below or walked-every
+--                      walked-every
 --     inside it        refuted or every-false says that the test of the whole is false
 use mathlib.Core.Path.{_≡_, refl}
 use mathlib.Core.Bool.{Bool, true, false, _&&_}
@@ -14,9 +14,8 @@ use Prim.Native.Nat.{ℕ, zero, suc, _+_, _<_, _≤_}
 use native.Mathlib.Decide.{decLt}
 use native.Mathlib.Omega.{arith}
 use borrow.Author.Count.{below-more}
-use lib.ListN.{length, getD, List·getD-eq-default}
+use lib.ListN.{length, getD}
 use lib.Seq.{ext-getD}
-use Rattle.words.specs.Bounded.{Below}
 use Rattle.words.specs.Table.{every}
 use Rattle.words.specs.TableLaws.{every-true}
 
@@ -41,15 +40,6 @@ module _ {n : ℕ} {P : ℕ → Type 0} where
 pub walked-equal : {A : Type 0} (d : A) {a b : List A} {i : ℕ} → Walked (length a) (λ k. getD a k d ≡ getD b k d) i
     → length a ≤ i → length a ≡ length b → a ≡ b
 walked-equal d {a} {b} w h e = ext-getD d a b e (walked-end w h)
-
--- a list with each element below b
-pub walked-below : {l : List ℕ} {b : ℕ} {i : ℕ} → Walked (length l) (λ k. getD l k 0 < b) i → length l ≤ i → 0 < b
-    → Below b l
-walked-below {l} {b} w h p = record { at = λ k. go k (decLt k (length l)) }
-  where
-    go : (k : ℕ) → Dec (k < length l) → getD l k 0 < b
-    go k (yes g) = walked-end w h k g
-    go k (no g) = rw (List·getD-eq-default l 0 {n = k} (omega arith)) p
 
 -- a test that is passed everywhere
 pub walked-every : {n : ℕ} {p : ℕ → Bool} {i : ℕ} → Walked n (λ k. p k ≡ true) i → n ≤ i → every n p ≡ true

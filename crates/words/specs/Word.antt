@@ -1,5 +1,5 @@
--- Words as numbers: exclusive or, and, ones, complement, low bits, rotation. They are shut, so that proofs go by their laws and not by
--- their text.
+-- Words as numbers: exclusive or, and, ones, complement, low bits, rotation. They are shut, so that proofs go by their
+-- laws and not by their text.
 use Prim.Native.Nat.{ℕ, _+_, _-_, _*_, _/_, _%_, _^_}
 use lib.Bits.{bitXor, bitAnd}
 

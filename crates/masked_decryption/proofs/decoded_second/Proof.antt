@@ -16,8 +16,11 @@ use Rattle.masked_decryption.proofs.decoded_second.Tie as tie
 abbrev read : tie.After-slice-known2 → tie.After-decoded
 read c = c .before .before
 
+abbrev handed : tie.After-decoded → tie.After-decoded-arg
+handed c = c .before .before
+
 abbrev set : tie.After-decoded → tie.After-struct-known
-set c = c .before .before .before .before
+set c = handed c .before .before
 
 abbrev start : tie.After-struct-known → tie.Start
 start c = c .before .before .before

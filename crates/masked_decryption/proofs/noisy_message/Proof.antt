@@ -25,8 +25,11 @@ zeroed c = c .before .before .before
 abbrev zeros : tie.After-slice-known7 → tie.After-clear
 zeros c = c .before .before
 
+abbrev cleared : tie.After-clear → tie.After-slice-known6
+cleared c = c .before .before
+
 abbrev product0 : tie.After-clear → tie.After-take-product
-product0 c = c .before .before .before .before
+product0 c = cleared c .before .before
 
 abbrev read : tie.After-take-product → tie.After-slice-known5
 read c = c .before .before .before
@@ -34,11 +37,17 @@ read c = c .before .before .before
 abbrev second : tie.After-slice-known5 → tie.After-decoded-second
 second c = c .before .before
 
+abbrev decoded : tie.After-decoded-second → tie.After-slice-known4
+decoded c = c .before .before
+
 abbrev first : tie.After-decoded-second → tie.After-transformed-first
-first c = c .before .before .before .before
+first c = decoded c .before .before
+
+abbrev rooms : tie.After-transformed-first → tie.After-slice-known3
+rooms c = c .before .before
 
 abbrev outputs : tie.After-transformed-first → tie.After-slice-known
-outputs c = c .before .before .before .before
+outputs c = rooms c .before .before
 
 abbrev inputs : tie.After-slice-known → tie.After-shared-slice-known
 inputs c = c .before .before .before

@@ -13,8 +13,11 @@ transformed c = c .before .before
 abbrev read : tie.After-ntt-all-arg → tie.After-decoded-all
 read c = c .before .before .before
 
+abbrev handed : tie.After-decoded-all → tie.After-decoded-all-arg
+handed c = c .before .before
+
 abbrev set : tie.After-decoded-all → tie.After-struct-known
-set c = c .before .before .before .before
+set c = handed c .before .before
 
 abbrev start : tie.After-struct-known → tie.Start
 start c = c .before .before .before

@@ -1,5 +1,5 @@
 -- Turn i samples coefficient i with the next 2 eta masks and stores it.
-use Prim.Native.Nat.{ℕ, _+_, _-_, _*_, _≤_}
+use Prim.Native.Nat.{_+_, _-_, _*_, _≤_}
 use mathlib.Core.Path.{_≡_}
 use native.Mathlib.Nat.{mul-zero}
 use native.Mathlib.Omega.{arith}

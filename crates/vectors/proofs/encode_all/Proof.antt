@@ -7,7 +7,8 @@ use Rattle.words.specs.BoundedLaws.{below-take, below-drop}
 use Rattle.codec.specs.Bytes.{byteEncode}
 use Rattle.vectors.specs.Vector.{parts}
 use Rattle.words.specs.Part.{length-span}
-use Rattle.vectors.proofs.Concatenated.{Concatenated, concatenated-start, concatenated-fits, concatenated-read, concatenated-end}
+use Rattle.vectors.proofs.Concatenated.{Concatenated, concatenated-start, concatenated-fits}
+use Rattle.vectors.proofs.Concatenated.{concatenated-read, concatenated-end}
 use Rattle.vectors.proofs.encode_all.Statement.{statement}
 use Rattle.vectors.proofs.encode_all.Tie as tie
 

@@ -1,4 +1,4 @@
--- The words are the first bytes and the coefficients the rest, so that each call reads its own part into its own buffer.
+-- The words are the first bytes and the coefficients the rest: each call reads its own part into its own buffer.
 use Prim.Native.Nat.{_*_}
 use borrow.Author.Needs.{needs}
 use native.Mathlib.Omega.{arith}

@@ -16,8 +16,11 @@ outputs c = c .before .before .before
 abbrev inputs : tie.After-shared-slice-known7 → tie.After-shared-slice-known4
 inputs c = c .before .before .before
 
+abbrev secret : tie.After-shared-slice-known4 → tie.After-shared-slice-known
+secret c = c .before .before .before
+
 abbrev start : tie.After-word-count → tie.Start
-start c = inputs (outputs c) .before .before .before .before
+start c = secret (inputs (outputs c)) .before
 
 compared-in-requires : tie.Need-compared-in-requires
 compared-in-requires c κs =

@@ -21,20 +21,32 @@ words4 b0 b1 = maskedShake256Words b0 b1 4
 abbrev hashed : tie.After-slice-known7 → tie.After-masked-shake256-words
 hashed c = c .before .before
 
+abbrev handed : tie.After-masked-shake256-words-arg4 → tie.After-masked-shake256-words-arg2
+handed c = c .before .before
+
 abbrev filled : tie.After-masked-shake256-words-arg4 → tie.After-slice-known6
-filled c = c .before .before .before .before
+filled c = handed c .before .before
 
 abbrev zeros : tie.After-slice-known6 → tie.After-with-zeros
 zeros c = c .before .before
 
+abbrev room1 : tie.After-with-zeros → tie.After-slice-known5
+room1 c = c .before .before
+
 abbrev public : tie.After-with-zeros → tie.After-with-public
-public c = c .before .before .before .before
+public c = room1 c .before .before
+
+abbrev room0 : tie.After-with-public → tie.After-slice-known3
+room0 c = c .before .before .before
 
 abbrev outputs : tie.After-with-public → tie.After-slice-known
-outputs c = c .before .before .before .before .before
+outputs c = room0 c .before .before
+
+abbrev lent : tie.After-slice-known → tie.After-shared-slice-known3
+lent c = c .before .before
 
 abbrev inputs : tie.After-slice-known → tie.After-shared-slice-known
-inputs c = c .before .before .before .before
+inputs c = lent c .before .before
 
 abbrev start : tie.After-with-public → tie.Start
 start c = inputs (outputs c) .before
