@@ -1,42 +1,44 @@
 """Masked decapsulation and a trace against OpenSSL's plain decapsulation (Python's cryptography), timed in turns: bench/decaps runs it on our library.
 
-OpenSSL's key holds the matrix worked out, where ours is worked out from the public key in each call.
+OpenSSL's key holds the matrix worked out, where ours is worked out from the public key in each call. It has no ML-KEM-512.
 """
 import ctypes, os, sys
 from array import array
 
 sys.dont_write_bytecode = True
 sys.path.append(os.path.join(os.path.dirname(os.path.abspath(__file__)), "..", "tools"))
-from cryptography.hazmat.primitives.asymmetric.mlkem import MLKEM768PrivateKey
 from models.numbers import mask_coefficients
-from models.parameters import ML_KEM_768 as P
+from models.parameters import SETS
+from openssl import PRIVATE_KEYS, key_pair
 from turns import compare, lent
 
-STEP, CALLS = P.steps // 2, 2
+CALLS = 2
 lib = ctypes.CDLL(sys.argv[1])
 
 
-def words(values):
-    return (ctypes.c_uint64 * len(values)).from_buffer_copy(values)
+def words(n):
+    return (ctypes.c_uint64 * n).from_buffer_copy(array("Q", os.urandom(8 * n)))
 
 
 def coefficients(n):
     return (ctypes.c_uint16 * n)(*mask_coefficients(os.urandom(2 * n)))
 
 
-d, z, m = os.urandom(32), os.urandom(32), os.urandom(32)
-ek, dk, ct, k = (ctypes.create_string_buffer(n) for n in (P.ek_bytes, P.dk_bytes, P.ct_bytes, 32))
-split = *((ctypes.c_uint16 * P.coefficients)() for _ in (0, 1)), *((ctypes.c_uint64 * 4)() for _ in (0, 1)), ctypes.create_string_buffer(P.public_bytes)
-strip = words(array("Q", os.urandom(8 * P.strip_words))), coefficients(P.strip_coeffs)
-shares = (ctypes.c_uint64 * 4)(), (ctypes.c_uint64 * 4)()
-value = ctypes.c_uint64()
-assert lib.tifo_keygen(*lent(d, z, ek, dk)) == 0 and lib.tifo_encaps(*lent(ek, m, ct, k)) == 0
-assert lib.tifo_import(*lent(dk, coefficients(P.coefficients), words(array("Q", os.urandom(32))), *split)) == 0
-run = lent(*split, ct, *strip)
-decaps_args, trace_args = run + lent(*shares), run + [ctypes.c_uint64(STEP), ctypes.byref(value)]
-assert lib.tifo_decaps(*decaps_args) == 0 and lib.tifo_trace(*trace_args) == 0
-key, true_ct = MLKEM768PrivateKey.from_seed_bytes(d + z), ct.raw
-assert key.decapsulate(true_ct) == k.raw == b"".join((a ^ b).to_bytes(8, "little") for a, b in zip(*shares))
+def time_set(p):
+    d, z, m, step = os.urandom(32), os.urandom(32), os.urandom(32), p.steps // 2
+    ek, dk, ct, k, public = (ctypes.create_string_buffer(n) for n in (p.ek_bytes, p.dk_bytes, p.ct_bytes, 32, p.public_bytes))
+    split = *((ctypes.c_uint16 * p.coefficients)() for _ in (0, 1)), *((ctypes.c_uint64 * 4)() for _ in (0, 1)), public
+    strip, shares, value = (words(p.strip_words), coefficients(p.strip_coeffs)), (words(4), words(4)), ctypes.c_uint64()
+    assert lib.tifo_keygen(*lent(p, d, z, ek, dk)) == 0 and lib.tifo_encaps(*lent(p, ek, m, ct, k)) == 0
+    assert lib.tifo_import(*lent(p, dk, coefficients(p.coefficients), words(4), *split)) == 0
+    decaps, trace = lent(p, *split, ct, *strip, *shares), lent(p, *split, ct, *strip) + [ctypes.c_uint64(step), ctypes.byref(value)]
+    assert lib.tifo_decaps(*decaps) == 0 and lib.tifo_trace(*trace) == 0
+    true_ct, (_, other_decaps) = ct.raw, key_pair(p, d + z)
+    assert other_decaps(true_ct) == k.raw == b"".join((a ^ b).to_bytes(8, "little") for a, b in zip(*shares))
+    other = (lambda: other_decaps(true_ct)) if p in PRIVATE_KEYS else None
+    compare(f"{p.name}, masked decapsulation", lambda: lib.tifo_decaps(*decaps), other, CALLS)
+    compare(f"{p.name}, trace of step {step}", lambda: lib.tifo_trace(*trace), other, CALLS)
 
-compare("masked decapsulation", lambda: lib.tifo_decaps(*decaps_args), lambda: key.decapsulate(true_ct), CALLS)
-compare(f"trace of step {STEP}", lambda: lib.tifo_trace(*trace_args), lambda: key.decapsulate(true_ct), CALLS)
+
+for p in SETS:
+    time_set(p)

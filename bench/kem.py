@@ -1,4 +1,4 @@
-"""Our key calls and OpenSSL's (Python's cryptography) timed in turns: bench/kem runs it on our library.
+"""Our key calls and OpenSSL's (Python's cryptography) timed in turns: bench/kem runs it on our library. OpenSSL has no ML-KEM-512.
 
 Both go through Python, and a call of ours that is refused at once shows what a call itself costs. OpenSSL's encapsulation draws its own m, and it works
 out the matrix when it reads the public key, where ours does so in encapsulation: so that one is timed with the reading too.
@@ -7,25 +7,37 @@ import ctypes, os, sys
 
 sys.dont_write_bytecode = True
 sys.path.append(os.path.join(os.path.dirname(os.path.abspath(__file__)), "..", "tools"))
-from cryptography.hazmat.primitives.asymmetric.mlkem import MLKEM768PrivateKey, MLKEM768PublicKey
-from models.parameters import ML_KEM_768 as P
-from turns import TURNS, compare, lent, microseconds
+from cryptography.hazmat.primitives.asymmetric.mlkem import MLKEM768PublicKey, MLKEM1024PublicKey
+from models.parameters import SETS, ML_KEM_768, ML_KEM_1024
+from openssl import PRIVATE_KEYS
+from turns import compare, lent
 
+PUBLIC_KEYS = {ML_KEM_768: MLKEM768PublicKey, ML_KEM_1024: MLKEM1024PublicKey}
 lib = ctypes.CDLL(sys.argv[1])
-d, z, m = (bytes([i]) * 32 for i in (1, 2, 3))
-ek, dk, ct, k = (ctypes.create_string_buffer(n) for n in (P.ek_bytes, P.dk_bytes, P.ct_bytes, 32))
-key_args, encaps_args, refused_args = lent(d, z, ek, dk), lent(ek, m, ct, k), lent(d[1:], z, ek, dk)
-assert lib.tifo_keygen(*key_args) == 0 and lib.tifo_encaps(*encaps_args) == 0 and lib.tifo_keygen(*refused_args) == 1
-key = MLKEM768PrivateKey.from_seed_bytes(d + z)
-public = key.public_key()
-assert ek.raw == public.public_bytes_raw() and key.decapsulate(ct.raw) == k.raw
 
 
-def ours_encaps():
-    lib.tifo_encaps(*encaps_args)
+def openssl_calls(p, seed, ek, ct, k):
+    """Key making, encapsulation, and that with the public key read first; none where OpenSSL hasn't the set."""
+    if p not in PRIVATE_KEYS:
+        return None, None, None
+    key = PRIVATE_KEYS[p].from_seed_bytes(seed)
+    public = key.public_key()
+    assert ek == public.public_bytes_raw() and key.decapsulate(ct) == k
+    return lambda: PRIVATE_KEYS[p].from_seed_bytes(seed), public.encapsulate, lambda: PUBLIC_KEYS[p].from_public_bytes(ek).encapsulate()
 
 
-compare("key from a seed", lambda: lib.tifo_keygen(*key_args), lambda: MLKEM768PrivateKey.from_seed_bytes(d + z))
-compare("encapsulation", ours_encaps, public.encapsulate)
-compare("public key read and encapsulation", ours_encaps, lambda: MLKEM768PublicKey.from_public_bytes(ek.raw).encapsulate())
-print(f"{'a refused call':<33} ours {min(microseconds(lambda: lib.tifo_keygen(*refused_args)) for _ in range(TURNS)):6.1f} us")
+def time_set(p):
+    d, z, m = (bytes([i]) * 32 for i in (1, 2, 3))
+    ek, dk, ct, k = (ctypes.create_string_buffer(n) for n in (p.ek_bytes, p.dk_bytes, p.ct_bytes, 32))
+    keygen, encaps, refused = lent(p, d, z, ek, dk), lent(p, ek, m, ct, k), lent(p, d[1:], z, ek, dk)
+    assert lib.tifo_keygen(*keygen) == 0 and lib.tifo_encaps(*encaps) == 0 and lib.tifo_keygen(*refused) == 1
+    other_keygen, other_encaps, other_reading = openssl_calls(p, d + z, ek.raw, ct.raw, k.raw)
+    compare(f"{p.name}, key from a seed", lambda: lib.tifo_keygen(*keygen), other_keygen)
+    compare(f"{p.name}, encapsulation", lambda: lib.tifo_encaps(*encaps), other_encaps)
+    if other_reading:
+        compare(f"{p.name}, public key read and encapsulation", lambda: lib.tifo_encaps(*encaps), other_reading)
+    compare(f"{p.name}, a refused call", lambda: lib.tifo_keygen(*refused))
+
+
+for p in SETS:
+    time_set(p)

@@ -1,5 +1,8 @@
 """Instructions of each part of one masked decapsulation, for bench/decaps, from what callgrind dumped at the borders of stages.
 
+usage: bench/stages.py --options      callgrind's, for the dumps
+       bench/stages.py SET FILE       of a parameter set's run
+
 The ten stage functions are inlined into `decapsulate`. Four functions that aren't inlined, each called at known places, mark the borders. What little is inlined
 between a border and the next stage counts with that stage: the end of stage 3 with stage 4, the start of stage 9's state with stage 8, its end with stage 10.
 """
@@ -7,7 +10,7 @@ import os, re, sys
 
 sys.dont_write_bytecode = True
 sys.path.append(os.path.join(os.path.dirname(os.path.abspath(__file__)), "..", "tools"))
-from models.parameters import ML_KEM_768 as P
+from models.parameters import NAMED
 
 EXPAND, COMPRESS, NOISE, ABSORB = MARKS = (
     "kpke::matrix::expand",
@@ -28,10 +31,12 @@ ENDS = [
     ("after", ABSORB, 1),
     ("at", "end", 1),
 ]
-# what ends there, and its entries
-PARTS = [("refusals", "before", EXPAND, 1, 0), ("matrix", "after", EXPAND, 1, 0)] + [
-    (f"stage {i}", *end, use.entries) for i, (end, use) in enumerate(zip(ENDS, P.stages), 1)
-]
+
+
+def parts_of(p):
+    """What ends where, and its entries."""
+    stages = [(f"stage {i}", *end, use.entries) for i, (end, use) in enumerate(zip(ENDS, p.stages), 1)]
+    return [("refusals", "before", EXPAND, 1, 0), ("matrix", "after", EXPAND, 1, 0)] + stages
 
 
 def options():
@@ -46,9 +51,9 @@ def dumps(text):
     return found[next(i for i, e in enumerate(found) if e[2]):]
 
 
-def costs(found):
+def costs(p, found):
     """Name, entries and instructions of each part. Found are events along a run, each with the instructions since the one before."""
-    parts, out, cost, times = iter(PARTS), [], 0, 0
+    parts, out, cost, times = iter(parts_of(p)), [], 0, 0
     name, when, f, wanted, entries = next(parts)
     for event in found:
         cost += event[2]
@@ -57,7 +62,7 @@ def costs(found):
             out.append((name, entries, cost))
             name, when, f, wanted, entries = next(parts, (None, None, None, None, None))
             cost = times = 0
-    if len(out) != len(PARTS):
+    if name:
         sys.exit(f"no border for {name}: one of the marking functions is inlined or called elsewhere now")
     return out
 
@@ -65,7 +70,8 @@ def costs(found):
 def main():
     if sys.argv[1:] == ["--options"]:
         return print(*options())
-    out = costs(dumps(open(sys.argv[1]).read()))
+    name, file = sys.argv[1:]
+    out = costs(NAMED[name], dumps(open(file).read()))
     total = sum(cost for _, _, cost in out)
     for name, entries, cost in out:
         each = f"   for each of {entries:6} entries {cost / entries:7.2f}" if entries else ""

@@ -4,8 +4,9 @@ import ctypes, time
 TURNS, CALLS = 201, 20
 
 
-def lent(*buffers):
-    return [x for b in buffers for x in (b, ctypes.c_size_t(len(b)))]
+def lent(p, *buffers):
+    """The rank, and each buffer with its length."""
+    return [ctypes.c_uint32(p.k), *(x for b in buffers for x in (b, ctypes.c_size_t(len(b))))]
 
 
 def microseconds(f, calls=CALLS):
@@ -15,7 +16,8 @@ def microseconds(f, calls=CALLS):
     return (time.perf_counter() - start) / calls * 1e6
 
 
-def compare(name, ours, other, calls=CALLS):
-    times = [(microseconds(ours, calls), microseconds(other, calls)) for _ in range(TURNS)]
-    a, b = map(min, zip(*times))
-    print(f"{name:<33} ours {a:6.1f} us   OpenSSL {b:6.1f} us   ratio {a / b:.2f}")
+def compare(name, ours, other=None, calls=CALLS):
+    """With no other, ours alone."""
+    times = [[microseconds(f, calls) for f in (ours, other) if f] for _ in range(TURNS)]
+    a, *b = map(min, zip(*times))
+    print(f"{name:<46} ours {a:6.1f} us" + "".join(f"   OpenSSL {x:6.1f} us   ratio {a / x:.2f}" for x in b))

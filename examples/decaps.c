@@ -5,9 +5,12 @@
 #include <sys/random.h>
 #include "../include/tifolanzo.h"
 
-static uint8_t d[32], z[32], m[32], ek[1184], dk[2400], ct[1088], k[32], opened[32], pub[1216];
-static uint16_t mask_coeffs[768], s0[768], s1[768], coeffs[7424];
-static uint64_t mask_words[4], z0[4], z1[4], words[11750], k0[4], k1[4];
+/* ML-KEM-768. For ML-KEM-512 the numbers behind the rank are 768, 9588, 6400, 155928, and for ML-KEM-1024 1568, 15192, 9472, 242052. */
+enum { RANK = TIFO_ML_KEM_768, CT_BYTES = 1088, STRIP_WORDS = 11750, STRIP_COEFFS = 7424, STEPS = 187794 };
+enum { COEFFS = 256 * RANK, EK_BYTES = 384 * RANK + 32, PUB_BYTES = EK_BYTES + 32, DK_BYTES = 384 * RANK + PUB_BYTES + 32 };
+static uint8_t d[32], z[32], m[32], ek[EK_BYTES], dk[DK_BYTES], ct[CT_BYTES], k[32], opened[32], pub[PUB_BYTES];
+static uint16_t mask_coeffs[COEFFS], s0[COEFFS], s1[COEFFS], coeffs[STRIP_COEFFS];
+static uint64_t mask_words[4], z0[4], z1[4], words[STRIP_WORDS], k0[4], k1[4];
 
 static void fill(void *out, size_t n) {
     for (uint8_t *at = out; n > 0;) {
@@ -39,19 +42,21 @@ static void carried_out(const char *call, uint32_t answer) {
 
 static void new_strip(void) {
     fill(words, sizeof words);
-    fill_coeffs(coeffs, 7424);
+    fill_coeffs(coeffs, STRIP_COEFFS);
 }
 
 static void decapsulate(void) {
     new_strip();
-    carried_out("tifo_decaps", tifo_decaps(s0, 768, s1, 768, z0, 4, z1, 4, pub, 1216, ct, 1088, words, 11750, coeffs, 7424, k0, 4, k1, 4));
+    carried_out("tifo_decaps", tifo_decaps(RANK, s0, COEFFS, s1, COEFFS, z0, 4, z1, 4, pub, PUB_BYTES, ct, CT_BYTES, words, STRIP_WORDS,
+                                           coeffs, STRIP_COEFFS, k0, 4, k1, 4));
     /* Joined here only to compare. */
     for (size_t i = 0; i < 32; i++) opened[i] = (uint8_t)((k0[i / 8] ^ k1[i / 8]) >> (8 * (i % 8)));
 }
 
 static uint32_t trace(uint64_t step, uint64_t *value) {
     new_strip();
-    return tifo_trace(s0, 768, s1, 768, z0, 4, z1, 4, pub, 1216, ct, 1088, words, 11750, coeffs, 7424, step, value);
+    return tifo_trace(RANK, s0, COEFFS, s1, COEFFS, z0, 4, z1, 4, pub, PUB_BYTES, ct, CT_BYTES, words, STRIP_WORDS, coeffs, STRIP_COEFFS,
+                      step, value);
 }
 
 static void expect(int holds, const char *what) {
@@ -63,19 +68,20 @@ int main(void) {
     fill(d, 32);
     fill(z, 32);
     fill(m, 32);
-    carried_out("tifo_keygen", tifo_keygen(d, 32, z, 32, ek, 1184, dk, 2400));
-    carried_out("tifo_encaps", tifo_encaps(ek, 1184, m, 32, ct, 1088, k, 32));
-    fill_coeffs(mask_coeffs, 768);
+    carried_out("tifo_keygen", tifo_keygen(RANK, d, 32, z, 32, ek, EK_BYTES, dk, DK_BYTES));
+    carried_out("tifo_encaps", tifo_encaps(RANK, ek, EK_BYTES, m, 32, ct, CT_BYTES, k, 32));
+    fill_coeffs(mask_coeffs, COEFFS);
     fill(mask_words, sizeof mask_words);
-    carried_out("tifo_import", tifo_import(dk, 2400, mask_coeffs, 768, mask_words, 4, s0, 768, s1, 768, z0, 4, z1, 4, pub, 1216));
+    carried_out("tifo_import", tifo_import(RANK, dk, DK_BYTES, mask_coeffs, COEFFS, mask_words, 4, s0, COEFFS, s1, COEFFS, z0, 4, z1, 4,
+                                           pub, PUB_BYTES));
     decapsulate();
     expect(memcmp(opened, k, 32) == 0, "decapsulation opens the secret of encapsulation");
     ct[0] ^= 1;
     decapsulate();
     expect(memcmp(opened, k, 32) != 0, "a changed ciphertext opens another secret");
     uint64_t value = 0;
-    carried_out("tifo_trace", trace(187793, &value));
-    printf("trace of the last step, 187793: %016llx\n", (unsigned long long)value);
-    printf("trace of step 187794: refused %u\n", trace(187794, &value));
+    carried_out("tifo_trace", trace(STEPS - 1, &value));
+    printf("trace of the last step, %d: %016llx\n", STEPS - 1, (unsigned long long)value);
+    printf("trace of step %d: refused %u\n", STEPS, trace(STEPS, &value));
     return 0;
 }

@@ -7,7 +7,8 @@
  *   5  a mask coefficient is 3329 or more
  *   6  a share coefficient is 3329 or more
  *   7  an 840-byte stream yields fewer than 256 coefficients
- *   8  the step number isn't below the worksheet's count, 187,794
+ *   8  the step number isn't below the worksheet's count
+ *   9  the rank isn't 2, 3 or 4: tried first, whatever the lengths are
  * A slice passes as a pointer and a number of elements. A buffer that is written overlaps no other buffer of its call.
  */
 #ifndef TIFOLANZO_H
@@ -35,37 +36,55 @@ uint32_t tifo_masked_sha3_512(const uint8_t *in0, size_t in0_len, const uint8_t 
 uint32_t tifo_masked_shake256(const uint8_t *in0, size_t in0_len, const uint8_t *in1, size_t in1_len, const uint64_t *masks,
                               size_t masks_len, uint8_t *out0, size_t out0_len, uint8_t *out1, size_t out1_len);
 
-/* FIPS 203 at ML-KEM-768. Lengths are counts of elements and exact, else 1.
- * Sampling: 840 bytes give 256 coefficients (1, 7). */
+/* FIPS 203's sampling: 840 bytes give 256 coefficients (1, 7). */
 uint32_t tifo_sample(const uint8_t *stream, size_t stream_len, uint16_t *out, size_t out_len);
 
-/* Key making from the seeds d and z, 32 bytes each: the public key has 1,184 bytes, the decapsulation key 2,400 (1, 7). */
-uint32_t tifo_keygen(const uint8_t *d, size_t d_len, const uint8_t *z, size_t z_len, uint8_t *ek, size_t ek_len, uint8_t *dk, size_t dk_len);
+/* The calls on keys, ciphertexts and split keys take the parameter set's rank first. Lengths are counts of elements and exact for the rank, else 1.
+ *                                        ML-KEM-512   ML-KEM-768   ML-KEM-1024
+ *   rank                                           2            3             4
+ *   public key, bytes                            800        1,184         1,568
+ *   decapsulation key, bytes                   1,632        2,400         3,168
+ *   ciphertext, bytes                            768        1,088         1,568
+ *   s0, s1, mask_coeffs, coefficients            512          768         1,024
+ *   pub, bytes                                   832        1,216         1,600
+ *   strip, words                               9,588       11,750        15,192
+ *   strip, coefficients                        6,400        7,424         9,472
+ *   steps of the worksheet                   155,928      187,794       242,052
+ * The ranks have names: */
+#define TIFO_ML_KEM_512 2
+#define TIFO_ML_KEM_768 3
+#define TIFO_ML_KEM_1024 4
 
-/* Encapsulation from the 32 bytes m: the ciphertext has 1,088 bytes, the secret 32 (1, 2, 7). FIPS 203 asks of a public key
+/* Key making from the seeds d and z, 32 bytes each: the public key and the decapsulation key (9, 1, 7). */
+uint32_t tifo_keygen(uint32_t rank, const uint8_t *d, size_t d_len, const uint8_t *z, size_t z_len, uint8_t *ek, size_t ek_len,
+                     uint8_t *dk, size_t dk_len);
+
+/* Encapsulation from the 32 bytes m: the ciphertext, and the secret of 32 bytes (9, 1, 2, 7). FIPS 203 asks of a public key
  * that each coefficient be below 3329, and of a decapsulation key not: import takes some whose public key is refused here. */
-uint32_t tifo_encaps(const uint8_t *ek, size_t ek_len, const uint8_t *m, size_t m_len, uint8_t *ct, size_t ct_len, uint8_t *k, size_t k_len);
+uint32_t tifo_encaps(uint32_t rank, const uint8_t *ek, size_t ek_len, const uint8_t *m, size_t m_len, uint8_t *ct, size_t ct_len,
+                     uint8_t *k, size_t k_len);
 
-/* Import splits a decapsulation key: 2,400 bytes, and h is the public key part's hash, as FIPS 203 asks. Coefficients from 3329 to 4095 are read
+/* Import splits a decapsulation key whose h is the public key part's hash, as FIPS 203 asks. Coefficients from 3329 to 4095 are read
  * modulo 3329, as the standard reads them: the split stands for the key with its secret coefficients reduced. The first shares are the lent masks,
- * 768 coefficients below 3329 and four words; the second shares are what is left of the key; pub is the public key and its hash, 1,216 bytes, as
- * they stand in the key (1, 3, 5). */
-uint32_t tifo_import(const uint8_t *dk, size_t dk_len, const uint16_t *mask_coeffs, size_t mask_coeffs_len, const uint64_t *mask_words, size_t mask_words_len,
+ * coefficients below 3329 and four words; the second shares are what is left of the key; pub is the public key and its hash, as they stand in the
+ * key (9, 1, 3, 5). */
+uint32_t tifo_import(uint32_t rank, const uint8_t *dk, size_t dk_len, const uint16_t *mask_coeffs, size_t mask_coeffs_len,
+                     const uint64_t *mask_words, size_t mask_words_len,
                      uint16_t *s0, size_t s0_len, uint16_t *s1, size_t s1_len, uint64_t *z0, size_t z0_len, uint64_t *z1, size_t z1_len,
                      uint8_t *pub, size_t pub_len);
 
-/* Masked decapsulation of a split key, as import made it, and a ciphertext of 1,088 bytes (1, 5, 6, 7). The strip is 11,750 words and 7,424
+/* Masked decapsulation of a split key, as import made it for the same rank, and a ciphertext (9, 1, 5, 6, 7). The strip is words and
  * coefficients below 3329. k0 and k1, four words each, are the shares of the secret: it is k0 xor k1, and a word takes eight bytes, the low one
  * first. A ciphertext that doesn't come from encapsulation isn't refused: its secret is FIPS 203's rejection secret.
  * Strips are the caller's to make, as import's masks are: uniform, independent of all else, and fresh for each call. */
-uint32_t tifo_decaps(const uint16_t *s0, size_t s0_len, const uint16_t *s1, size_t s1_len, const uint64_t *z0, size_t z0_len,
+uint32_t tifo_decaps(uint32_t rank, const uint16_t *s0, size_t s0_len, const uint16_t *s1, size_t s1_len, const uint64_t *z0, size_t z0_len,
                      const uint64_t *z1, size_t z1_len, const uint8_t *pub, size_t pub_len, const uint8_t *ct, size_t ct_len,
                      const uint64_t *words, size_t words_len, const uint16_t *coeffs, size_t coeffs_len,
                      uint64_t *k0, size_t k0_len, uint64_t *k1, size_t k1_len);
 
-/* The same run, told a step, from 0 to 187,793 as docs/worksheet.md counts: *value takes that step's value, and nothing else is handed back
- * (1, 5, 6, 7, 8). value points to one word, and is written only where the call returns 0. */
-uint32_t tifo_trace(const uint16_t *s0, size_t s0_len, const uint16_t *s1, size_t s1_len, const uint64_t *z0, size_t z0_len,
+/* The same run, told a step, from 0 on as docs/worksheet.md counts: *value takes that step's value, and nothing else is handed back
+ * (9, 1, 5, 6, 7, 8). value points to one word, and is written only where the call returns 0. */
+uint32_t tifo_trace(uint32_t rank, const uint16_t *s0, size_t s0_len, const uint16_t *s1, size_t s1_len, const uint64_t *z0, size_t z0_len,
                     const uint64_t *z1, size_t z1_len, const uint8_t *pub, size_t pub_len, const uint8_t *ct, size_t ct_len,
                     const uint64_t *words, size_t words_len, const uint16_t *coeffs, size_t coeffs_len, uint64_t step, uint64_t *value);
 

@@ -1,9 +1,8 @@
-"""The outward calls from Python, on the shared library that tools/sharedlib builds. A buffer is a ctypes array and passes with its length."""
+"""The outward calls on keys from Python, on the shared library that tools/sharedlib builds. A buffer is a ctypes array and passes with its length."""
 import ctypes, os, subprocess
 from array import array
 from hashlib import shake_256
 from models.numbers import mask_coefficients
-from models.parameters import ML_KEM_768 as P
 
 os.chdir(os.path.join(os.path.dirname(os.path.abspath(__file__)), ".."))
 subprocess.run(["tools/sharedlib"], check=True)
@@ -22,9 +21,9 @@ def u64(values):
     return (ctypes.c_uint64 * len(values)).from_buffer_copy(array("Q", values))
 
 
-def call(name, *buffers, more=()):
+def call(name, rank, *buffers, more=()):
     lent = [x for b in buffers for x in (b, ctypes.c_size_t(len(b)))]
-    return getattr(LIB, name)(*lent, *more)
+    return getattr(LIB, name)(ctypes.c_uint32(rank), *lent, *more)
 
 
 class Stream:
@@ -35,6 +34,7 @@ class Stream:
 
     def bytes(self, n):
         self.at += n
+        assert self.at <= len(self.data)
         return self.data[self.at - n:self.at]
 
     def words(self, n):
@@ -44,45 +44,45 @@ class Stream:
         return u16(mask_coefficients(self.bytes(2 * n)))
 
 
-def draw_strip(seed):
-    draws = Stream(seed, P.strip_bytes)
-    return draws.words(P.strip_words), draws.coefficients(P.strip_coeffs)
+def draw_strip(p, seed):
+    draws = Stream(seed, p.strip_bytes)
+    return draws.words(p.strip_words), draws.coefficients(p.strip_coeffs)
 
 
-def keygen(d, z):
-    ek, dk = u8(bytes(P.ek_bytes)), u8(bytes(P.dk_bytes))
-    assert call("tifo_keygen", u8(d), u8(z), ek, dk) == 0
+def keygen(p, d, z):
+    ek, dk = u8(bytes(p.ek_bytes)), u8(bytes(p.dk_bytes))
+    assert call("tifo_keygen", p.k, u8(d), u8(z), ek, dk) == 0
     return ek, dk
 
 
-def encaps(ek, m):
-    ct, k = u8(bytes(P.ct_bytes)), u8(bytes(32))
-    assert call("tifo_encaps", ek, u8(m), ct, k) == 0
+def encaps(p, ek, m):
+    ct, k = u8(bytes(p.ct_bytes)), u8(bytes(32))
+    assert call("tifo_encaps", p.k, ek, u8(m), ct, k) == 0
     return ct, k
 
 
-def split_key(dk, mask_coeffs, mask_words):
+def split_key(p, dk, mask_coeffs, mask_words):
     """s0, s1, z0, z1, and the public key and h."""
-    split = *(u16([0] * P.coefficients) for _ in (0, 1)), *(u64([0] * 4) for _ in (0, 1)), u8(bytes(P.public_bytes))
-    assert call("tifo_import", dk, mask_coeffs, mask_words, *split) == 0
+    split = *(u16([0] * p.coefficients) for _ in (0, 1)), *(u64([0] * 4) for _ in (0, 1)), u8(bytes(p.public_bytes))
+    assert call("tifo_import", p.k, dk, mask_coeffs, mask_words, *split) == 0
     return split
 
 
-def decaps(split, ct, strip):
+def decaps(p, split, ct, strip):
     """The two shares of the secret."""
     k0, k1 = u64([0] * 4), u64([0] * 4)
-    assert call("tifo_decaps", *split, ct, *strip, k0, k1) == 0
+    assert call("tifo_decaps", p.k, *split, ct, *strip, k0, k1) == 0
     return k0, k1
 
 
-def trace(split, ct, strip, step, value):
-    """The answer; value, a c_uint64, takes the step's."""
-    return call("tifo_trace", *split, ct, *strip, more=(ctypes.c_uint64(step), ctypes.byref(value)))
+def trace(rank, lent, step, value):
+    """The answer. lent: split key, ciphertext and strip; value, a c_uint64, takes the step's."""
+    return call("tifo_trace", rank, *lent, more=(ctypes.c_uint64(step), ctypes.byref(value)))
 
 
-def traced(split, ct, strip, step):
+def traced(p, split, ct, strip, step):
     value = ctypes.c_uint64()
-    assert trace(split, ct, strip, step, value) == 0
+    assert trace(p.k, [*split, ct, *strip], step, value) == 0
     return value.value
 
 

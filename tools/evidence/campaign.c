@@ -15,7 +15,7 @@
 enum { BINS = 600, SHOWN = 20 };
 static const double SUSPECT = 4.5, LEAK = 8;
 
-static uint8_t keys[2][2400], secrets[2][32];
+static uint8_t keys[2][DK_BYTES], secrets[2][32];
 static void (*call)(void) = decaps;
 static int zero_shares, both_shares, branch, runs, key_now;
 static size_t value_now, values, suspects, leaks, varying, pairs_above, pairs_leaking, shares_held, fixed_joins;
@@ -28,18 +28,18 @@ static struct Found {
 
 /* The second key: other secret coefficients below q and another z beside the same public key and hash. */
 static void make_keys(void) {
-    uint8_t input[32 + 1088];
+    uint8_t input[32 + CT_BYTES], *z_of_second = keys[1] + DK_BYTES - 32;
     make_key();
-    memcpy(keys[0], dk, 2400);
-    memcpy(keys[1], dk, 2400);
+    memcpy(keys[0], dk, DK_BYTES);
+    memcpy(keys[1], dk, DK_BYTES);
     for (int i = 0; i < COEFFS; i += 2) {
         uint32_t pair = next_word() % Q | next_word() % Q << 12;
         memcpy(keys[1] + i / 2 * 3, &pair, 3);
     }
-    for (int i = 0; i < 32; i++) keys[1][2368 + i] = next_word();
+    for (int i = 0; i < 32; i++) z_of_second[i] = next_word();
     memcpy(secrets[0], k, 32);
-    memcpy(input, keys[1] + 2368, 32);
-    memcpy(input + 32, ct, 1088);
+    memcpy(input, z_of_second, 32);
+    memcpy(input + 32, ct, CT_BYTES);
     tifo_shake256(input, sizeof input, secrets[1], 32);
 }
 

@@ -28,7 +28,7 @@ def build():
 
 
 def compiled(program, sources, library, *words):
-    """A program of tools/evidence over the library."""
+    """A program of tools/evidence over the library. The words are the set's definitions and what else the compiler needs."""
     program.parent.mkdir(parents=True, exist_ok=True)
     run("cc", *WARNINGS, "-o", program, *(ROOT / "tools/evidence" / s for s in sources), library, *words)
     return program

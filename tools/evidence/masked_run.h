@@ -1,10 +1,11 @@
-/* A key, its split, a ciphertext that it accepts, and a strip, in buffers of this program, and the two masked calls on them. */
+/* A key, its split, a ciphertext that it accepts, and a strip, in buffers of this program, and the two masked calls on them.
+ * The parameter set is the compiler's to be told: RANK, CT_BYTES, STRIP_WORDS, STRIP_COEFFS (`defines` in tools/models/parameters.py). */
 #include <stdlib.h>
 #include <string.h>
 #include "tifolanzo.h"
 
-enum { Q = 3329, COEFFS = 768, STRIP_WORDS = 11750, STRIP_COEFFS = 7424 };
-static uint8_t d[32] = {1}, z[32] = {2}, m[32] = {3}, ek[1184], dk[2400], ct[1088], k[32], pub[1216];
+enum { Q = 3329, COEFFS = 256 * RANK, EK_BYTES = 384 * RANK + 32, PUB_BYTES = EK_BYTES + 32, DK_BYTES = 384 * RANK + PUB_BYTES + 32 };
+static uint8_t d[32] = {1}, z[32] = {2}, m[32] = {3}, ek[EK_BYTES], dk[DK_BYTES], ct[CT_BYTES], k[32], pub[PUB_BYTES];
 static uint16_t mask_coeffs[COEFFS], s0[COEFFS], s1[COEFFS], coeffs[STRIP_COEFFS];
 static uint64_t mask_words[4], z0[4], z1[4], words[STRIP_WORDS], k0[4], k1[4], step, value, seed;
 static uint32_t answer;
@@ -25,11 +26,12 @@ static inline void draw_coeffs(uint16_t *to, int n) {
 }
 
 static inline void make_key(void) {
-    if (tifo_keygen(d, 32, z, 32, ek, 1184, dk, 2400) != 0 || tifo_encaps(ek, 1184, m, 32, ct, 1088, k, 32) != 0) exit(2);
+    if (tifo_keygen(RANK, d, 32, z, 32, ek, EK_BYTES, dk, DK_BYTES) != 0) exit(2);
+    if (tifo_encaps(RANK, ek, EK_BYTES, m, 32, ct, CT_BYTES, k, 32) != 0) exit(2);
 }
 
 static inline void split(const uint8_t *key) {
-    if (tifo_import(key, 2400, mask_coeffs, COEFFS, mask_words, 4, s0, COEFFS, s1, COEFFS, z0, 4, z1, 4, pub, 1216) != 0) exit(2);
+    if (tifo_import(RANK, key, DK_BYTES, mask_coeffs, COEFFS, mask_words, 4, s0, COEFFS, s1, COEFFS, z0, 4, z1, 4, pub, PUB_BYTES) != 0) exit(2);
 }
 
 static inline void prepare(void) {
@@ -42,9 +44,11 @@ static inline void prepare(void) {
 }
 
 static inline void decaps(void) {
-    answer = tifo_decaps(s0, COEFFS, s1, COEFFS, z0, 4, z1, 4, pub, 1216, ct, 1088, words, STRIP_WORDS, coeffs, STRIP_COEFFS, k0, 4, k1, 4);
+    answer = tifo_decaps(RANK, s0, COEFFS, s1, COEFFS, z0, 4, z1, 4, pub, PUB_BYTES, ct, CT_BYTES, words, STRIP_WORDS, coeffs, STRIP_COEFFS,
+                         k0, 4, k1, 4);
 }
 
 static inline void trace(void) {
-    answer = tifo_trace(s0, COEFFS, s1, COEFFS, z0, 4, z1, 4, pub, 1216, ct, 1088, words, STRIP_WORDS, coeffs, STRIP_COEFFS, step, &value);
+    answer = tifo_trace(RANK, s0, COEFFS, s1, COEFFS, z0, 4, z1, 4, pub, PUB_BYTES, ct, CT_BYTES, words, STRIP_WORDS, coeffs, STRIP_COEFFS,
+                        step, &value);
 }

@@ -1,22 +1,22 @@
 """Keys made elsewhere: coefficients of 12 bits that aren't all below q, which FIPS 203 reads modulo q (algorithm 6)."""
 from hashlib import sha3_256
 from .numbers import coefficients, with_coefficient
-from .parameters import Q, ML_KEM_768 as P
+from .parameters import Q
 
 
-def with_secret(dk, secret):
+def with_secret(p, dk, secret):
     """The key with another secret part."""
-    return secret + P.public(dk) + P.z(dk)
+    return secret + p.public(dk) + p.z(dk)
 
 
-def with_public(dk, t):
+def with_public(p, dk, t):
     """The key with another t-hat, and the hash made to fit."""
-    ek = t + P.rho(dk)
-    return P.secret(dk) + ek + sha3_256(ek).digest() + P.z(dk)
+    ek = t + p.rho(dk)
+    return p.secret(dk) + ek + sha3_256(ek).digest() + p.z(dk)
 
 
-def with_both(dk, change):
-    return with_secret(with_public(dk, change(P.t(dk))), change(P.secret(dk)))
+def with_both(p, dk, change):
+    return with_secret(p, with_public(p, dk, change(p.t(dk))), change(p.secret(dk)))
 
 
 def raised(vector):
@@ -29,4 +29,4 @@ def raised(vector):
 
 def edged(vector):
     """Raised, with 3329 first and 4095 last."""
-    return with_coefficient(with_coefficient(raised(vector), 0, Q), P.coefficients - 1, 4095)
+    return with_coefficient(with_coefficient(raised(vector), 0, Q), len(coefficients(vector)) - 1, 4095)

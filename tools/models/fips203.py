@@ -1,6 +1,8 @@
-"""A plain model of ML-KEM-768, written down from FIPS 203 with hashlib's hashes: for expected values, neither fast nor for keys that matter."""
+"""A plain model of ML-KEM, written down from FIPS 203 with hashlib's hashes: for expected values, neither fast nor for keys that matter.
+
+What depends on the parameter set takes it first."""
 from hashlib import sha3_256, sha3_512, shake_128, shake_256
-from .parameters import N, Q, ML_KEM_768 as P
+from .parameters import N, Q
 
 
 def reversed7(i):
@@ -78,8 +80,8 @@ def decompress(d, f):
     return [(2 * Q * y + (1 << d)) >> d + 1 for y in f]
 
 
-def vector(d, data):
-    return [decode(d, data[32 * d * i:32 * d * (i + 1)]) for i in range(P.k)]
+def vector(p, d, data):
+    return [decode(d, data[32 * d * i:32 * d * (i + 1)]) for i in range(p.k)]
 
 
 # algorithms 7 and 8
@@ -101,55 +103,55 @@ def noise(eta, seed, n):
     return sample_cbd(eta, shake_256(seed + bytes([n])).digest(64 * eta))
 
 
-def matrix(rho):
-    return [[sample_ntt(shake_128(rho + bytes([j, i])).digest(840)) for j in range(P.k)] for i in range(P.k)]
+def matrix(p, rho):
+    return [[sample_ntt(shake_128(rho + bytes([j, i])).digest(840)) for j in range(p.k)] for i in range(p.k)]
 
 
 # algorithms 13 to 15
-def pke_keys(rho, sigma):
-    s = [ntt(noise(P.eta1, sigma, i)) for i in range(P.k)]
-    e = [ntt(noise(P.eta1, sigma, P.k + i)) for i in range(P.k)]
-    t = [add(dot(row, s), e[i]) for i, row in enumerate(matrix(rho))]
+def pke_keys(p, rho, sigma):
+    s = [ntt(noise(p.eta1, sigma, i)) for i in range(p.k)]
+    e = [ntt(noise(p.eta1, sigma, p.k + i)) for i in range(p.k)]
+    t = [add(dot(row, s), e[i]) for i, row in enumerate(matrix(p, rho))]
     return b"".join(encode(12, f) for f in t) + rho, b"".join(encode(12, f) for f in s)
 
 
-def pke_keygen(d):
-    g = sha3_512(d + bytes([P.k])).digest()
-    return pke_keys(g[:32], g[32:])
+def pke_keygen(p, d):
+    g = sha3_512(d + bytes([p.k])).digest()
+    return pke_keys(p, g[:32], g[32:])
 
 
-def pke_encrypt(ek, m, r):
-    a, t = matrix(ek[P.vector_bytes:]), vector(12, ek[:P.vector_bytes])
-    y = [ntt(noise(P.eta1, r, i)) for i in range(P.k)]
-    e1, e2 = [noise(P.eta2, r, P.k + i) for i in range(P.k)], noise(P.eta2, r, 2 * P.k)
+def pke_encrypt(p, ek, m, r):
+    a, t = matrix(p, ek[p.vector_bytes:]), vector(p, 12, ek[:p.vector_bytes])
+    y = [ntt(noise(p.eta1, r, i)) for i in range(p.k)]
+    e1, e2 = [noise(p.eta2, r, p.k + i) for i in range(p.k)], noise(p.eta2, r, 2 * p.k)
     mu = decompress(1, decode(1, m))
     u = [add(inverse_ntt(dot(column, y)), e1[i]) for i, column in enumerate(zip(*a))]
     v = add(add(inverse_ntt(dot(t, y)), e2), mu)
-    return b"".join(encode(P.du, compress(P.du, f)) for f in u) + encode(P.dv, compress(P.dv, v))
+    return b"".join(encode(p.du, compress(p.du, f)) for f in u) + encode(p.dv, compress(p.dv, v))
 
 
-def noisy_message(s, c):
-    u = [ntt(decompress(P.du, f)) for f in vector(P.du, c[:P.u_bytes])]
-    return subtract(decompress(P.dv, decode(P.dv, c[P.u_bytes:])), inverse_ntt(dot(s, u)))
+def noisy_message(p, s, c):
+    u = [ntt(decompress(p.du, f)) for f in vector(p, p.du, c[:p.u_bytes])]
+    return subtract(decompress(p.dv, decode(p.dv, c[p.u_bytes:])), inverse_ntt(dot(s, u)))
 
 
-def pke_decrypt(dk, c):
-    w = noisy_message(vector(12, dk), c)
+def pke_decrypt(p, dk, c):
+    w = noisy_message(p, vector(p, 12, dk), c)
     return encode(1, compress(1, w))
 
 
 # algorithms 16 to 18
-def keygen(d, z):
-    ek, dk = pke_keygen(d)
+def keygen(p, d, z):
+    ek, dk = pke_keygen(p, d)
     return ek, dk + ek + sha3_256(ek).digest() + z
 
 
-def encaps(ek, m):
+def encaps(p, ek, m):
     g = sha3_512(m + sha3_256(ek).digest()).digest()
-    return pke_encrypt(ek, m, g[32:]), g[:32]
+    return pke_encrypt(p, ek, m, g[32:]), g[:32]
 
 
-def decaps(dk, c):
-    m = pke_decrypt(P.secret(dk), c)
-    g = sha3_512(m + P.public(dk)[P.ek_bytes:]).digest()
-    return g[:32] if pke_encrypt(P.ek(dk), m, g[32:]) == c else shake_256(P.z(dk) + c).digest(32)
+def decaps(p, dk, c):
+    m = pke_decrypt(p, p.secret(dk), c)
+    g = sha3_512(m + p.public(dk)[p.ek_bytes:]).digest()
+    return g[:32] if pke_encrypt(p, p.ek(dk), m, g[32:]) == c else shake_256(p.z(dk) + c).digest(32)

@@ -1,5 +1,5 @@
-"""A parameter set of FIPS 203, and what follows from it by formula: lengths of keys, ciphertexts and split keys, and, by document 01's gadgets, the
-entries and masks of each stage of the worksheet."""
+"""The parameter sets of FIPS 203, and what follows from one by formula: lengths of keys, ciphertexts and split keys, what each call is lent, and, by
+document 01's gadgets, the entries and masks of each stage of the worksheet."""
 from dataclasses import dataclass
 
 Q, N = 3329, 256
@@ -49,7 +49,8 @@ def hashed(rate, length, words):
 
 @dataclass(frozen=True)
 class Parameters:
-    k: int
+    name: str
+    k: int  # the rank
     eta1: int
     eta2: int
     du: int
@@ -97,6 +98,25 @@ class Parameters:
     @property
     def strip_bytes(self):
         return 8 * self.strip_words + 2 * self.strip_coeffs
+
+    # ---- the buffers of each call, in order, by their counts of elements
+    @property
+    def lent(self):
+        split = self.coefficients, self.coefficients, 4, 4, self.public_bytes
+        run = *split, self.ct_bytes, self.strip_words, self.strip_coeffs
+        return {
+            "keygen": (32, 32, self.ek_bytes, self.dk_bytes),
+            "encaps": (self.ek_bytes, 32, self.ct_bytes, 32),
+            "import": (self.dk_bytes, self.coefficients, 4, *split),
+            "decaps": (*run, 4, 4),
+            "trace": run,
+        }
+
+    @property
+    def defines(self):
+        """For the compiler, where a C program uses tools/evidence/masked_run.h."""
+        numbers = {"RANK": self.k, "CT_BYTES": self.ct_bytes, "STRIP_WORDS": self.strip_words, "STRIP_COEFFS": self.strip_coeffs}
+        return [f"-D{name}={n}" for name, n in numbers.items()]
 
     # ---- the parts of a decapsulation key
     def secret(self, dk):
@@ -162,4 +182,8 @@ class Parameters:
         return self.use.coeffs
 
 
-ML_KEM_768 = Parameters(k=3, eta1=2, eta2=2, du=10, dv=4)
+ML_KEM_512 = Parameters("ML-KEM-512", k=2, eta1=3, eta2=2, du=10, dv=4)
+ML_KEM_768 = Parameters("ML-KEM-768", k=3, eta1=2, eta2=2, du=10, dv=4)
+ML_KEM_1024 = Parameters("ML-KEM-1024", k=4, eta1=2, eta2=2, du=11, dv=5)
+SETS = ML_KEM_512, ML_KEM_768, ML_KEM_1024
+NAMED = {p.name.lower(): p for p in SETS}  # as the program mlkem names them

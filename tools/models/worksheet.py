@@ -1,9 +1,9 @@
-"""A plain model of masked decapsulation at ML-KEM-768, written down from the gadgets and the ten stages: every entry of the worksheet, in order.
+"""A plain model of masked decapsulation, written down from the gadgets and the ten stages: every entry of the worksheet, in order.
 
 A value on two shares is a pair. Slow, and for comparison only.
 """
 from .fips203 import add, decode, decompress, dot, inverse_ntt, matrix, ntt, subtract, vector
-from .parameters import N, Q, ML_KEM_768 as P
+from .parameters import N, Q
 
 ALL = 2**64 - 1
 COLUMNS = [(x, y) for y in range(5) for x in range(5)]
@@ -136,7 +136,11 @@ class Worksheet:
                 for i in (0, 1):
                     s[i][lane] = self.enter(s[i][lane] ^ int.from_bytes(data[i][at + 8 * lane:][:8], "little"))
             s = self.permute(s)
-        return list(zip(s[0], s[1]))[:length]
+        out = list(zip(*s))[:rate // 8]
+        while len(out) < length:
+            s = self.permute(s)
+            out += list(zip(*s))[:rate // 8]
+        return out[:length]
 
     def all_zero(self, words):
         word = words[0]
@@ -165,40 +169,40 @@ def polynomial(sheet, *shares):
     return tuple([sheet.enter(x) for x in f] for f in shares)
 
 
-def noisy_message(sheet, s, ct):
+def noisy_message(p, sheet, s, ct):
     """w."""
-    u = [ntt(decompress(P.du, f)) for f in vector(P.du, ct[:P.u_bytes])]
-    v = decompress(P.dv, decode(P.dv, ct[P.u_bytes:]))
-    products = [inverse_ntt(dot([list(s[i][N * j:N * (j + 1)]) for j in range(P.k)], u)) for i in (0, 1)]
+    u = [ntt(decompress(p.du, f)) for f in vector(p, p.du, ct[:p.u_bytes])]
+    v = decompress(p.dv, decode(p.dv, ct[p.u_bytes:]))
+    products = [inverse_ntt(dot([list(s[i][N * j:N * (j + 1)]) for j in range(p.k)], u)) for i in (0, 1)]
     return polynomial(sheet, subtract(v, products[0]), subtract([0] * N, products[1]))
 
 
-def encrypt(sheet, ek, m, coins):
+def encrypt(p, sheet, ek, m, coins):
     """u and v."""
     mu = pairs([sheet.coefficient(b, 1665) for b in bits(m)])
     noise = []
-    for n in range(2 * P.k + 1):
-        eta = P.eta1 if n < P.k else P.eta2
+    for n in range(2 * p.k + 1):
+        eta = p.eta1 if n < p.k else p.eta2
         b = bits(sheet.hash(136, 0x1f, coins, bytes([n]), 8 * eta))
         noise.append(pairs([sheet.sample(b[2 * eta * i:2 * eta * (i + 1)]) for i in range(N)]))
-    a, t = matrix(ek[P.vector_bytes:]), vector(12, ek[:P.vector_bytes])
-    y = [[ntt(noise[j][i]) for j in range(P.k)] for i in (0, 1)]
-    e1, e2 = noise[P.k:2 * P.k], noise[2 * P.k]
+    a, t = matrix(p, ek[p.vector_bytes:]), vector(p, 12, ek[:p.vector_bytes])
+    y = [[ntt(noise[j][i]) for j in range(p.k)] for i in (0, 1)]
+    e1, e2 = noise[p.k:2 * p.k], noise[2 * p.k]
     u = [polynomial(sheet, *(add(inverse_ntt(dot(column, y[i])), e1[j][i]) for i in (0, 1))) for j, column in enumerate(zip(*a))]
     return u + [polynomial(sheet, *(add(add(inverse_ntt(dot(t, y[i])), e2[i]), mu[i]) for i in (0, 1)))]
 
 
-def worksheet(split, ct, strip):
+def worksheet(p, key, ct, strip):
     """Entries, and the shares of K."""
-    s0, s1, z0, z1, public = split
+    s0, s1, z0, z1, public = key
     public, ct, sheet = bytes(public), bytes(ct), Worksheet(*strip)
-    m = sheet.compress(1, noisy_message(sheet, (s0, s1), ct))
-    g = sheet.hash(72, 6, m, public[P.ek_bytes:], 8)
+    m = sheet.compress(1, noisy_message(p, sheet, (s0, s1), ct))
+    g = sheet.hash(72, 6, m, public[p.ek_bytes:], 8)
     coins = g[4:]
-    uv = encrypt(sheet, public[:P.ek_bytes], m, coins)
-    words = [v for d, f in zip(P.k * [P.du] + [P.dv], uv) for v in sheet.compress(d, f)]
-    size = 32 * P.du
-    theirs = [p for i in range(P.k) for p in planes(P.du, ct[size * i:size * (i + 1)])] + planes(P.dv, ct[P.u_bytes:])
+    uv = encrypt(p, sheet, public[:p.ek_bytes], m, coins)
+    words = [v for d, f in zip(p.k * [p.du] + [p.dv], uv) for v in sheet.compress(d, f)]
+    size = 32 * p.du
+    theirs = [plane for i in range(p.k) for plane in planes(p.du, ct[size * i:size * (i + 1)])] + planes(p.dv, ct[p.u_bytes:])
     equal = sheet.all_zero([(sheet.enter(v[0] ^ c), v[1]) for v, c in zip(words, theirs)])
     copies = tuple(ALL * b for b in equal)
     rejected = sheet.hash(136, 0x1f, list(zip(z0, z1)), ct, 4)

@@ -1,8 +1,7 @@
 // Sampling, key making, encapsulation and import for C.
-ghost use Rattle.parameters.specs.Sets.{mlKem768};
 ghost use Rattle.split_key.specs.SplitKey.{splitKey};
-ghost use Rattle.mlkem.specs.Calls.{StreamSampled, KeysMade, Encapsulated};
-ghost use Rattle.split_key.specs.Import.{Imported};
+ghost use Rattle.mlkem.specs.Calls.{StreamSampled, KeysMadeBy, EncapsulatedBy};
+ghost use Rattle.split_key.specs.Import.{ImportedBy};
 use crate::refusal;
 
 // SampleNTT (FIPS 203, algorithm 7).
@@ -15,10 +14,10 @@ pub extern "C" fn tifo_sample(stream: &[u8], out: &mut [u16]) -> u32
 
 // Algorithm 16.
 #[no_mangle]
-pub extern "C" fn tifo_keygen(d: &[u8], z: &[u8], ek: &mut [u8], dk: &mut [u8]) -> u32
+pub extern "C" fn tifo_keygen(rank: u32, d: &[u8], z: &[u8], ek: &mut [u8], dk: &mut [u8]) -> u32
     ensures { λ r. ⌜
-        KeysMade
-        mlKem768
+        KeysMadeBy
+        rank
         (now (d .entry))
         (now (z .entry))
         (now (ek .entry))
@@ -28,15 +27,15 @@ pub extern "C" fn tifo_keygen(d: &[u8], z: &[u8], ek: &mut [u8], dk: &mut [u8]) 
         (now (dk .exit))
         ⌝ }
 {
-    refusal(mlkem::keygen(d, z, ek, dk))
+    refusal(mlkem::keygen(rank, d, z, ek, dk))
 }
 
 // Algorithm 17.
 #[no_mangle]
-pub extern "C" fn tifo_encaps(ek: &[u8], m: &[u8], ct: &mut [u8], k: &mut [u8]) -> u32
+pub extern "C" fn tifo_encaps(rank: u32, ek: &[u8], m: &[u8], ct: &mut [u8], k: &mut [u8]) -> u32
     ensures { λ r. ⌜
-        Encapsulated
-        mlKem768
+        EncapsulatedBy
+        rank
         (now (ek .entry))
         (now (m .entry))
         (now (ct .entry))
@@ -46,12 +45,13 @@ pub extern "C" fn tifo_encaps(ek: &[u8], m: &[u8], ct: &mut [u8], k: &mut [u8]) 
         (now (k .exit))
         ⌝ }
 {
-    refusal(mlkem::encaps(ek, m, ct, k))
+    refusal(mlkem::encaps(rank, ek, m, ct, k))
 }
 
 // A key in two shares.
 #[no_mangle]
 pub extern "C" fn tifo_import(
+    rank: u32,
     dk: &[u8],
     mask_coeffs: &[u16],
     mask_words: &[u64],
@@ -62,11 +62,11 @@ pub extern "C" fn tifo_import(
     public: &mut [u8],
 ) -> u32
     ensures { λ r. ⌜
-        Imported mlKem768 (now (dk .entry)) (now («mask_coeffs» .entry)) (now («mask_words» .entry))
+        ImportedBy rank (now (dk .entry)) (now («mask_coeffs» .entry)) (now («mask_words» .entry))
         (splitKey (now (s0 .entry)) (now (s1 .entry)) (now (z0 .entry)) (now (z1 .entry)) (now (public .entry)))
         r
         (splitKey (now (s0 .exit)) (now (s1 .exit)) (now (z0 .exit)) (now (z1 .exit)) (now (public .exit)))
         ⌝ }
 {
-    refusal(split_key::import(dk, mask_coeffs, mask_words, s0, s1, z0, z1, public))
+    refusal(split_key::import(rank, dk, mask_coeffs, mask_words, s0, s1, z0, z1, public))
 }

@@ -1,5 +1,4 @@
-// The outward calls for C (include/tifolanzo.h). Each returns 0 where it is carried out and else the refusal's number
-// in document 01.
+// The outward calls for C (include/tifolanzo.h). Each returns 0 where it is carried out and else the refusal's number.
 ghost use mathlib.Core.Path.{_≡_};
 ghost use Rattle.refusals.specs.Refusals.{number};
 ghost use Rattle.fips202.specs.Calls.{sha3-256Call, sha3-512Call, shake128Call, shake256Call};

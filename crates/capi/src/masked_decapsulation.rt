@@ -1,10 +1,10 @@
 // Masked decapsulation and its trace for C.
-ghost use Rattle.parameters.specs.Sets.{mlKem768};
-ghost use Rattle.decapsulation.specs.Calls.{input, Decapsulated, Traced};
+ghost use Rattle.decapsulation.specs.Calls.{input, DecapsulatedBy, TracedBy};
 use crate::refusal;
 
 #[no_mangle]
 pub extern "C" fn tifo_decaps(
+    rank: u32,
     s0: &[u16],
     s1: &[u16],
     z0: &[u64],
@@ -17,16 +17,17 @@ pub extern "C" fn tifo_decaps(
     k1: &mut [u64],
 ) -> u32
     ensures { λ r. ⌜
-        Decapsulated mlKem768
+        DecapsulatedBy rank
         (input (now (s0 .entry)) (now (s1 .entry)) (now (z0 .entry)) (now (z1 .entry)) (now (public .entry))
         (now (ct .entry)) (now (words .entry)) (now (coeffs .entry)))
         (now (k0 .entry)) (now (k1 .entry)) r (now (k0 .exit)) (now (k1 .exit)) ⌝ }
 {
-    refusal(decapsulation::decaps(s0, s1, z0, z1, public, ct, words, coeffs, k0, k1))
+    refusal(decapsulation::decaps(rank, s0, s1, z0, z1, public, ct, words, coeffs, k0, k1))
 }
 
 #[no_mangle]
 pub extern "C" fn tifo_trace(
+    rank: u32,
     s0: &[u16],
     s1: &[u16],
     z0: &[u64],
@@ -39,10 +40,10 @@ pub extern "C" fn tifo_trace(
     value: &mut u64,
 ) -> u32
     ensures { λ r. ⌜
-        Traced mlKem768
+        TracedBy rank
         (input (now (s0 .entry)) (now (s1 .entry)) (now (z0 .entry)) (now (z1 .entry)) (now (public .entry))
         (now (ct .entry)) (now (words .entry)) (now (coeffs .entry)))
         step (now (value .entry)) r (now (value .exit)) ⌝ }
 {
-    refusal(decapsulation::trace(s0, s1, z0, z1, public, ct, words, coeffs, step, value))
+    refusal(decapsulation::trace(rank, s0, s1, z0, z1, public, ct, words, coeffs, step, value))
 }

@@ -3,21 +3,21 @@ use crate::hashes::Hash;
 use cli_support::arguments::same;
 use libc::STDERR_FILENO;
 
-// ML-KEM's calls.
+// On keys, ciphertexts and split keys of a parameter set, whose name is argument 2.
 pub enum Call {
     KeyGen,
     Encaps,
     Import,
     Decaps,
     Trace,
-    Sample,
+    Demo,
 }
 
 pub enum Command {
     Help,
     Hashing(Hash),
+    Sampling,
     Calling(Call),
-    Demo,
     Unknown,
 }
 
@@ -53,8 +53,8 @@ fn call_named(word: &[u8]) -> Command {
     if same(word, b"trace") {
         return Command::Calling(Call::Trace);
     }
-    if same(word, b"sample") {
-        return Command::Calling(Call::Sample);
+    if same(word, b"demo") {
+        return Command::Calling(Call::Demo);
     }
     hash_named(word)
 }
@@ -67,8 +67,8 @@ pub fn named(word: &[u8]) -> Command {
     if same(word, b"--help") {
         return Command::Help;
     }
-    if same(word, b"demo") {
-        return Command::Demo;
+    if same(word, b"sample") {
+        return Command::Sampling;
     }
     call_named(word)
 }
@@ -84,12 +84,12 @@ fn hash_word_count(hash: Hash) -> usize {
 
 fn call_word_count(call: Call) -> usize {
     match call {
-        Call::KeyGen => 6,
-        Call::Encaps => 6,
-        Call::Import => 5,
-        Call::Decaps => 6,
-        Call::Trace => 6,
-        Call::Sample => 4,
+        Call::KeyGen => 7,
+        Call::Encaps => 7,
+        Call::Import => 6,
+        Call::Decaps => 7,
+        Call::Trace => 7,
+        Call::Demo => 3,
     }
 }
 
@@ -98,8 +98,8 @@ pub fn word_count(command: Command) -> usize {
     match command {
         Command::Help => 2,
         Command::Hashing(hash) => hash_word_count(hash),
+        Command::Sampling => 4,
         Command::Calling(call) => call_word_count(call),
-        Command::Demo => 2,
         Command::Unknown => 2,
     }
 }
@@ -110,56 +110,75 @@ fn write(fd: i32, text: &[u8]) {
 
 fn print_hash_form(fd: i32, hash: Hash) {
     match hash {
-        Hash::Digest256 => write(fd, b"sha3-256 FILE\n"),
-        Hash::Digest512 => write(fd, b"sha3-512 FILE\n"),
-        Hash::Shake128 => write(fd, b"shake128 FILE LENGTH\n"),
-        Hash::Shake256 => write(fd, b"shake256 FILE LENGTH\n"),
+        Hash::Digest256 => write(fd, b"sha3-256 FILE"),
+        Hash::Digest512 => write(fd, b"sha3-512 FILE"),
+        Hash::Shake128 => write(fd, b"shake128 FILE LENGTH"),
+        Hash::Shake256 => write(fd, b"shake256 FILE LENGTH"),
     }
 }
 
 fn print_call_form(fd: i32, call: Call) {
     match call {
-        Call::KeyGen => write(fd, b"keygen D Z EK DK\n"),
-        Call::Encaps => write(fd, b"encaps EK M CT K\n"),
-        Call::Import => write(fd, b"import DK MASKS SPLIT\n"),
-        Call::Decaps => write(fd, b"decaps SPLIT CT STRIP SHARES\n"),
-        Call::Trace => write(fd, b"trace SPLIT CT STRIP STEP\n"),
-        Call::Sample => write(fd, b"sample STREAM OUT\n"),
+        Call::KeyGen => write(fd, b"keygen SET D Z EK DK"),
+        Call::Encaps => write(fd, b"encaps SET EK M CT K"),
+        Call::Import => write(fd, b"import SET DK MASKS SPLIT"),
+        Call::Decaps => write(fd, b"decaps SET SPLIT CT STRIP SHARES"),
+        Call::Trace => write(fd, b"trace SET SPLIT CT STRIP STEP"),
+        Call::Demo => write(fd, b"demo SET"),
     }
 }
 
 fn print_form(fd: i32, command: Command) {
     write(fd, b"mlkem ");
     match command {
-        Command::Help => write(fd, b"help\n"),
+        Command::Help => write(fd, b"help"),
         Command::Hashing(hash) => print_hash_form(fd, hash),
+        Command::Sampling => write(fd, b"sample STREAM OUT"),
         Command::Calling(call) => print_call_form(fd, call),
-        Command::Demo => write(fd, b"demo\n"),
-        Command::Unknown => write(fd, b"COMMAND ARGUMENTS\n"),
+        Command::Unknown => write(fd, b"COMMAND ARGUMENTS"),
     }
 }
 
-// For a command line with a wrong number of words.
+fn print_sets(fd: i32) {
+    write(fd, b"SET is ml-kem-512, ml-kem-768 or ml-kem-1024");
+}
+
+// For a command line with a wrong number of words, or with another word where a parameter set's name has to be.
 pub fn print_form_line(command: Command) {
     write(STDERR_FILENO, b"usage: ");
     print_form(STDERR_FILENO, command);
+    if let Command::Calling(_) = command {
+        write(STDERR_FILENO, b", where ");
+        print_sets(STDERR_FILENO);
+    }
+    write(STDERR_FILENO, b"\n");
 }
 
 fn print_entry(fd: i32, command: Command) {
     write(fd, b"  ");
     print_form(fd, command);
+    write(fd, b"\n");
+}
+
+fn print_key_files(fd: i32) {
+    write(fd, b"  EK           800/1184/1568 bytes\n");
+    write(fd, b"  DK           1632/2400/3168 bytes\n");
+    write(fd, b"  CT           768/1088/1568 bytes\n");
 }
 
 fn print_mask_files(fd: i32) {
     write(
         fd,
-        b"  MASKS        768 coefficients of 16 bits, 4 words of 64 bits\n",
+        b"  MASKS        512/768/1024 coefficients of 16 bits, 4 words of 64 bits\n",
     );
     write(
         fd,
-        b"  SPLIT        two times 768 coefficients, two times 4 words, 1216 bytes\n",
+        b"  SPLIT        two times 512/768/1024 coefficients, two times 4 words, 832/1216/1600 bytes\n",
     );
-    write(fd, b"  STRIP        11750 words, 7424 coefficients\n");
+    write(
+        fd,
+        b"  STRIP        9588/11750/15192 words, 6400/7424/9472 coefficients\n",
+    );
     write(
         fd,
         b"  SHARES       two times 4 words, which join to K by xor\n",
@@ -167,9 +186,12 @@ fn print_mask_files(fd: i32) {
 }
 
 fn print_files(fd: i32) {
-    write(fd, b"Files, low byte first:\n");
+    write(
+        fd,
+        b"Files, low byte first, with three numbers where the sets differ:\n",
+    );
     write(fd, b"  D, Z, M, K   32 bytes each\n");
-    write(fd, b"  EK, DK, CT   1184, 2400 and 1088 bytes\n");
+    print_key_files(fd);
     print_mask_files(fd);
     write(
         fd,
@@ -184,17 +206,20 @@ fn print_files(fd: i32) {
 pub fn print_usage(fd: i32) {
     write(fd, b"usage: ");
     print_form(fd, Command::Unknown);
+    write(fd, b"\n");
     print_entry(fd, Command::Hashing(Hash::Digest256));
     print_entry(fd, Command::Hashing(Hash::Digest512));
     print_entry(fd, Command::Hashing(Hash::Shake128));
     print_entry(fd, Command::Hashing(Hash::Shake256));
+    print_entry(fd, Command::Sampling);
     print_entry(fd, Command::Calling(Call::KeyGen));
     print_entry(fd, Command::Calling(Call::Encaps));
     print_entry(fd, Command::Calling(Call::Import));
     print_entry(fd, Command::Calling(Call::Decaps));
     print_entry(fd, Command::Calling(Call::Trace));
-    print_entry(fd, Command::Calling(Call::Sample));
-    print_entry(fd, Command::Demo);
+    print_entry(fd, Command::Calling(Call::Demo));
     print_entry(fd, Command::Help);
+    print_sets(fd);
+    write(fd, b".\n");
     print_files(fd);
 }

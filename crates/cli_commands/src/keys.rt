@@ -5,52 +5,52 @@ use cli_support::inputs::read_exact;
 use cli_support::outputs::write_pair;
 use cli_support::sets::Sizes;
 
-fn write_keys(d: &[u8], z: &[u8], ek: &mut [u8], dk: &mut [u8]) {
-    if is_refused(mlkem::keygen(d, z, ek, dk)) {
+fn write_keys(rank: u32, d: &[u8], z: &[u8], ek: &mut [u8], dk: &mut [u8]) {
+    if is_refused(mlkem::keygen(rank, d, z, ek, dk)) {
         return;
     }
-    write_pair(4, ek, 5, dk);
+    write_pair(5, ek, 6, dk);
 }
 
-// mlkem keygen D Z EK DK
+// mlkem keygen SET D Z EK DK
 pub fn keygen(set: Sizes)
     requires { ⌜ Bounded set ⌝ }
 {
     let mut d = [0u8; 32];
     let mut z = [0u8; 32];
-    if !read_exact(2, &mut d) {
+    if !read_exact(3, &mut d) {
         return;
     }
-    if !read_exact(3, &mut z) {
+    if !read_exact(4, &mut z) {
         return;
     }
     let mut ek = [0u8; 1568];
     let mut dk = [0u8; 3168];
     let m = set.ek;
     let n = set.dk;
-    write_keys(&d, &z, &mut ek[0..m], &mut dk[0..n]);
+    write_keys(set.k as u32, &d, &z, &mut ek[0..m], &mut dk[0..n]);
 }
 
-fn write_encapsulated(ek: &[u8], m: &[u8], ct: &mut [u8]) {
+fn write_encapsulated(rank: u32, ek: &[u8], m: &[u8], ct: &mut [u8]) {
     let mut k = [0u8; 32];
-    if is_refused(mlkem::encaps(ek, m, ct, &mut k)) {
+    if is_refused(mlkem::encaps(rank, ek, m, ct, &mut k)) {
         return;
     }
-    write_pair(4, ct, 5, &k);
+    write_pair(5, ct, 6, &k);
 }
 
-// With the files of arguments 2 and 3, a public key and a message.
-fn encapsulate(ek: &mut [u8], ct: &mut [u8]) {
+// With the files of arguments 3 and 4, a public key and a message.
+fn encapsulate(rank: u32, ek: &mut [u8], ct: &mut [u8]) {
     let mut m = [0u8; 32];
-    if !read_exact(2, ek) {
+    if !read_exact(3, ek) {
         return;
     }
-    if read_exact(3, &mut m) {
-        write_encapsulated(ek, &m, ct);
+    if read_exact(4, &mut m) {
+        write_encapsulated(rank, ek, &m, ct);
     }
 }
 
-// mlkem encaps EK M CT K
+// mlkem encaps SET EK M CT K
 pub fn encaps(set: Sizes)
     requires { ⌜ Bounded set ⌝ }
 {
@@ -58,5 +58,5 @@ pub fn encaps(set: Sizes)
     let mut ct = [0u8; 1568];
     let m = set.ek;
     let n = set.ct;
-    encapsulate(&mut ek[0..m], &mut ct[0..n]);
+    encapsulate(set.k as u32, &mut ek[0..m], &mut ct[0..n]);
 }

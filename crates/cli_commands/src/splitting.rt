@@ -9,7 +9,7 @@ use cli_support::mask_file::read_masks;
 use cli_support::sets::Sizes;
 use cli_support::split_file::write_split;
 
-// The split key is written to the file of argument 4.
+// The split key is written to the file of argument 5.
 fn write_imported(
     k: usize,
     dk: &[u8],
@@ -23,9 +23,19 @@ fn write_imported(
 )
     requires { ⌜ Sized k (now s0) (now s1) (now z0) (now z1) (now public) × (k ≤ 4) ⌝ }
 {
-    let answer = split_key::import(dk, mask_coeffs, mask_words, s0, s1, z0, z1, public);
+    let answer = split_key::import(
+        k as u32,
+        dk,
+        mask_coeffs,
+        mask_words,
+        s0,
+        s1,
+        z0,
+        z1,
+        public,
+    );
     if !is_refused(answer) {
-        write_split(4, k, s0, s1, z0, z1, public);
+        write_split(5, k, s0, s1, z0, z1, public);
     }
 }
 
@@ -52,20 +62,20 @@ fn import_masked(k: usize, dk: &[u8], mask_coeffs: &[u16], mask_words: &[u64])
     );
 }
 
-// With the files of arguments 2 and 3, a decapsulation key and masks.
+// With the files of arguments 3 and 4, a decapsulation key and masks.
 fn import_files(k: usize, dk: &mut [u8], mask_coeffs: &mut [u16])
     requires { ⌜ (k ≤ 4) × (length (now «mask_coeffs») ≤ 1024) ⌝ }
 {
     let mut mask_words = [0u64; 4];
-    if !read_exact(2, dk) {
+    if !read_exact(3, dk) {
         return;
     }
-    if read_masks(3, mask_coeffs, &mut mask_words) {
+    if read_masks(4, mask_coeffs, &mut mask_words) {
         import_masked(k, dk, mask_coeffs, &mask_words);
     }
 }
 
-// mlkem import DK MASKS SPLIT
+// mlkem import SET DK MASKS SPLIT
 pub fn import(set: Sizes)
     requires { ⌜ Bounded set ⌝ }
 {

@@ -53,6 +53,7 @@ fn print_encapsulated(ek: &[u8], dk: &[u8], ct: &[u8], secret: &[u8])
 }
 
 fn decapsulate(
+    rank: u32,
     s0: &[u16],
     s1: &[u16],
     z0: &[u64],
@@ -65,7 +66,19 @@ fn decapsulate(
 ) -> bool {
     let mut k0 = [0u64; 4];
     let mut k1 = [0u64; 4];
-    let answer = decapsulation::decaps(s0, s1, z0, z1, public, ct, words, coeffs, &mut k0, &mut k1);
+    let answer = decapsulation::decaps(
+        rank,
+        s0,
+        s1,
+        z0,
+        z1,
+        public,
+        ct,
+        words,
+        coeffs,
+        &mut k0,
+        &mut k1,
+    );
     if is_refused(answer) {
         return false;
     }
@@ -75,6 +88,7 @@ fn decapsulate(
 
 // The ciphertext's first bit is changed, and changed back.
 fn decapsulate_damaged(
+    rank: u32,
     s0: &[u16],
     s1: &[u16],
     z0: &[u64],
@@ -88,12 +102,13 @@ fn decapsulate_damaged(
     requires { ⌜ 0 < length (now ct) ⌝ }
 {
     ct[0] = ct[0] ^ 1;
-    let done = decapsulate(s0, s1, z0, z1, public, ct, words, coeffs, secret);
+    let done = decapsulate(rank, s0, s1, z0, z1, public, ct, words, coeffs, secret);
     ct[0] = ct[0] ^ 1;
     done
 }
 
 fn trace(
+    rank: u32,
     s0: &[u16],
     s1: &[u16],
     z0: &[u64],
@@ -105,7 +120,19 @@ fn trace(
     step: u64,
 ) -> bool {
     let mut value: u64 = 0;
-    let answer = decapsulation::trace(s0, s1, z0, z1, public, ct, words, coeffs, step, &mut value);
+    let answer = decapsulation::trace(
+        rank,
+        s0,
+        s1,
+        z0,
+        z1,
+        public,
+        ct,
+        words,
+        coeffs,
+        step,
+        &mut value,
+    );
     if is_refused(answer) {
         return false;
     }
@@ -115,6 +142,7 @@ fn trace(
 
 // Decapsulation of the ciphertext and of a damaged one, and three steps of the first.
 fn run_ciphertexts(
+    rank: u32,
     last_step: u64,
     s0: &[u16],
     s1: &[u16],
@@ -129,17 +157,18 @@ fn run_ciphertexts(
     requires { ⌜ 0 < length (now ct) ⌝ }
 {
     print(b"decapsulation\n");
-    let own = decapsulate(s0, s1, z0, z1, public, ct, words, coeffs, secret);
+    let own = decapsulate(rank, s0, s1, z0, z1, public, ct, words, coeffs, secret);
     print(b"decapsulation, the ciphertext's first bit changed\n");
-    let other = decapsulate_damaged(s0, s1, z0, z1, public, ct, words, coeffs, secret);
+    let other = decapsulate_damaged(rank, s0, s1, z0, z1, public, ct, words, coeffs, secret);
     print(b"trace of the first decapsulation\n");
-    let first = trace(s0, s1, z0, z1, public, ct, words, coeffs, 0);
-    let second = trace(s0, s1, z0, z1, public, ct, words, coeffs, 256);
-    let last = trace(s0, s1, z0, z1, public, ct, words, coeffs, last_step);
+    let first = trace(rank, s0, s1, z0, z1, public, ct, words, coeffs, 0);
+    let second = trace(rank, s0, s1, z0, z1, public, ct, words, coeffs, 256);
+    let last = trace(rank, s0, s1, z0, z1, public, ct, words, coeffs, last_step);
     own & other & first & second & last
 }
 
 fn run_imported(
+    rank: u32,
     last_step: u64,
     dk: &[u8],
     ct: &mut [u8],
@@ -157,6 +186,7 @@ fn run_imported(
     let mut z0 = [0u64; 4];
     let mut z1 = [0u64; 4];
     let answer = split_key::import(
+        rank,
         dk,
         mask_coeffs,
         mask_words,
@@ -170,6 +200,7 @@ fn run_imported(
         return false;
     }
     run_ciphertexts(
+        rank,
         last_step,
         s0,
         s1,
@@ -201,6 +232,7 @@ fn run_split(
     let m = 256 * set.k;
     let n = 384 * set.k + 64;
     run_imported(
+        set.k as u32,
         set.steps - 1,
         dk,
         ct,
@@ -216,13 +248,20 @@ fn run_split(
 }
 
 // The seeds are d, z and m.
-fn encapsulate(seeds: &[u8], ek: &mut [u8], dk: &mut [u8], ct: &mut [u8], secret: &mut [u8]) -> bool
+fn encapsulate(
+    rank: u32,
+    seeds: &[u8],
+    ek: &mut [u8],
+    dk: &mut [u8],
+    ct: &mut [u8],
+    secret: &mut [u8],
+) -> bool
     requires { ⌜ KeyLent (now seeds) (now ek) (now dk) (now ct) ⌝ }
 {
-    if is_refused(mlkem::keygen(&seeds[0..32], &seeds[32..64], ek, dk)) {
+    if is_refused(mlkem::keygen(rank, &seeds[0..32], &seeds[32..64], ek, dk)) {
         return false;
     }
-    if is_refused(mlkem::encaps(ek, &seeds[64..96], ct, secret)) {
+    if is_refused(mlkem::encaps(rank, ek, &seeds[64..96], ct, secret)) {
         return false;
     }
     print_encapsulated(ek, dk, ct, secret);
@@ -243,7 +282,7 @@ fn run_encapsulated(
     requires { ⌜ Bounded set × KeyLent (now seeds) (now ek) (now dk) (now ct) ⌝ }
 {
     let mut secret = [0u8; 32];
-    if !encapsulate(seeds, ek, dk, ct, &mut secret) {
+    if !encapsulate(set.k as u32, seeds, ek, dk, ct, &mut secret) {
         return false;
     }
     run_split(set, dk, ct, &secret, mask_coeffs, mask_words, words, coeffs)
@@ -339,7 +378,7 @@ fn room() -> [u8; 142656]
     [0; 142656]
 }
 
-// mlkem demo
+// mlkem demo SET
 pub fn demo(set: Sizes)
     requires { ⌜ Bounded set ⌝ }
 {

@@ -4,7 +4,7 @@ use libc::STDERR_FILENO;
 use refusals::Answer;
 use refusals::number;
 
-// The condition in document 01's words.
+// The condition in the words of documents 01 and 02.
 fn say_condition(answer: Answer) {
     match answer {
         Answer::Done => say(b"done\n"),
@@ -15,6 +15,7 @@ fn say_condition(answer: Answer) {
         Answer::ShareRange => say(b"a share coefficient is 3329 or more\n"),
         Answer::ShortStream => say(b"an 840-byte stream yields fewer than 256 coefficients\n"),
         Answer::NoSuchStep => say(b"the step number isn't below the worksheet's count\n"),
+        Answer::NoSuchRank => say(b"the rank isn't 2, 3 or 4\n"),
     }
 }
 

@@ -147,12 +147,6 @@ module _ {p : Parameters} {left : ℕ} {g : Input} {k0 k1 : List ℕ} {v : ℕ} 
 
 -- ---- the two calls
 
--- the parameter set by another name
-pub told-of : {p p′ : Parameters} {left : ℕ} {g : Input} {k0 k1 : List ℕ} {v n : ℕ} {k0′ k1′ : List ℕ} {v′ : ℕ} → p ≡ p′
-    → Told p left g k0 k1 v n k0′ k1′ v′
-    → Told p′ left g k0 k1 v n k0′ k1′ v′
-told-of e t = rw e at t
-
 module _ {p : Parameters} {g : Input} {k0 k1 : List ℕ} {v n : ℕ} {k0′ k1′ : List ℕ} {v′ : ℕ} where
   pub told-decapsulated : Told p 0 g k0 k1 v n k0′ k1′ v′ → Decapsulated p g k0 k1 n k0′ k1′
   unfolding decapsAnswer

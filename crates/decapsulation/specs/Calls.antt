@@ -1,4 +1,4 @@
--- What decapsulation and trace answer and hand back, for a parameter set.
+-- What decapsulation and trace answer and hand back, for a parameter set and told a rank.
 use mathlib.Core.Path.{_≡_}
 use mathlib.Core.Bool.{not, _&&_}
 use mathlib.Core.List.{List, [], _∷_, _++_}
@@ -12,6 +12,7 @@ use Rattle.refusals.specs.declared.Answer.the-variants.{WrongLength, MaskRange,
 use Rattle.refusals.specs.Refusals.{number, after, Row, row, answer, Lent, lent, sized}
 use Rattle.tracing.specs.Trace as trace
 use Rattle.parameters.specs.declared.Parameters.{Parameters}
+use Rattle.parameters.specs.ByRank.{ByRank}
 use Rattle.parameters.specs.Lengths.{ctBytes}
 use Rattle.kpke.specs.KPke.{matrixFull}
 use Rattle.refusals.specs.Reduced.{reduced}
@@ -93,3 +94,12 @@ module _ (p : Parameters) where
   -- ---- what import hands over for the key dk and the first shares a and w, with a ciphertext and a strip
   abbrev pub imported : List ℕ → List ℕ → List ℕ → List ℕ → List ℕ → List ℕ → Input
   imported dk a w c words coeffs = record { key = split p dk a w; ct = c; words = words; coeffs = coeffs }
+
+-- ---- told a rank
+
+abbrev pub DecapsulatedBy : ℕ → Input → List ℕ → List ℕ → ℕ → List ℕ → List ℕ → Type 0
+DecapsulatedBy rank g k0 k1 n k0′ k1′ =
+    ByRank rank n (λ p. Decapsulated p g k0 k1 n k0′ k1′) ((k0′ ≡ k0) × (k1′ ≡ k1))
+
+abbrev pub TracedBy : ℕ → Input → ℕ → ℕ → ℕ → ℕ → Type 0
+TracedBy rank g t v n v′ = ByRank rank n (λ p. Traced p g t v n v′) (v′ ≡ v)

@@ -4,3 +4,4 @@ pub mod Sized
 pub mod AnswerLaws
 pub mod Demand2
 pub mod CallToCall
+pub mod Demand2ByRank

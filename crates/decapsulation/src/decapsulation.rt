@@ -6,9 +6,8 @@ ghost use lib.ListN.{length};
 ghost use Rattle.parameters.specs.Fits.{Fits};
 ghost use Rattle.worksheet.specs.SharedList.{sharedList};
 ghost use Rattle.refusals.specs.Refusals.{number};
-ghost use Rattle.parameters.specs.Sets.{mlKem768};
 ghost use Rattle.refusals.specs.Reduced.{reduced as reducedOf};
-ghost use Rattle.decapsulation.specs.Calls.{input, Decapsulated, Traced};
+ghost use Rattle.decapsulation.specs.Calls.{input, Decapsulated, Traced, DecapsulatedBy, TracedBy};
 ghost use Rattle.decapsulation.specs.Told.{Told};
 ghost use Rattle.decapsulation.specs.Sized.{CallSized};
 use crate::worksheet_run::run;
@@ -16,6 +15,7 @@ use kpke::matrix::expand;
 use parameters::Parameters;
 use parameters::ct_bytes;
 use parameters::ek_bytes;
+use parameters::is_rank;
 use parameters::of_rank;
 use parameters::vector_bytes;
 use refusals::Answer;
@@ -27,13 +27,13 @@ use stages::mask_counts::strip_words;
 use tracing::left_of;
 use worksheet::Recorder;
 
+// Both are read, whatever the first holds.
 fn both_reduced(f: &[u16], g: &[u16]) -> bool
     ensures { λ r. ⌜ r ≡ (reducedOf (now (f .entry)) && reducedOf (now (g .entry))) ⌝ }
 {
-    if !reduced(f) {
-        return false;
-    }
-    reduced(g)
+    let first = reduced(f);
+    let second = reduced(g);
+    first & second
 }
 
 // Rows 5 to 8, then the ten stages; a becomes the matrix A-hat.
@@ -113,6 +113,7 @@ fn decapsulate(
     let n = 256 * p.k;
     let m = n * p.k;
     let h = ek_bytes(p) + 32;
+    let w = strip_words(p);
     let has = [
         s0.len(),
         s1.len(),
@@ -125,21 +126,8 @@ fn decapsulate(
         k0.len(),
         k1.len(),
     ];
-    if !exact(
-        &has,
-        &[
-            n,
-            n,
-            4,
-            4,
-            h,
-            ct_bytes(p),
-            strip_words(p),
-            strip_coeffs(p),
-            4,
-            4,
-        ],
-    ) {
+    let wants = [n, n, 4, 4, h, ct_bytes(p), w, strip_coeffs(p), 4, 4];
+    if !exact(&has, &wants) {
         return Answer::WrongLength;
     }
     let mut a = [0u16; 4096];
@@ -161,7 +149,9 @@ fn decapsulate(
     )
 }
 
-pub fn decaps(
+// Told no step.
+fn decaps_at(
+    p: Parameters,
     s0: &[u16],
     s1: &[u16],
     z0: &[u64],
@@ -173,8 +163,9 @@ pub fn decaps(
     k0: &mut [u64],
     k1: &mut [u64],
 ) -> Answer
+    requires { ⌜ Fits p ⌝ }
     ensures { λ r. ⌜
-        Decapsulated mlKem768
+        Decapsulated p
         (input (now (s0 .entry)) (now (s1 .entry)) (now (z0 .entry)) (now (z1 .entry)) (now (public .entry))
         (now (ct .entry)) (now (words .entry)) (now (coeffs .entry)))
         (now (k0 .entry)) (now (k1 .entry)) (number r) (now (k0 .exit)) (now (k1 .exit)) ⌝ }
@@ -182,7 +173,7 @@ pub fn decaps(
     let mut value: u64 = 0;
     decapsulate(
         0,
-        of_rank(3),
+        p,
         s0,
         s1,
         z0,
@@ -197,7 +188,47 @@ pub fn decaps(
     )
 }
 
-pub fn trace(
+// Masked decapsulation for the parameter set of a rank.
+pub fn decaps(
+    rank: u32,
+    s0: &[u16],
+    s1: &[u16],
+    z0: &[u64],
+    z1: &[u64],
+    public: &[u8],
+    ct: &[u8],
+    words: &[u64],
+    coeffs: &[u16],
+    k0: &mut [u64],
+    k1: &mut [u64],
+) -> Answer
+    ensures { λ r. ⌜
+        DecapsulatedBy rank
+        (input (now (s0 .entry)) (now (s1 .entry)) (now (z0 .entry)) (now (z1 .entry)) (now (public .entry))
+        (now (ct .entry)) (now (words .entry)) (now (coeffs .entry)))
+        (now (k0 .entry)) (now (k1 .entry)) (number r) (now (k0 .exit)) (now (k1 .exit)) ⌝ }
+{
+    if !is_rank(rank) {
+        return Answer::NoSuchRank;
+    }
+    decaps_at(
+        of_rank(rank),
+        s0,
+        s1,
+        z0,
+        z1,
+        public,
+        ct,
+        words,
+        coeffs,
+        k0,
+        k1,
+    )
+}
+
+// Told a step.
+fn trace_at(
+    p: Parameters,
     s0: &[u16],
     s1: &[u16],
     z0: &[u64],
@@ -209,15 +240,15 @@ pub fn trace(
     step: u64,
     value: &mut u64,
 ) -> Answer
+    requires { ⌜ Fits p ⌝ }
     ensures { λ r. ⌜
-        Traced mlKem768
+        Traced p
         (input (now (s0 .entry)) (now (s1 .entry)) (now (z0 .entry)) (now (z1 .entry)) (now (public .entry))
         (now (ct .entry)) (now (words .entry)) (now (coeffs .entry)))
         step (now (value .entry)) (number r) (now (value .exit)) ⌝ }
 {
     let mut k0 = [0u64; 4];
     let mut k1 = [0u64; 4];
-    let p = of_rank(3);
     let left = left_of(step, steps(p) as u64);
     decapsulate(
         left,
@@ -232,6 +263,44 @@ pub fn trace(
         coeffs,
         &mut k0,
         &mut k1,
+        value,
+    )
+}
+
+// The trace of a step for the parameter set of a rank.
+pub fn trace(
+    rank: u32,
+    s0: &[u16],
+    s1: &[u16],
+    z0: &[u64],
+    z1: &[u64],
+    public: &[u8],
+    ct: &[u8],
+    words: &[u64],
+    coeffs: &[u16],
+    step: u64,
+    value: &mut u64,
+) -> Answer
+    ensures { λ r. ⌜
+        TracedBy rank
+        (input (now (s0 .entry)) (now (s1 .entry)) (now (z0 .entry)) (now (z1 .entry)) (now (public .entry))
+        (now (ct .entry)) (now (words .entry)) (now (coeffs .entry)))
+        step (now (value .entry)) (number r) (now (value .exit)) ⌝ }
+{
+    if !is_rank(rank) {
+        return Answer::NoSuchRank;
+    }
+    trace_at(
+        of_rank(rank),
+        s0,
+        s1,
+        z0,
+        z1,
+        public,
+        ct,
+        words,
+        coeffs,
+        step,
         value,
     )
 }

@@ -58,8 +58,8 @@ fn coefficient_bits(eta: usize, i: usize, o0: &[u64], o1: &[u64]) -> Shares
 }
 
 // Coefficient i, with the masks from its first on. Where the width is 2, that of most polynomials, it is handed on as a
-// number, for which the compiler unrolls the sampler's loops. Calls that differed in the width alone it would make one
-// again; these differ in the bits too.
+// number, for which the compiler unrolls the sampler's loops. It would make one call of two that differ in the width
+// alone: that the bits are read for the number 2 too keeps them apart.
 fn sample_one(
     rec: Recorder,
     eta: usize,

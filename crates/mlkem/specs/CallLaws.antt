@@ -60,14 +60,3 @@ module _ (p : Parameters) (r : Answer) where
 
     pub encaps-refused : (ek m ct k : List ℕ) → encapsAnswer p ek m ct k ≡ r → Encapsulated p ek m ct k (number r) ct k
     encaps-refused ek m ct k e = record { answer = ap number (sym e); ct = after-kept r _ _ h; k = after-kept r _ _ h }
-
--- ---- the parameter set by another name
-
-module _ {p p′ : Parameters} (e : p ≡ p′) {n : ℕ} where
-  pub keys-made-of : {d z ek dk ek₁ dk₁ : List ℕ} → KeysMade p d z ek dk n ek₁ dk₁ → KeysMade p′ d z ek dk n ek₁ dk₁
-  keys-made-of h = rw e at h
-
-  pub encapsulated-of : {ek m ct k ct₁ k₁ : List ℕ}
-      → Encapsulated p ek m ct k n ct₁ k₁
-      → Encapsulated p′ ek m ct k n ct₁ k₁
-  encapsulated-of h = rw e at h

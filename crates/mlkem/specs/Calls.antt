@@ -1,6 +1,6 @@
--- What sampling, key making and encapsulation answer and leave in the lent buffers, for a parameter set. What a call
--- leaves is a record of what was lent (₀ where it changes), the answer's number n, and the buffers as they are then
--- (₁).
+-- What sampling, key making and encapsulation answer and leave in the lent buffers: for a parameter set, and told a
+-- rank. What a call leaves is a record of what was lent (₀ where it changes), the answer's number n, and the buffers
+-- as they are then (₁).
 use mathlib.Core.Path.{_≡_}
 use mathlib.Core.Bool.{not}
 use mathlib.Core.List.{List, [], _∷_, _++_}
@@ -10,6 +10,7 @@ use Rattle.sampling.specs.Sample.{full, sampleNtt}
 use Rattle.refusals.specs.declared.Answer.{Answer}
 use Rattle.refusals.specs.declared.Answer.the-variants.{WrongLength, PublicKeyRange, ShortStream}
 use Rattle.parameters.specs.declared.Parameters.{Parameters}
+use Rattle.parameters.specs.ByRank.{ByRank}
 use Rattle.parameters.specs.Lengths.{vectorBytes, ekBytes, dkBytes, ctBytes}
 use Rattle.hash_functions.specs.Functions.{G₁}
 use Rattle.vectors.specs.Vector.{coefficients}
@@ -68,3 +69,14 @@ module _ (p : Parameters) where
     pub answer : n ≡ number (encapsAnswer ek m ct₀ k₀)
     pub ct : ct₁ ≡ after n (encapsCt p ek m) ct₀
     pub k : k₁ ≡ after n (encapsKey p ek m) k₀
+
+-- ---- told a rank
+
+module _ (rank : ℕ) where
+  abbrev pub KeysMadeBy : List ℕ → List ℕ → List ℕ → List ℕ → ℕ → List ℕ → List ℕ → Type 0
+  KeysMadeBy d z ek₀ dk₀ n ek₁ dk₁ =
+      ByRank rank n (λ p. KeysMade p d z ek₀ dk₀ n ek₁ dk₁) ((ek₁ ≡ ek₀) × (dk₁ ≡ dk₀))
+
+  abbrev pub EncapsulatedBy : List ℕ → List ℕ → List ℕ → List ℕ → ℕ → List ℕ → List ℕ → Type 0
+  EncapsulatedBy ek m ct₀ k₀ n ct₁ k₁ =
+      ByRank rank n (λ p. Encapsulated p ek m ct₀ k₀ n ct₁ k₁) ((ct₁ ≡ ct₀) × (k₁ ≡ k₀))

@@ -2,10 +2,9 @@
 ghost use mathlib.Core.Path.{_≡_};
 ghost use Prim.Native.Nat.{_*_, _≤_};
 ghost use lib.ListN.{length};
-ghost use Rattle.parameters.specs.Sets.{mlKem768};
 ghost use Rattle.parameters.specs.Fits.{Fits};
 ghost use Rattle.vectors.specs.Vector.{coefficients};
-ghost use Rattle.mlkem.specs.Calls.{Encapsulated};
+ghost use Rattle.mlkem.specs.Calls.{Encapsulated, EncapsulatedBy};
 ghost use Rattle.mlkem.specs.Sized.{EncapsSized};
 ghost use Rattle.mlkem.specs.Written.{EncapsInput, SecretInput, SecretWritten};
 ghost use Rattle.refusals.specs.Reduced.{reduced as reducedOf};
@@ -17,6 +16,7 @@ use kpke::matrix::expand;
 use parameters::Parameters;
 use parameters::ct_bytes;
 use parameters::ek_bytes;
+use parameters::is_rank;
 use parameters::of_rank;
 use parameters::vector_bytes;
 use refusals::Answer;
@@ -110,11 +110,12 @@ fn encaps_sized(p: Parameters, ek: &[u8], m: &[u8], ct: &mut [u8], k: &mut [u8])
     encaps_in(p, ek, m, &mut a[0..n], ct, k)
 }
 
-// Algorithm 17 at ML-KEM-768, with the modulus check of section 7.2.
-pub fn encaps(ek: &[u8], m: &[u8], ct: &mut [u8], k: &mut [u8]) -> Answer
+// Algorithm 17, with the modulus check of section 7.2.
+fn encaps_at(p: Parameters, ek: &[u8], m: &[u8], ct: &mut [u8], k: &mut [u8]) -> Answer
+    requires { ⌜ Fits p ⌝ }
     ensures { λ r. ⌜
         Encapsulated
-        mlKem768
+        p
         (now (ek .entry))
         (now (m .entry))
         (now (ct .entry))
@@ -124,11 +125,30 @@ pub fn encaps(ek: &[u8], m: &[u8], ct: &mut [u8], k: &mut [u8]) -> Answer
         (now (k .exit))
         ⌝ }
 {
-    let p = of_rank(3);
     let has = [ek.len(), m.len(), ct.len(), k.len()];
     let wants = [ek_bytes(p), 32, ct_bytes(p), 32];
     if !exact(&has, &wants) {
         return Answer::WrongLength;
     }
     encaps_sized(p, ek, m, ct, k)
+}
+
+// Algorithm 17 for the parameter set of a rank, with the modulus check of section 7.2.
+pub fn encaps(rank: u32, ek: &[u8], m: &[u8], ct: &mut [u8], k: &mut [u8]) -> Answer
+    ensures { λ r. ⌜
+        EncapsulatedBy
+        rank
+        (now (ek .entry))
+        (now (m .entry))
+        (now (ct .entry))
+        (now (k .entry))
+        (number r)
+        (now (ct .exit))
+        (now (k .exit))
+        ⌝ }
+{
+    if !is_rank(rank) {
+        return Answer::NoSuchRank;
+    }
+    encaps_at(of_rank(rank), ek, m, ct, k)
 }

@@ -4,9 +4,8 @@ ghost use mathlib.Core.Path.{_≡_};
 ghost use Prim.Native.Nat.{_+_};
 ghost use lib.ListN.{length};
 ghost use Rattle.fips202.specs.Sponge.{sha3-256};
-ghost use Rattle.parameters.specs.Sets.{mlKem768};
 ghost use Rattle.parameters.specs.Fits.{Fits};
-ghost use Rattle.mlkem.specs.Calls.{KeysMade};
+ghost use Rattle.mlkem.specs.Calls.{KeysMade, KeysMadeBy};
 ghost use Rattle.mlkem.specs.Sized.{KeyGenSized};
 ghost use Rattle.mlkem.specs.Written.{KeyGenInput, KeysInput, KeysWritten};
 ghost use Rattle.refusals.specs.Refusals.{number};
@@ -16,6 +15,7 @@ use kpke::matrix::expand;
 use parameters::Parameters;
 use parameters::dk_bytes;
 use parameters::ek_bytes;
+use parameters::is_rank;
 use parameters::of_rank;
 use parameters::vector_bytes;
 use refusals::Answer;
@@ -95,11 +95,12 @@ fn keygen_sized(p: Parameters, d: &[u8], z: &[u8], ek: &mut [u8], dk: &mut [u8])
     keygen_in(p, d, z, &mut a[0..n], ek, dk)
 }
 
-// Algorithm 16 at ML-KEM-768.
-pub fn keygen(d: &[u8], z: &[u8], ek: &mut [u8], dk: &mut [u8]) -> Answer
+// Algorithm 16.
+fn keygen_at(p: Parameters, d: &[u8], z: &[u8], ek: &mut [u8], dk: &mut [u8]) -> Answer
+    requires { ⌜ Fits p ⌝ }
     ensures { λ r. ⌜
         KeysMade
-        mlKem768
+        p
         (now (d .entry))
         (now (z .entry))
         (now (ek .entry))
@@ -109,11 +110,30 @@ pub fn keygen(d: &[u8], z: &[u8], ek: &mut [u8], dk: &mut [u8]) -> Answer
         (now (dk .exit))
         ⌝ }
 {
-    let p = of_rank(3);
     let has = [d.len(), z.len(), ek.len(), dk.len()];
     let wants = [32, 32, ek_bytes(p), dk_bytes(p)];
     if !exact(&has, &wants) {
         return Answer::WrongLength;
     }
     keygen_sized(p, d, z, ek, dk)
+}
+
+// Algorithm 16 for the parameter set of a rank.
+pub fn keygen(rank: u32, d: &[u8], z: &[u8], ek: &mut [u8], dk: &mut [u8]) -> Answer
+    ensures { λ r. ⌜
+        KeysMadeBy
+        rank
+        (now (d .entry))
+        (now (z .entry))
+        (now (ek .entry))
+        (now (dk .entry))
+        (number r)
+        (now (ek .exit))
+        (now (dk .exit))
+        ⌝ }
+{
+    if !is_rank(rank) {
+        return Answer::NoSuchRank;
+    }
+    keygen_at(of_rank(rank), d, z, ek, dk)
 }

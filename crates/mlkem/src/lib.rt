@@ -1,4 +1,4 @@
-// ML-KEM (FIPS 203). Key making and encapsulation are called at ML-KEM-768; what they call takes any parameter set.
+// ML-KEM (FIPS 203): key making and encapsulation for the parameter set of a rank.
 mod encapsulation;
 mod key_making;
 mod stream; // sampling of a lent stream

@@ -23,6 +23,7 @@ enum Asked {
 }
 
 fn write_shares(
+    rank: u32,
     s0: &[u16],
     s1: &[u16],
     z0: &[u64],
@@ -34,16 +35,29 @@ fn write_shares(
 ) {
     let mut k0 = [0u64; 4];
     let mut k1 = [0u64; 4];
-    let answer = decapsulation::decaps(s0, s1, z0, z1, public, ct, words, coeffs, &mut k0, &mut k1);
+    let answer = decapsulation::decaps(
+        rank,
+        s0,
+        s1,
+        z0,
+        z1,
+        public,
+        ct,
+        words,
+        coeffs,
+        &mut k0,
+        &mut k1,
+    );
     if is_refused(answer) {
         return;
     }
     let mut shares = [0u8; 64];
     pack_words(&k0, &k1, &mut shares);
-    write_secret(5, &shares);
+    write_secret(6, &shares);
 }
 
 fn print_step(
+    rank: u32,
     s0: &[u16],
     s1: &[u16],
     z0: &[u64],
@@ -55,7 +69,19 @@ fn print_step(
     step: u64,
 ) {
     let mut value: u64 = 0;
-    let answer = decapsulation::trace(s0, s1, z0, z1, public, ct, words, coeffs, step, &mut value);
+    let answer = decapsulation::trace(
+        rank,
+        s0,
+        s1,
+        z0,
+        z1,
+        public,
+        ct,
+        words,
+        coeffs,
+        step,
+        &mut value,
+    );
     if is_refused(answer) {
         return;
     }
@@ -65,8 +91,9 @@ fn print_step(
     }
 }
 
-// With the file of argument 4, a strip.
+// With the file of argument 5, a strip.
 fn run_strip(
+    rank: u32,
     asked: Asked,
     s0: &[u16],
     s1: &[u16],
@@ -79,16 +106,16 @@ fn run_strip(
 )
     requires { ⌜ (length (now words) ≤ 15192) × (length (now coeffs) ≤ 9472) ⌝ }
 {
-    if !read_strip(4, words, coeffs) {
+    if !read_strip(5, words, coeffs) {
         return;
     }
     match asked {
-        Asked::Shares => write_shares(s0, s1, z0, z1, public, ct, words, coeffs),
-        Asked::Step(step) => print_step(s0, s1, z0, z1, public, ct, words, coeffs, step),
+        Asked::Shares => write_shares(rank, s0, s1, z0, z1, public, ct, words, coeffs),
+        Asked::Step(step) => print_step(rank, s0, s1, z0, z1, public, ct, words, coeffs, step),
     }
 }
 
-// With the file of argument 3, a ciphertext.
+// With the file of argument 4, a ciphertext.
 fn run_ciphertext(
     set: Sizes,
     asked: Asked,
@@ -101,7 +128,7 @@ fn run_ciphertext(
 )
     requires { ⌜ Bounded set ⌝ }
 {
-    if !read_exact(3, ct) {
+    if !read_exact(4, ct) {
         return;
     }
     let mut words = strip_file::words();
@@ -109,6 +136,7 @@ fn run_ciphertext(
     let m = set.words;
     let n = set.coeffs;
     run_strip(
+        set.k as u32,
         asked,
         s0,
         s1,
@@ -121,7 +149,7 @@ fn run_ciphertext(
     );
 }
 
-// With the file of argument 2, a split key.
+// With the file of argument 3, a split key.
 fn run_split(
     set: Sizes,
     asked: Asked,
@@ -133,7 +161,7 @@ fn run_split(
 )
     requires { ⌜ Bounded set × Sized (set .k) (now s0) (now s1) (now z0) (now z1) (now public) ⌝ }
 {
-    if !read_split(2, set.k, s0, s1, z0, z1, public) {
+    if !read_split(3, set.k, s0, s1, z0, z1, public) {
         return;
     }
     let mut ct = [0u8; 1568];
@@ -162,18 +190,18 @@ fn run(set: Sizes, asked: Asked)
     );
 }
 
-// mlkem decaps SPLIT CT STRIP SHARES
+// mlkem decaps SET SPLIT CT STRIP SHARES
 pub fn decaps(set: Sizes)
     requires { ⌜ Bounded set ⌝ }
 {
     run(set, Asked::Shares);
 }
 
-// mlkem trace SPLIT CT STRIP STEP
+// mlkem trace SET SPLIT CT STRIP STEP
 pub fn trace(set: Sizes)
     requires { ⌜ Bounded set ⌝ }
 {
-    let Natural::Is(step) = arguments::number(5, 0xffff_ffff_ffff_ffff) else {
+    let Natural::Is(step) = arguments::number(6, 0xffff_ffff_ffff_ffff) else {
         return;
     };
     run(set, Asked::Step(step));

@@ -1,4 +1,5 @@
-// The program mlkem: the library's calls on files. The first argument names the call, the others are files and numbers.
+// The program mlkem: the library's calls on files. The first argument names the call; where it is one on keys the
+// second names the parameter set. The others are files and numbers.
 ghost use Rattle.cli_support.specs.Bounded.{Bounded};
 use cli_commands::commands;
 use cli_commands::commands::Call;
@@ -8,15 +9,14 @@ use cli_commands::keys;
 use cli_commands::sampling;
 use cli_commands::splitting;
 use cli_support::messages;
+use cli_support::sets::Rank;
 use cli_support::sets::Sizes;
+use cli_support::sets::rank_at;
 use cli_support::sets::sizes_of;
 use libc::STDERR_FILENO;
 use libc::STDOUT_FILENO;
 
 mod decapsulating; // decaps, trace
-
-// The rank of ML-KEM-768.
-const RANK: u32 = 3;
 
 fn run_call(call: Call, set: Sizes)
     requires { ⌜ Bounded set ⌝ }
@@ -27,16 +27,25 @@ fn run_call(call: Call, set: Sizes)
         Call::Import => splitting::import(set),
         Call::Decaps => decapsulating::decaps(set),
         Call::Trace => decapsulating::trace(set),
-        Call::Sample => sampling::sample(),
+        Call::Demo => cli_demo::demo(set),
     }
+}
+
+// For the parameter set that argument 2 names.
+fn run_named(call: Call) {
+    let Rank::Is(rank) = rank_at(2) else {
+        commands::print_form_line(Command::Calling(call));
+        return;
+    };
+    run_call(call, sizes_of(rank));
 }
 
 fn run(command: Command) {
     match command {
         Command::Help => commands::print_usage(STDOUT_FILENO),
         Command::Hashing(hash) => hashes::run(hash),
-        Command::Calling(call) => run_call(call, sizes_of(RANK)),
-        Command::Demo => cli_demo::demo(sizes_of(RANK)),
+        Command::Sampling => sampling::sample(),
+        Command::Calling(call) => run_named(call),
         Command::Unknown => commands::print_usage(STDERR_FILENO),
     }
 }

@@ -1,6 +1,6 @@
 // FIPS 203, section 8: the parameter sets, and the lengths in bytes that follow from one.
 ghost use mathlib.Core.Path.{_≡_};
-ghost use Rattle.parameters.specs.Ranks.{ofRank};
+ghost use Rattle.parameters.specs.Ranks.{isRank, ofRank};
 ghost use Rattle.parameters.specs.Lengths.{vectorBytes, ekBytes, dkBytes, ctBytes};
 ghost use Rattle.parameters.specs.Fits.{Fits};
 
@@ -13,9 +13,23 @@ pub struct Parameters {
     pub dv: u32,
 }
 
+// The ranks that are accepted; any other number is refusal 9.
+pub fn is_rank(rank: u32) -> bool
+    ensures { λ r. ⌜ r ≡ isRank rank ⌝ }
+{
+    if rank == 2 {
+        return true;
+    }
+    if rank == 3 {
+        return true;
+    }
+    rank == 4
+}
+
 // ML-KEM-512, ML-KEM-768 or ML-KEM-1024, by the rank; for any other number the last.
 pub fn of_rank(rank: u32) -> Parameters
     ensures { λ r. ⌜ r ≡ ofRank rank ⌝ }
+    ensures { λ r. ⌜ Fits r ⌝ }
 {
     if rank == 2 {
         return Parameters {

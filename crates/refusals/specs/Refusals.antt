@@ -1,5 +1,5 @@
--- Document 01, Refusals by place, as ask 1 of document 02 changes it: answers, their numbers, rows, and the condition
--- of row 1.
+-- Document 01, Refusals by place, as asks 1 and 2 of document 02 change it: answers, their numbers, rows, and the
+-- condition of row 1.
 use mathlib.Core.Bool.{Bool, true, cond, _&&_}
 use mathlib.Core.List.{List, [], _∷_}
 use Prim.Native.Nat.{ℕ}
@@ -7,7 +7,8 @@ use lib.Dec.{eqb}
 use lib.ListN.{length}
 use Rattle.refusals.specs.declared.Answer.{Answer}
 use Rattle.refusals.specs.declared.Answer.the-variants.{Done, WrongLength, PublicKeyRange, WrongHash}
-use Rattle.refusals.specs.declared.Answer.the-variants.{MaskRange, ShareRange, ShortStream, NoSuchStep}
+use Rattle.refusals.specs.declared.Answer.the-variants.{MaskRange, ShareRange, ShortStream}
+use Rattle.refusals.specs.declared.Answer.the-variants.{NoSuchStep, NoSuchRank}
 
 -- the number of a refusal; 0 where the call is carried out
 abbrev pub number : Answer → ℕ
@@ -19,6 +20,7 @@ number MaskRange = 5
 number ShareRange = 6
 number ShortStream = 7
 number NoSuchStep = 8
+number NoSuchRank = 9
 
 -- a row of the table: its condition, and its refusal
 pub record Row : Type 0 where

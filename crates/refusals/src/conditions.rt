@@ -4,7 +4,7 @@ ghost use lib.ListN.{length};
 ghost use Rattle.refusals.specs.Reduced.{reduced as reducedOf};
 ghost use Rattle.refusals.specs.Same.{same as sameOf};
 
-// Each coefficient is below q.
+// Each coefficient is below q. All are read, whatever they are, and none decides a branch.
 pub fn reduced(f: &[u16]) -> bool
     ensures { λ r. ⌜ r ≡ reducedOf (now (f .entry)) ⌝ }
 {

@@ -1,4 +1,4 @@
-// A call's answer, document 01's number for it, and the tests of lengths, of coefficients and of equal strings.
+// A call's answer, its number in documents 01 and 02, and the tests of lengths, of coefficients and of equal strings.
 ghost use mathlib.Core.Path.{_≡_};
 ghost use Prim.Native.Nat.{_≤_};
 ghost use lib.ListN.{length};
@@ -16,12 +16,13 @@ pub enum Answer {
     ShareRange,
     ShortStream,
     NoSuchStep,
+    NoSuchRank,
 }
 
 // 0 where the call is carried out.
 pub fn number(answer: Answer) -> u64
     ensures { λ r. ⌜ r ≡ numberOf answer ⌝ }
-    ensures { λ r. ⌜ r ≤ 8 ⌝ }
+    ensures { λ r. ⌜ r ≤ 9 ⌝ }
 {
     match answer {
         Answer::Done => 0,
@@ -32,6 +33,7 @@ pub fn number(answer: Answer) -> u64
         Answer::ShareRange => 6,
         Answer::ShortStream => 7,
         Answer::NoSuchStep => 8,
+        Answer::NoSuchRank => 9,
     }
 }
 

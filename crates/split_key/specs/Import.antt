@@ -1,5 +1,5 @@
--- What import answers and leaves in the lent buffers, for a parameter set: a record of what was lent (₀ where it
--- changes), the answer's number n, and the split key as it is then (₁).
+-- What import answers and leaves in the lent buffers, for a parameter set and told a rank: a record of what was lent
+-- (₀ where it changes), the answer's number n, and the split key as it is then (₁).
 use mathlib.Core.Path.{_≡_}
 use mathlib.Core.Bool.{not}
 use mathlib.Core.List.{List, [], _∷_}
@@ -11,6 +11,7 @@ use Rattle.refusals.specs.Refusals.{number, Row, row, answer, after, Lent, lent
 use Rattle.refusals.specs.Same.{same}
 use Rattle.refusals.specs.Reduced.{reduced}
 use Rattle.parameters.specs.declared.Parameters.{Parameters}
+use Rattle.parameters.specs.ByRank.{ByRank}
 use Rattle.parameters.specs.Lengths.{dkBytes}
 use Rattle.hash_functions.specs.Functions.{H}
 use Rattle.mlkem.specs.MlKem.{publicPart, hashPart}
@@ -41,3 +42,7 @@ module _ (p : Parameters) where
   pub record Accepted (dk : List ℕ) : Type 0 where
     pub long : length dk ≡ dkBytes p
     pub hash : hashPart p dk ≡ H (publicPart p dk)
+
+abbrev pub ImportedBy : ℕ → List ℕ → List ℕ → List ℕ → SplitKey → ℕ → SplitKey → Type 0
+ImportedBy rank dk maskCoeffs maskWords key₀ n key₁ =
+    ByRank rank n (λ p. Imported p dk maskCoeffs maskWords key₀ n key₁) (key₁ ≡ key₀)

@@ -28,9 +28,3 @@ module _ (p : Parameters) (r : Answer) where
       → importAnswer p dk maskCoeffs maskWords key ≡ r
       → Imported p dk maskCoeffs maskWords key (number r) key
   import-refused h dk maskCoeffs maskWords key e = record { answer = ap number (sym e); key = after-kept r _ _ h }
-
--- the parameter set by another name
-pub imported-of : {p p′ : Parameters} {dk maskCoeffs maskWords : List ℕ} {key₀ key₁ : SplitKey} {n : ℕ} → p ≡ p′
-    → Imported p dk maskCoeffs maskWords key₀ n key₁
-    → Imported p′ dk maskCoeffs maskWords key₀ n key₁
-imported-of e h = rw e at h

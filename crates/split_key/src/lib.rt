@@ -7,7 +7,6 @@ ghost use Rattle.words.specs.Tab.{tab};
 ghost use Rattle.words.specs.Word.{xor};
 ghost use Rattle.ring.specs.Polynomial.{sub};
 ghost use Rattle.worksheet.specs.SharedList.{sharedList};
-ghost use Rattle.parameters.specs.Sets.{mlKem768};
 ghost use Rattle.parameters.specs.Lengths.{dkBytes};
 ghost use Rattle.parameters.specs.Fits.{Fits};
 ghost use Rattle.vectors.specs.Vector.{coefficients};
@@ -15,7 +14,7 @@ ghost use Rattle.fips202.specs.Sponge.{laneOf};
 ghost use Rattle.hash_functions.specs.Functions.{H as hashOf};
 ghost use Rattle.mlkem.specs.MlKem.{publicPart, hashPart};
 ghost use Rattle.split_key.specs.SplitKey.{splitKey, split};
-ghost use Rattle.split_key.specs.Import.{Imported};
+ghost use Rattle.split_key.specs.Import.{Imported, ImportedBy};
 ghost use Rattle.split_key.specs.Sized.{ImportSized, SharingInput};
 ghost use Rattle.refusals.specs.Refusals.{number};
 ghost use Rattle.refusals.specs.Same.{same as sameOf};
@@ -24,6 +23,7 @@ use hash_functions::hash_h;
 use parameters::Parameters;
 use parameters::dk_bytes;
 use parameters::ek_bytes;
+use parameters::is_rank;
 use parameters::of_rank;
 use parameters::vector_bytes;
 use refusals::Answer;
@@ -153,8 +153,9 @@ fn import_sized(
     Answer::Done
 }
 
-// Import at ML-KEM-768.
-pub fn import(
+// Import for a parameter set.
+fn import_at(
+    p: Parameters,
     dk: &[u8],
     mask_coeffs: &[u16],
     mask_words: &[u64],
@@ -164,14 +165,14 @@ pub fn import(
     z1: &mut [u64],
     public: &mut [u8],
 ) -> Answer
+    requires { ⌜ Fits p ⌝ }
     ensures { λ r. ⌜
-        Imported mlKem768 (now (dk .entry)) (now («mask_coeffs» .entry)) (now («mask_words» .entry))
+        Imported p (now (dk .entry)) (now («mask_coeffs» .entry)) (now («mask_words» .entry))
         (splitKey (now (s0 .entry)) (now (s1 .entry)) (now (z0 .entry)) (now (z1 .entry)) (now (public .entry)))
         (number r)
         (splitKey (now (s0 .exit)) (now (s1 .exit)) (now (z0 .exit)) (now (z1 .exit)) (now (public .exit)))
         ⌝ }
 {
-    let p = of_rank(3);
     let n = 256 * p.k;
     let m = ek_bytes(p) + 32;
     let has = [
@@ -189,4 +190,39 @@ pub fn import(
         return Answer::WrongLength;
     }
     import_sized(p, dk, mask_coeffs, mask_words, s0, s1, z0, z1, public)
+}
+
+// Import for the parameter set of a rank.
+pub fn import(
+    rank: u32,
+    dk: &[u8],
+    mask_coeffs: &[u16],
+    mask_words: &[u64],
+    s0: &mut [u16],
+    s1: &mut [u16],
+    z0: &mut [u64],
+    z1: &mut [u64],
+    public: &mut [u8],
+) -> Answer
+    ensures { λ r. ⌜
+        ImportedBy rank (now (dk .entry)) (now («mask_coeffs» .entry)) (now («mask_words» .entry))
+        (splitKey (now (s0 .entry)) (now (s1 .entry)) (now (z0 .entry)) (now (z1 .entry)) (now (public .entry)))
+        (number r)
+        (splitKey (now (s0 .exit)) (now (s1 .exit)) (now (z0 .exit)) (now (z1 .exit)) (now (public .exit)))
+        ⌝ }
+{
+    if !is_rank(rank) {
+        return Answer::NoSuchRank;
+    }
+    import_at(
+        of_rank(rank),
+        dk,
+        mask_coeffs,
+        mask_words,
+        s0,
+        s1,
+        z0,
+        z1,
+        public,
+    )
 }

@@ -1,22 +1,23 @@
 // Coefficients and steps out of range, alone and several at a time: document 01's rows are tried from top to bottom.
+ghost use Rattle.test_support.specs.Sizes.{Bounded};
 use crate::refused::print_decaps;
 use crate::refused::print_trace;
 use test_decaps_support::case::Case;
 use test_decaps_support::case::Fault;
 use test_decaps_support::case::Part;
 use test_decaps_support::case::wrong;
+use test_support::edges::At;
 use test_support::edges::Edge;
 use test_support::edges::Lengths;
 use test_support::edges::exact;
+use test_support::sizes::Sizes;
 use text::print;
 use text::print_decimal;
 
 // The two calls.
 fn lines(case: Case, step: u64) {
-    let mut k0 = [0xeeee_eeee_eeee_eeeeu64; 4];
-    let mut k1 = [0xeeee_eeee_eeee_eeeeu64; 4];
     print(b"decaps ");
-    print_decaps(case, &mut k0, &mut k1);
+    print_decaps(case);
     print(b"trace ");
     print_trace(case, step);
 }
@@ -38,59 +39,65 @@ fn print_fault(fault: Fault) {
     print(b"\n");
 }
 
-fn fault_at(part: Part, at: usize, v: u16) {
+fn fault_at(rank: u32, part: Part, at: usize, v: u16) {
     let fault = Fault {
         part: part,
         at: at,
         v: v,
     };
     print_fault(fault);
-    lines(wrong(fault, exact()), 0);
+    lines(wrong(rank, fault, exact(rank), rank), 0);
 }
 
 // At the first and at the last place.
-fn faults(part: Part, last: usize) {
-    fault_at(part, 0, 3329);
-    fault_at(part, 0, 65535);
-    fault_at(part, last, 3329);
-    fault_at(part, last, 65535);
+fn faults(rank: u32, part: Part, last: usize) {
+    fault_at(rank, part, 0, 3329);
+    fault_at(rank, part, 0, 65535);
+    fault_at(rank, part, last, 3329);
+    fault_at(rank, part, last, 65535);
 }
 
-fn at_hundred(part: Part) -> Fault {
-    Fault {
+// Coefficient 100 of the part is out of range.
+fn at_hundred(rank: u32, part: Part, lengths: Lengths) -> Case {
+    let fault = Fault {
         part: part,
         at: 100,
         v: 3329,
-    }
+    };
+    wrong(rank, fault, lengths, rank)
 }
 
-fn step(step: u64) {
+fn step(rank: u32, step: u64) {
     print(b"step ");
     print_decimal(step);
     print(b"\n");
-    lines(wrong(at_hundred(Part::None), exact()), step);
+    lines(at_hundred(rank, Part::None, exact(rank)), step);
 }
 
 // The step is past the end; further faults come one after the other.
-fn rows() {
-    step(187794);
+fn rows(rank: u32, past: u64) {
+    step(rank, past);
     print(b"and a share\n");
-    lines(wrong(at_hundred(Part::SecondShare), exact()), 187794);
+    lines(at_hundred(rank, Part::SecondShare, exact(rank)), past);
     print(b"and a mask\n");
-    lines(wrong(at_hundred(Part::Both), exact()), 187794);
+    lines(at_hundred(rank, Part::Both, exact(rank)), past);
     print(b"and a length\n");
     let short = Lengths {
-        at: 5,
+        at: At::Buffer(5),
         edge: Edge::Short,
+        of: rank,
     };
-    lines(wrong(at_hundred(Part::Both), short), 187794);
+    lines(at_hundred(rank, Part::Both, short), past);
 }
 
-pub fn run() {
-    faults(Part::Strip, 7423);
-    faults(Part::FirstShare, 767);
-    faults(Part::SecondShare, 767);
-    step(187793);
-    step(0xffff_ffff_ffff_ffff);
-    rows();
+pub fn run(s: Sizes)
+    requires { ⌜ Bounded s ⌝ }
+{
+    let last = s.coefficients - 1;
+    faults(s.rank, Part::Strip, s.coeffs - 1);
+    faults(s.rank, Part::FirstShare, last);
+    faults(s.rank, Part::SecondShare, last);
+    step(s.rank, s.steps - 1);
+    step(s.rank, 0xffff_ffff_ffff_ffff);
+    rows(s.rank, s.steps);
 }

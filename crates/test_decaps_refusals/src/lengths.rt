@@ -1,65 +1,85 @@
-// Each lent buffer empty, one element short and one element long, the others having their lengths.
-// Shares, masks and the step are out of range: a wrong length is refused before them.
-use crate::refused::print_decaps;
-use crate::refused::print_trace;
-use test_decaps_support::case::Case;
-use test_decaps_support::case::Fault;
-use test_decaps_support::case::Part;
-use test_decaps_support::case::wrong;
+// Each lent buffer empty, one element short, one element long and with its length in another set, the others having
+// their lengths; and all with their lengths in another set.
+use crate::refused::Call;
+use crate::refused::print_spoiled;
+use test_decaps_support::lengths::right_length;
+use test_support::edges::At;
 use test_support::edges::Edge;
 use test_support::edges::Lengths;
-use test_support::edges::length_at;
+use test_support::edges::exact;
 use test_support::edges::print_lengths;
+use test_support::sizes::of_rank;
 
-enum Call {
-    Decaps,
-    Trace,
-}
-
-fn spoiled(lengths: Lengths) -> Case {
-    let fault = Fault {
-        part: Part::All,
-        at: 0,
-        v: 65535,
-    };
-    wrong(fault, lengths)
-}
-
-fn decaps_line(lengths: Lengths) {
-    print_lengths(b"decaps", lengths);
-    let mut k0 = [0xeeee_eeee_eeee_eeeeu64; 5];
-    let mut k1 = [0xeeee_eeee_eeee_eeeeu64; 5];
-    let a = length_at(lengths, 8, 4);
-    let b = length_at(lengths, 9, 4);
-    print_decaps(spoiled(lengths), &mut k0[..a], &mut k1[..b]);
-}
-
-fn trace_line(lengths: Lengths) {
-    print_lengths(b"trace", lengths);
-    print_trace(spoiled(lengths), 0xffff_ffff_ffff_ffff);
-}
-
-fn line(call: Call, lengths: Lengths) {
+fn line(call: Call, rank: u32, lengths: Lengths) {
     match call {
-        Call::Decaps => decaps_line(lengths),
-        Call::Trace => trace_line(lengths),
+        Call::Decaps => print_lengths(b"decaps", lengths),
+        Call::Trace => print_lengths(b"trace", lengths),
     }
+    print_spoiled(call, rank, lengths, rank);
+}
+
+fn line_at(call: Call, rank: u32, i: usize, edge: Edge, of: u32) {
+    let at = At::Buffer(i);
+    line(
+        call,
+        rank,
+        Lengths {
+            at: at,
+            edge: edge,
+            of: of,
+        },
+    );
 }
 
 // Each of the call's n buffers.
-fn lines(call: Call, n: usize, edge: Edge) {
-    for at in 0..n {
-        line(call, Lengths { at: at, edge: edge });
+fn lines(call: Call, rank: u32, n: usize, edge: Edge) {
+    for i in 0..n {
+        line_at(call, rank, i, edge, rank);
     }
 }
 
-fn edges(edge: Edge) {
-    lines(Call::Decaps, 10, edge);
-    lines(Call::Trace, 8, edge);
+fn edges(rank: u32, edge: Edge) {
+    lines(Call::Decaps, rank, 10, edge);
+    lines(Call::Trace, rank, 8, edge);
 }
 
-pub fn run() {
-    edges(Edge::Empty);
-    edges(Edge::Short);
-    edges(Edge::Long);
+// ---- lengths in the set of rank `of`
+
+// Where buffer i has another length there.
+fn line_as(call: Call, rank: u32, i: usize, of: u32) {
+    if right_length(of_rank(of), i) != right_length(of_rank(rank), i) {
+        line_at(call, rank, i, Edge::Exact, of);
+    }
+}
+
+fn lines_as(call: Call, rank: u32, n: usize, of: u32) {
+    for i in 0..n {
+        line_as(call, rank, i, of);
+    }
+}
+
+fn set_as(rank: u32, of: u32) {
+    lines_as(Call::Decaps, rank, 10, of);
+    lines_as(Call::Trace, rank, 8, of);
+    line(Call::Decaps, rank, exact(of));
+    line(Call::Trace, rank, exact(of));
+}
+
+fn other_as(rank: u32, of: u32) {
+    if of != rank {
+        set_as(rank, of);
+    }
+}
+
+fn others(rank: u32) {
+    for of in 2..5 {
+        other_as(rank, of);
+    }
+}
+
+pub fn run(rank: u32) {
+    edges(rank, Edge::Empty);
+    edges(rank, Edge::Short);
+    edges(rank, Edge::Long);
+    others(rank);
 }

@@ -1,15 +1,14 @@
 // Decapsulation and trace of a case, with contracts that say nothing: a program that only prints needs no more.
 ghost use mathlib.Core.Path.{_≡_};
 ghost use lib.ListN.{length};
-ghost use Rattle.test_decaps_support.specs.Lengths.{Longer};
 use crate::case::Case;
 use crate::inputs::make;
+use crate::lengths;
+use crate::parts;
 use buffers::little_endian::put_words;
 use buffers::values::xor_words;
 use refusals::Answer;
 use refusals::number;
-use test_support::edges::Lengths;
-use test_support::edges::length_at;
 
 // What is asked for: the shares of K, or the value of a step.
 enum Asked {
@@ -19,6 +18,7 @@ enum Asked {
 
 fn call(
     asked: Asked,
+    rank: u32,
     s0: &[u16],
     s1: &[u16],
     z0: &[u64],
@@ -32,17 +32,19 @@ fn call(
     value: &mut u64,
 ) -> Answer {
     match asked {
-        Asked::Shares => decapsulation::decaps(s0, s1, z0, z1, public, ct, words, coeffs, k0, k1),
+        Asked::Shares => {
+            decapsulation::decaps(rank, s0, s1, z0, z1, public, ct, words, coeffs, k0, k1)
+        }
         Asked::Step(step) => {
-            decapsulation::trace(s0, s1, z0, z1, public, ct, words, coeffs, step, value)
+            decapsulation::trace(rank, s0, s1, z0, z1, public, ct, words, coeffs, step, value)
         }
     }
 }
 
-// Ciphertext and strip, which have an element more than they should, are cut to the lengths that the case says.
+// Ciphertext and strip are cut to the lengths that the case says.
 fn cut_strip(
     asked: Asked,
-    lengths: Lengths,
+    case: Case,
     s0: &[u16],
     s1: &[u16],
     z0: &[u64],
@@ -54,22 +56,21 @@ fn cut_strip(
     k0: &mut [u64],
     k1: &mut [u64],
     value: &mut u64,
-) -> Answer
-    requires { ⌜ (length (now ct) ≡ 1089) × (length (now words) ≡ 11751) × (length (now coeffs) ≡ 7425) ⌝ }
-{
-    let a = length_at(lengths, 5, 1088);
-    let b = length_at(lengths, 6, 11750);
-    let c = length_at(lengths, 7, 7424);
+) -> Answer {
+    let a = lengths::length(case, 5);
+    let b = lengths::length(case, 6);
+    let c = lengths::length(case, 7);
     call(
         asked,
+        case.told,
         s0,
         s1,
         z0,
         z1,
         public,
-        &ct[..a],
-        &words[..b],
-        &coeffs[..c],
+        parts::bytes(ct, a),
+        parts::words(words, b),
+        parts::coefficients(coeffs, c),
         k0,
         k1,
         value,
@@ -91,23 +92,20 @@ fn cut(
     k0: &mut [u64],
     k1: &mut [u64],
     value: &mut u64,
-) -> Answer
-    requires { ⌜ Longer (now s0) (now s1) (now z0) (now z1) (now public) (now ct) (now words) (now coeffs) ⌝ }
-{
-    let lengths = case.lengths;
-    let a = length_at(lengths, 0, 768);
-    let b = length_at(lengths, 1, 768);
-    let c = length_at(lengths, 2, 4);
-    let d = length_at(lengths, 3, 4);
-    let e = length_at(lengths, 4, 1216);
+) -> Answer {
+    let a = lengths::length(case, 0);
+    let b = lengths::length(case, 1);
+    let c = lengths::length(case, 2);
+    let d = lengths::length(case, 3);
+    let e = lengths::length(case, 4);
     cut_strip(
         asked,
-        lengths,
-        &s0[..a],
-        &s1[..b],
-        &z0[..c],
-        &z1[..d],
-        &public[..e],
+        case,
+        parts::coefficients(s0, a),
+        parts::coefficients(s1, b),
+        parts::words(z0, c),
+        parts::words(z1, d),
+        parts::bytes(public, e),
         ct,
         words,
         coeffs,
@@ -117,16 +115,16 @@ fn cut(
     )
 }
 
-// The answer of the first call that is refused.
+// The answer of the first call that is refused. Each buffer has one element more than the largest set asks for.
 fn run(asked: Asked, case: Case, k0: &mut [u64], k1: &mut [u64], value: &mut u64) -> Answer {
-    let mut s0 = [0u16; 769];
-    let mut s1 = [0u16; 769];
+    let mut s0 = [0u16; 1025];
+    let mut s1 = [0u16; 1025];
     let mut z0 = [0u64; 5];
     let mut z1 = [0u64; 5];
-    let mut public = [0u8; 1217];
-    let mut ct = [0u8; 1089];
-    let mut words = [0u64; 11751];
-    let mut coeffs = [0u16; 7425];
+    let mut public = [0u8; 1601];
+    let mut ct = [0u8; 1569];
+    let mut words = [0u64; 15193];
+    let mut coeffs = [0u16; 9473];
     let answer = make(
         case,
         &mut s0,

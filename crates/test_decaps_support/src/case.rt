@@ -1,5 +1,5 @@
-// A case of decapsulation, told in numbers: the turn whose key and ciphertext are taken, what is raised of the key, the
-// masks, what is wrong.
+// A case of decapsulation, told in numbers: the set, the turn whose key and ciphertext are taken, what is raised of the
+// key, the masks, what is wrong.
 use test_keys::elsewhere::Raised;
 use test_support::edges::Lengths;
 use test_support::edges::exact;
@@ -29,8 +29,9 @@ pub struct Fault {
     pub v: u16,
 }
 
-// The key is split under masks of one kind, the strip is of another.
+// The key is of the rank's set, and split under masks of one kind; the strip is of another.
 pub struct Case {
+    pub rank: u32,
     pub turn: usize,
     pub raised: Raised,
     pub ciphertext: Ciphertext,
@@ -38,10 +39,12 @@ pub struct Case {
     pub strip: Masks,
     pub fault: Fault,
     pub lengths: Lengths,
+    pub told: u32, // the rank that the call is told
 }
 
 // Nothing is wrong.
 pub fn right(
+    rank: u32,
     turn: usize,
     raised: Raised,
     ciphertext: Ciphertext,
@@ -53,8 +56,9 @@ pub fn right(
         at: 0,
         v: 0,
     };
-    let lengths = exact();
+    let lengths = exact(rank);
     Case {
+        rank: rank,
         turn: turn,
         raised: raised,
         ciphertext: ciphertext,
@@ -62,12 +66,14 @@ pub fn right(
         strip: strip,
         fault: fault,
         lengths: lengths,
+        told: rank,
     }
 }
 
 // Turn 0's key and ciphertext, with something wrong.
-pub fn wrong(fault: Fault, lengths: Lengths) -> Case {
+pub fn wrong(rank: u32, fault: Fault, lengths: Lengths, told: u32) -> Case {
     Case {
+        rank: rank,
         turn: 0,
         raised: Raised::None,
         ciphertext: Ciphertext::True,
@@ -75,5 +81,6 @@ pub fn wrong(fault: Fault, lengths: Lengths) -> Case {
         strip: Masks::Drawn(9),
         fault: fault,
         lengths: lengths,
+        told: told,
     }
 }

@@ -1,18 +1,20 @@
 // The buffers that a case stands for.
 ghost use mathlib.Core.Path.{_≡_};
 ghost use lib.ListN.{length};
-ghost use Rattle.test_decaps_support.specs.Lengths.{Longer, LongerSplit};
+ghost use Rattle.test_support.specs.Sizes.{Bounded};
+ghost use Rattle.test_decaps_support.specs.Lengths.{LongestSplit, Longest};
 use crate::case::Case;
 use crate::case::Ciphertext;
 use crate::case::Fault;
 use crate::case::Part;
 use refusals::Answer;
-use test_keys::elsewhere::Raised;
 use test_keys::elsewhere::raise_key;
 use test_keys::turn;
 use test_support::bytes::set_coefficients;
 use test_support::masks;
 use test_support::masks::Masks;
+use test_support::sizes::Sizes;
+use test_support::sizes::of_rank;
 
 fn damage(ct: &mut [u8], at: usize, bits: u8) {
     if at < ct.len() {
@@ -21,41 +23,83 @@ fn damage(ct: &mut [u8], at: usize, bits: u8) {
 }
 
 // The turn's own ciphertext is there already.
-fn take_ciphertext(turn: usize, ciphertext: Ciphertext, ct: &mut [u8])
-    requires { ⌜ length (now ct) ≡ 1089 ⌝ }
+fn take_ciphertext(s: Sizes, turn: usize, ciphertext: Ciphertext, ct: &mut [u8])
+    requires { ⌜ Bounded s × (length (now ct) ≡ s .ct) ⌝ }
 {
     match ciphertext {
         Ciphertext::True => {}
-        Ciphertext::Random => turn::random_ciphertext(turn, &mut ct[0..1088]),
+        Ciphertext::Random => turn::random_ciphertext(s, turn, ct),
         Ciphertext::Damaged(at, bits) => damage(ct, at, bits),
     }
 }
 
-fn make_raised(turn: usize, raised: Raised, dk: &mut [u8], ct: &mut [u8])
-    requires { ⌜ (length (now dk) ≡ 2400) × (length (now ct) ≡ 1088) ⌝ }
+fn make_key(s: Sizes, case: Case, dk: &mut [u8], ct: &mut [u8])
+    requires { ⌜ Bounded s × (length (now dk) ≡ s .dk) × (length (now ct) ≡ s .ct) ⌝ }
 {
-    let mut ek = [0u8; 1184];
+    let mut ek = [0u8; 1568];
     let mut k = [0u8; 32];
-    turn::make(turn, &mut ek, dk, ct, &mut k);
-    raise_key(raised, turn, dk, ct);
+    let n = s.ek;
+    let raised = case.raised;
+    let ciphertext = case.ciphertext;
+    turn::make(s, case.turn, &mut ek[0..n], dk, ct, &mut k);
+    raise_key(s, raised, case.turn, dk, ct);
+    take_ciphertext(s, case.turn, ciphertext, ct);
 }
 
-fn make_key(turn: usize, raised: Raised, ciphertext: Ciphertext, dk: &mut [u8], ct: &mut [u8])
-    requires { ⌜ (length (now dk) ≡ 2400) × (length (now ct) ≡ 1089) ⌝ }
+fn make_strip(s: Sizes, kind: Masks, words: &mut [u64], coeffs: &mut [u16])
+    requires { ⌜ Bounded s × (length (now words) ≡ 15193) × (length (now coeffs) ≡ 9473) ⌝ }
 {
-    make_raised(turn, raised, dk, &mut ct[0..1088]);
-    take_ciphertext(turn, ciphertext, ct);
+    let w = s.words;
+    let c = s.coeffs;
+    masks::words(kind, b'w', &mut words[0..w]);
+    masks::coefficients(kind, b'c', &mut coeffs[0..c]);
 }
 
-fn make_strip(kind: Masks, words: &mut [u64], coeffs: &mut [u16])
-    requires { ⌜ (length (now words) ≡ 11751) × (length (now coeffs) ≡ 7425) ⌝ }
+fn import(
+    rank: u32,
+    dk: &[u8],
+    mask_coeffs: &[u16],
+    mask_words: &[u64],
+    s0: &mut [u16],
+    s1: &mut [u16],
+    z0: &mut [u64],
+    z1: &mut [u64],
+    public: &mut [u8],
+) -> Answer {
+    split_key::import(rank, dk, mask_coeffs, mask_words, s0, s1, z0, z1, public)
+}
+
+fn import_parts(
+    s: Sizes,
+    dk: &[u8],
+    mask_coeffs: &[u16],
+    mask_words: &[u64],
+    s0: &mut [u16],
+    s1: &mut [u16],
+    z0: &mut [u64],
+    z1: &mut [u64],
+    public: &mut [u8],
+) -> Answer
+    requires { ⌜ Bounded s × LongestSplit (now s0) (now s1) (now z0) (now z1) (now public) ⌝ }
 {
-    masks::words(kind, b'w', &mut words[0..11750]);
-    masks::coefficients(kind, b'c', &mut coeffs[0..7424]);
+    let n = s.coefficients;
+    let e = s.public;
+    import(
+        s.rank,
+        dk,
+        mask_coeffs,
+        mask_words,
+        &mut s0[0..n],
+        &mut s1[0..n],
+        &mut z0[0..4],
+        &mut z1[0..4],
+        &mut public[0..e],
+    )
 }
 
 // Import's answer.
 fn make_split(
+    s: Sizes,
     dk: &[u8],
     kind: Masks,
     s0: &mut [u16],
@@ -64,22 +108,46 @@ fn make_split(
     z1: &mut [u64],
     public: &mut [u8],
 ) -> Answer
-    requires { ⌜ LongerSplit (now s0) (now s1) (now z0) (now z1) (now public) ⌝ }
+    requires { ⌜ Bounded s × LongestSplit (now s0) (now s1) (now z0) (now z1) (now public) ⌝ }
 {
-    let mut mask_coeffs = [0u16; 768];
+    let mut mask_coeffs = [0u16; 1024];
     let mut mask_words = [0u64; 4];
+    let n = s.coefficients;
     masks::coefficients(kind, b's', &mut mask_coeffs);
     masks::words(kind, b'z', &mut mask_words);
-    split_key::import(
+    import_parts(
+        s,
         dk,
-        &mask_coeffs,
+        &mask_coeffs[0..n],
         &mask_words,
-        &mut s0[0..768],
-        &mut s1[0..768],
-        &mut z0[0..4],
-        &mut z1[0..4],
-        &mut public[0..1216],
+        s0,
+        s1,
+        z0,
+        z1,
+        public,
     )
+}
+
+// Import's answer; dk becomes the key.
+fn make_imported(
+    s: Sizes,
+    case: Case,
+    dk: &mut [u8],
+    s0: &mut [u16],
+    s1: &mut [u16],
+    z0: &mut [u64],
+    z1: &mut [u64],
+    public: &mut [u8],
+    ct: &mut [u8],
+) -> Answer
+    requires { ⌜
+        Bounded s × (length (now dk) ≡ s .dk) × LongestSplit (now s0) (now s1) (now z0) (now z1) (now public)
+        × (length (now ct) ≡ 1569) ⌝ }
+{
+    let c = s.ct;
+    let split = case.split;
+    make_key(s, case, dk, &mut ct[0..c]);
+    make_split(s, dk, split, s0, s1, z0, z1, public)
 }
 
 fn put(f: &mut [u16], at: usize, v: u16) {
@@ -109,7 +177,8 @@ fn spoil(fault: Fault, s0: &mut [u16], s1: &mut [u16], coeffs: &mut [u16]) {
     }
 }
 
-// Each buffer has one element more than it should, which is left as it is. Import's answer.
+// Each buffer has one element more than the largest set asks for; what is past the set's length is left as it is.
+// Import's answer.
 pub fn make(
     case: Case,
     s0: &mut [u16],
@@ -121,17 +190,15 @@ pub fn make(
     words: &mut [u64],
     coeffs: &mut [u16],
 ) -> Answer
-    requires { ⌜ Longer (now s0) (now s1) (now z0) (now z1) (now public) (now ct) (now words) (now coeffs) ⌝ }
+    requires { ⌜ Longest (now s0) (now s1) (now z0) (now z1) (now public) (now ct) (now words) (now coeffs) ⌝ }
 {
-    let mut dk = [0u8; 2400];
-    let raised = case.raised;
-    let ciphertext = case.ciphertext;
-    let split = case.split;
+    let mut dk = [0u8; 3168];
+    let s = of_rank(case.rank);
+    let n = s.dk;
     let strip = case.strip;
     let fault = case.fault;
-    make_key(case.turn, raised, ciphertext, &mut dk, ct);
-    let answer = make_split(&dk, split, s0, s1, z0, z1, public);
-    make_strip(strip, words, coeffs);
+    let answer = make_imported(s, case, &mut dk[0..n], s0, s1, z0, z1, public, ct);
+    make_strip(s, strip, words, coeffs);
     spoil(fault, s0, s1, coeffs);
     answer
 }

@@ -1,9 +1,23 @@
-// Masked decapsulation and its trace on public seeds. What it prints is held to the file stdout, whose values come
-// from other implementations (tools/decaps_vectors).
+// Masked decapsulation and its trace on public seeds, for each parameter set. What it prints is held to the file
+// stdout, whose values come from other implementations (tools/decaps_vectors).
+use test_support::sizes::of_rank;
+use test_support::sizes::print_name;
+use text::print;
+
 mod secrets;
+mod stage_edges; // the first and the last step of each stage
 mod traces;
 
+fn set(rank: u32) {
+    let s = of_rank(rank);
+    print_name(s);
+    print(b"\n");
+    secrets::run(s);
+    traces::run(rank);
+}
+
 fn main() {
-    secrets::run();
-    traces::run();
+    for rank in 2..5 {
+        set(rank);
+    }
 }

@@ -3,6 +3,7 @@
 ghost use mathlib.Core.Path.{_≡_};
 ghost use Prim.Native.Nat.{_≤_};
 ghost use lib.ListN.{length};
+ghost use Rattle.test_support.specs.Sizes.{Bounded};
 use refusals::conditions::same;
 use test_decaps_support::calls::decaps_joined;
 use test_decaps_support::case::Case;
@@ -10,6 +11,7 @@ use test_decaps_support::case::Ciphertext;
 use test_decaps_support::case::right;
 use test_keys::elsewhere::Raised;
 use test_support::masks::Masks;
+use test_support::sizes::Sizes;
 use text::print;
 use text::print_decimal;
 use text::print_hex;
@@ -28,7 +30,14 @@ fn kind(i: usize) -> Masks {
 fn masked(case: Case, i: usize) -> Case {
     let raised = case.raised;
     let ciphertext = case.ciphertext;
-    right(case.turn, raised, ciphertext, kind(i / 4), kind(i % 4))
+    right(
+        case.rank,
+        case.turn,
+        raised,
+        ciphertext,
+        kind(i / 4),
+        kind(i % 4),
+    )
 }
 
 // 1 where the case gives the secret.
@@ -66,35 +75,59 @@ fn line(name: &[u8], case: Case) {
     print_hex(&secret);
 }
 
-fn drawn(turn: usize, raised: Raised, ciphertext: Ciphertext) -> Case {
-    right(turn, raised, ciphertext, Masks::Drawn(4), Masks::Drawn(4))
+fn drawn(rank: u32, turn: usize, raised: Raised, ciphertext: Ciphertext) -> Case {
+    right(
+        rank,
+        turn,
+        raised,
+        ciphertext,
+        Masks::Drawn(4),
+        Masks::Drawn(4),
+    )
 }
 
-fn key(turn: usize) {
-    let none = Raised::None;
-    line(b"true", drawn(turn, none, Ciphertext::True));
+// The key's own ciphertext, changed.
+fn damaged(name: &[u8], rank: u32, turn: usize, at: usize, bits: u8) {
     line(
-        b"first byte",
-        drawn(turn, none, Ciphertext::Damaged(0, 255)),
+        name,
+        drawn(rank, turn, Raised::None, Ciphertext::Damaged(at, bits)),
     );
+}
+
+fn key(s: Sizes, turn: usize)
+    requires { ⌜ Bounded s ⌝ }
+{
+    line(b"true", drawn(s.rank, turn, Raised::None, Ciphertext::True));
+    damaged(b"first byte", s.rank, turn, 0, 255);
+    damaged(b"last byte", s.rank, turn, s.ct - 1, 255);
+    damaged(b"one bit", s.rank, turn, 500, 16);
     line(
-        b"last byte",
-        drawn(turn, none, Ciphertext::Damaged(1087, 255)),
+        b"random",
+        drawn(s.rank, turn, Raised::None, Ciphertext::Random),
     );
-    line(b"one bit", drawn(turn, none, Ciphertext::Damaged(500, 16)));
-    line(b"random", drawn(turn, none, Ciphertext::Random));
 }
 
 // Key 0 with coefficients raised; raised in its secret part alone it is the same key.
-fn elsewhere() {
-    line(b"raised secret", drawn(0, Raised::Secret, Ciphertext::True));
-    line(b"raised public", drawn(0, Raised::Public, Ciphertext::True));
-    line(b"raised both", drawn(0, Raised::Both, Ciphertext::True));
+fn elsewhere(rank: u32) {
+    line(
+        b"raised secret",
+        drawn(rank, 0, Raised::Secret, Ciphertext::True),
+    );
+    line(
+        b"raised public",
+        drawn(rank, 0, Raised::Public, Ciphertext::True),
+    );
+    line(
+        b"raised both",
+        drawn(rank, 0, Raised::Both, Ciphertext::True),
+    );
 }
 
-pub fn run() {
-    key(0);
-    key(1);
-    key(2);
-    elsewhere();
+pub fn run(s: Sizes)
+    requires { ⌜ Bounded s ⌝ }
+{
+    key(s, 0);
+    key(s, 1);
+    key(s, 2);
+    elsewhere(s.rank);
 }

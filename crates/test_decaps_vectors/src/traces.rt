@@ -3,6 +3,8 @@
 ghost use mathlib.Core.Path.{_≡_};
 ghost use Prim.Native.Nat.{_+_, _*_, _<_, _≤_};
 ghost use lib.ListN.{length};
+ghost use Rattle.test_support.specs.Sizes.{Bounded};
+use crate::stage_edges::edge_steps;
 use refusals::number;
 use test_decaps_support::calls::decaps;
 use test_decaps_support::calls::trace;
@@ -13,6 +15,8 @@ use test_keys::elsewhere::Raised;
 use test_support::answers::print_number;
 use test_support::hashes::print_hash;
 use test_support::masks::Masks;
+use test_support::sizes::Sizes;
+use test_support::sizes::of_rank;
 use text::print;
 use text::print_decimal;
 
@@ -28,36 +32,8 @@ fn print_step(case: Case, step: u64) {
     print(b"\n");
 }
 
-// The first and the last step of each stage.
-fn edge_steps() -> [u64; 20]
-    ensures { λ r. ⌜ 20 ≡ length r ⌝ }
-{
-    [
-        0,
-        511,
-        512,
-        1975,
-        1976,
-        9817,
-        9818,
-        10841,
-        10842,
-        105271,
-        105272,
-        107319,
-        107320,
-        115335,
-        115336,
-        117023,
-        117024,
-        187745,
-        187746,
-        187793,
-    ]
-}
-
 fn print_steps(case: Case) {
-    let steps = edge_steps();
+    let steps = edge_steps(case.rank);
     for i in 0..20 {
         print_step(case, steps[i]);
     }
@@ -65,7 +41,7 @@ fn print_steps(case: Case) {
 
 // The step's value as bytes, place i of out.
 fn put(case: Case, step: u64, i: usize, out: &mut [u8])
-    requires { ⌜ (i < 524) × (8 * i + 8 ≤ length (now out)) ⌝ }
+    requires { ⌜ (i < 675) × (8 * i + 8 ≤ length (now out)) ⌝ }
 {
     let mut value: u64 = 0;
     let a = 8 * i;
@@ -76,7 +52,7 @@ fn put(case: Case, step: u64, i: usize, out: &mut [u8])
 
 // The values of n steps, from 0 on, a stride apart.
 fn put_all(case: Case, stride: u64, n: usize, out: &mut [u8])
-    requires { ⌜ (n ≤ 524) × (stride < 1000) × (length (now out) ≡ 8 * n) ⌝ }
+    requires { ⌜ (n ≤ 675) × (stride < 1000) × (8 * n ≤ length (now out)) ⌝ }
 {
     let mut step: u64 = 0;
     for i in 0..n {
@@ -85,15 +61,25 @@ fn put_all(case: Case, stride: u64, n: usize, out: &mut [u8])
     }
 }
 
+// How many steps are divisible by 359.
+fn multiples(s: Sizes) -> usize
+    requires { ⌜ Bounded s ⌝ }
+    ensures { λ r. ⌜ r ≤ 675 ⌝ }
+{
+    ((s.steps + 358) / 359) as usize
+}
+
 fn print_hashes(case: Case) {
     let mut stage1 = [0u8; 4096];
-    let mut all = [0u8; 4192];
+    let mut all = [0u8; 5400];
+    let n = multiples(of_rank(case.rank));
+    let e = 8 * n;
     put_all(case, 1, 512, &mut stage1);
     print(b"steps 0 to 511 ");
     print_hash(&stage1);
-    put_all(case, 359, 524, &mut all);
+    put_all(case, 359, n, &mut all);
     print(b"each step divisible by 359 ");
-    print_hash(&all);
+    print_hash(&all[0..e]);
 }
 
 // 1 where the step's value is v.
@@ -105,12 +91,20 @@ fn entered(case: Case, step: u64, v: u64) -> u64
     if value == v { 1 } else { 0 }
 }
 
-// How many of the two shares of word j of K are the last two of its twelve entries.
+// The last two of the twelve entries that word j of K has begin here. The words' entries are the last 48.
+fn share_step(s: Sizes, j: u64) -> u64
+    requires { ⌜ Bounded s × (j < 4) ⌝ }
+    ensures { λ r. ⌜ r < 242052 ⌝ }
+{
+    s.steps - 48 + 12 * j + 10
+}
+
+// How many of the two shares of word j of K are the last two of its entries.
 fn entered_word(case: Case, j: usize, k0: &[u64], k1: &[u64]) -> u64
     requires { ⌜ (j < 4) × (length (now k0) ≡ 4) × (length (now k1) ≡ 4) ⌝ }
     ensures { λ r. ⌜ r ≤ 2 ⌝ }
 {
-    let step = 187756 + 12 * (j as u64);
+    let step = share_step(of_rank(case.rank), j as u64);
     entered(case, step, k0[j]) + entered(case, step + 1, k1[j])
 }
 
@@ -141,15 +135,22 @@ fn print_traces(case: Case) {
     print_shares(case);
 }
 
-fn drawn(raised: Raised, ciphertext: Ciphertext) -> Case {
-    right(0, raised, ciphertext, Masks::Drawn(9), Masks::Drawn(9))
+fn drawn(rank: u32, raised: Raised, ciphertext: Ciphertext) -> Case {
+    right(
+        rank,
+        0,
+        raised,
+        ciphertext,
+        Masks::Drawn(9),
+        Masks::Drawn(9),
+    )
 }
 
-pub fn run() {
+pub fn run(rank: u32) {
     print(b"trace, true\n");
-    print_traces(drawn(Raised::None, Ciphertext::True));
+    print_traces(drawn(rank, Raised::None, Ciphertext::True));
     print(b"trace, random\n");
-    print_traces(drawn(Raised::None, Ciphertext::Random));
+    print_traces(drawn(rank, Raised::None, Ciphertext::Random));
     print(b"trace, edged\n");
-    print_traces(drawn(Raised::Edged, Ciphertext::True));
+    print_traces(drawn(rank, Raised::Edged, Ciphertext::True));
 }

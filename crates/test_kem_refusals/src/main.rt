@@ -1,16 +1,51 @@
-// ML-KEM-768's calls with wrong lengths, with values at the edges of their ranges and beyond, and with several faults.
-// What it prints is held to the file stdout, whose values come from another implementation (tools/kem_vectors).
+// The calls of the three parameter sets with wrong lengths and with another set's, with values at the edges of their
+// ranges and beyond, with several faults, and with ranks that no set has. What it prints is held to the file stdout,
+// whose values come from another implementation (tools/kem_vectors).
+ghost use mathlib.Core.Path.{_≡_};
+ghost use lib.ListN.{length};
+ghost use Rattle.test_support.specs.Sizes.{Bounded};
+use test_support::sizes::Sizes;
+use test_support::sizes::of_rank;
+use test_support::sizes::print_name;
+use text::print;
+
+mod calls; // calls with lengths of a kind
 mod lengths;
 mod places;
+mod ranks;
 mod rows;
+mod samples;
 
-fn main() {
+fn make_keys(rank: u32, ek: &mut [u8], dk: &mut [u8]) {
     let d = [0u8; 32];
     let z = [1u8; 32];
-    let mut ek = [0u8; 1184];
-    let mut dk = [0u8; 2400];
-    mlkem::keygen(&d, &z, &mut ek, &mut dk);
-    lengths::run();
-    places::run(&dk);
-    rows::run(&dk);
+    mlkem::keygen(rank, &d, &z, ek, dk);
+}
+
+fn set_in(s: Sizes, ek: &mut [u8], dk: &mut [u8])
+    requires { ⌜ Bounded s × (length (now dk) ≡ s .dk) ⌝ }
+{
+    make_keys(s.rank, ek, dk);
+    lengths::run(s);
+    places::run(s, dk);
+    rows::run(s, dk);
+}
+
+fn set(rank: u32) {
+    let s = of_rank(rank);
+    let mut ek = [0u8; 1568];
+    let mut dk = [0u8; 3168];
+    let a = s.ek;
+    let b = s.dk;
+    print_name(s);
+    print(b"\n");
+    set_in(s, &mut ek[0..a], &mut dk[0..b]);
+}
+
+fn main() {
+    samples::run();
+    for rank in 2..5 {
+        set(rank);
+    }
+    ranks::run();
 }

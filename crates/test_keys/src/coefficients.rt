@@ -1,6 +1,6 @@
-// The 768 coefficients of an encoded vector, 12 bits each.
+// The coefficients of an encoded vector, 12 bits each: two in three bytes.
 ghost use mathlib.Core.Path.{_≡_};
-ghost use Prim.Native.Nat.{_+_, _<_, _≤_};
+ghost use Prim.Native.Nat.{_+_, _*_, _<_, _≤_};
 ghost use lib.ListN.{length};
 
 fn even_middle(b: u8, v: u16) -> u8 {
@@ -13,7 +13,7 @@ fn odd_middle(b: u8, v: u16) -> u8 {
 
 // Coefficient i becomes v.
 pub fn put(bytes: &mut [u8], i: usize, v: u16)
-    requires { ⌜ (length (now bytes) ≡ 1152) × (i < 768) ⌝ }
+    requires { ⌜ 3 * i + 3 ≤ 2 * length (now bytes) ⌝ }
 {
     let j = i / 2 * 3;
     if i % 2 == 0 {
@@ -27,10 +27,9 @@ pub fn put(bytes: &mut [u8], i: usize, v: u16)
 
 // The same in the part of a key that starts at byte `at`.
 pub fn put_at(key: &mut [u8], at: usize, i: usize, v: u16)
-    requires { ⌜ (at + 1152 ≤ length (now key)) × (at ≤ 1152) × (i < 768) ⌝ }
+    requires { ⌜ (2 * at + 3 * i + 3 ≤ 2 * length (now key)) ⌝ }
 {
-    let e = at + 1152;
-    put(&mut key[at..e], i, v);
+    put(&mut key[at..], i, v);
 }
 
 fn wide(b: u8) -> u16
@@ -41,7 +40,7 @@ fn wide(b: u8) -> u16
 
 // Coefficient i.
 fn get(bytes: &[u8], i: usize) -> u16
-    requires { ⌜ (length (now bytes) ≡ 1152) × (i < 768) ⌝ }
+    requires { ⌜ 3 * i + 3 ≤ 2 * length (now bytes) ⌝ }
     ensures { λ r. ⌜ r < 4096 ⌝ }
 {
     let j = i / 2 * 3;
@@ -53,7 +52,7 @@ fn get(bytes: &[u8], i: usize) -> u16
 
 // Coefficient i becomes itself plus 3329, where 12 bits hold the sum: modulo 3329 it is the same.
 fn raise_one(bytes: &mut [u8], i: usize)
-    requires { ⌜ (length (now bytes) ≡ 1152) × (i < 768) ⌝ }
+    requires { ⌜ 3 * i + 3 ≤ 2 * length (now bytes) ⌝ }
 {
     let c = get(bytes, i);
     if c < 767 {
@@ -61,10 +60,8 @@ fn raise_one(bytes: &mut [u8], i: usize)
     }
 }
 
-pub fn raise(bytes: &mut [u8])
-    requires { ⌜ length (now bytes) ≡ 1152 ⌝ }
-{
-    for i in 0..768 {
+pub fn raise(bytes: &mut [u8]) {
+    for i in 0..bytes.len() / 3 * 2 {
         raise_one(bytes, i);
     }
 }

@@ -1,6 +1,11 @@
 // Keys made elsewhere, whose coefficients aren't all below 3329.
 ghost use mathlib.Core.Path.{_≡_};
+ghost use Prim.Native.Nat.{_+_, _*_, _≤_};
 ghost use lib.ListN.{length};
+ghost use Rattle.parameters.specs.Fits.{Fits};
+ghost use Rattle.parameters.specs.Lengths.{ekBytes, ctBytes};
+ghost use Rattle.test_support.specs.Sizes.{Bounded};
+ghost use Rattle.test_keys.specs.Lent.{EncryptLent};
 use crate::coefficients::put;
 use crate::coefficients::raise;
 use crate::turn::message;
@@ -8,8 +13,13 @@ use hash_functions::hash_g;
 use hash_functions::hash_h;
 use kpke::encrypt::encrypt;
 use kpke::matrix::expand;
+use parameters::Parameters;
+use parameters::ct_bytes;
+use parameters::ek_bytes;
 use parameters::of_rank;
+use parameters::vector_bytes;
 use slices::copy_bytes;
+use test_support::sizes::Sizes;
 
 // The parts of a key whose coefficients are raised by 3329, where 12 bits hold the sum. Edged: both, with 3329 first
 // and 4095 last in either part.
@@ -21,80 +31,109 @@ pub enum Raised {
     Edged,
 }
 
-fn raise_part(edged: bool, bytes: &mut [u8])
-    requires { ⌜ length (now bytes) ≡ 1152 ⌝ }
+// An encoded vector of n coefficients.
+fn raise_part(edged: bool, n: usize, bytes: &mut [u8])
+    requires { ⌜ (1 ≤ n) × (3 * n ≡ 2 * length (now bytes)) ⌝ }
 {
     raise(bytes);
     if edged {
         put(bytes, 0, 3329);
-        put(bytes, 767, 4095);
+        put(bytes, n - 1, 4095);
     }
 }
 
 // h becomes the public key's hash.
-pub fn fit_hash(dk: &mut [u8])
-    requires { ⌜ length (now dk) ≡ 2400 ⌝ }
+pub fn fit_hash(s: Sizes, dk: &mut [u8])
+    requires { ⌜ Bounded s × (length (now dk) ≡ s .dk) ⌝ }
 {
-    let mut h = [0u8; 32];
-    hash_h(&dk[1152..2336], &mut h);
-    copy_bytes(&h, &mut dk[2336..2368]);
+    let mut hash = [0u8; 32];
+    let a = s.vector;
+    let h = a + s.ek;
+    let z = h + 32;
+    hash_h(&dk[a..h], &mut hash);
+    copy_bytes(&hash, &mut dk[h..z]);
 }
 
-// Algorithm 14 at ML-KEM-768, with the matrix A-hat.
-fn encrypt_with(r: &[u8], ek: &[u8], m: &[u8], ct: &mut [u8])
-    requires { ⌜
-        (length (now r) ≡ 32) × (length (now ek) ≡ 1184) × (length (now m) ≡ 32) × (length (now ct) ≡ 1088)
-        ⌝ }
+// Algorithm 14; a becomes the matrix A-hat.
+fn encrypt_in(p: Parameters, r: &[u8], ek: &[u8], m: &[u8], a: &mut [u16], ct: &mut [u8])
+    requires { ⌜ EncryptLent p (now r) (now ek) (now m) (now ct) × (length (now a) ≡ 256 * p .k * p .k) ⌝ }
 {
-    let mut a = [0u16; 2304];
-    if expand(&ek[1152..], 3, &mut a) {
-        encrypt(of_rank(3), &a, ek, m, r, ct);
+    let n = vector_bytes(p);
+    if expand(&ek[n..], p.k, a) {
+        encrypt(p, a, ek, m, r, ct);
     }
 }
 
+fn encrypt_with(p: Parameters, r: &[u8], ek: &[u8], m: &[u8], ct: &mut [u8])
+    requires { ⌜ EncryptLent p (now r) (now ek) (now m) (now ct) ⌝ }
+{
+    let mut a = [0u16; 4096];
+    let n = 256 * p.k * p.k;
+    encrypt_in(p, r, ek, m, &mut a[0..n], ct);
+}
+
 // Algorithm 17's ciphertext for a public key that the modulus check (section 7.2) refuses.
-fn encapsulate(ek: &[u8], m: &[u8], ct: &mut [u8])
-    requires { ⌜ (length (now ek) ≡ 1184) × (length (now m) ≡ 32) × (length (now ct) ≡ 1088) ⌝ }
+fn encapsulate(p: Parameters, ek: &[u8], m: &[u8], ct: &mut [u8])
+    requires { ⌜ Fits p × (length (now ek) ≡ ekBytes p) × (length (now m) ≡ 32) × (length (now ct) ≡ ctBytes p) ⌝ }
 {
     let mut h = [0u8; 32];
     let mut g = [0u8; 64];
     hash_h(ek, &mut h);
     hash_g(m, &h, &mut g);
-    encrypt_with(&g[32..], ek, m, ct);
+    encrypt_with(p, &g[32..], ek, m, ct);
+}
+
+// The same, where key and ciphertext have the lengths of the rank's set.
+fn encapsulate_by(rank: u32, ek: &[u8], m: &[u8], ct: &mut [u8])
+    requires { ⌜ length (now m) ≡ 32 ⌝ }
+{
+    let p = of_rank(rank);
+    if ek.len() != ek_bytes(p) {
+        return;
+    }
+    if ct.len() != ct_bytes(p) {
+        return;
+    }
+    encapsulate(p, ek, m, ct);
 }
 
 // The turn's ciphertext is then for the key as it is.
-fn raise_public(edged: bool, turn: usize, dk: &mut [u8], ct: &mut [u8])
-    requires { ⌜ (length (now dk) ≡ 2400) × (length (now ct) ≡ 1088) ⌝ }
+fn raise_public(s: Sizes, edged: bool, turn: usize, dk: &mut [u8], ct: &mut [u8])
+    requires { ⌜ Bounded s × (length (now dk) ≡ s .dk) ⌝ }
 {
     let mut m = [0u8; 32];
-    message(turn, &mut m);
-    raise_part(edged, &mut dk[1152..2304]);
-    fit_hash(dk);
-    encapsulate(&dk[1152..2336], &m, ct);
+    let a = s.vector;
+    let rho = a + s.vector;
+    let h = a + s.ek;
+    message(s, turn, &mut m);
+    raise_part(edged, s.coefficients, &mut dk[a..rho]);
+    fit_hash(s, dk);
+    encapsulate_by(s.rank, &dk[a..h], &m, ct);
 }
 
-fn raise_secret(edged: bool, dk: &mut [u8])
-    requires { ⌜ length (now dk) ≡ 2400 ⌝ }
+fn raise_secret(s: Sizes, edged: bool, dk: &mut [u8])
+    requires { ⌜ Bounded s × (length (now dk) ≡ s .dk) ⌝ }
 {
-    raise_part(edged, &mut dk[0..1152]);
+    let n = s.vector;
+    raise_part(edged, s.coefficients, &mut dk[0..n]);
 }
 
-fn raise_both(edged: bool, turn: usize, dk: &mut [u8], ct: &mut [u8])
-    requires { ⌜ (length (now dk) ≡ 2400) × (length (now ct) ≡ 1088) ⌝ }
+fn raise_both(s: Sizes, edged: bool, turn: usize, dk: &mut [u8], ct: &mut [u8])
+    requires { ⌜ Bounded s × (length (now dk) ≡ s .dk) ⌝ }
 {
-    raise_secret(edged, dk);
-    raise_public(edged, turn, dk, ct);
+    raise_secret(s, edged, dk);
+    raise_public(s, edged, turn, dk, ct);
 }
 
-pub fn raise_key(raised: Raised, turn: usize, dk: &mut [u8], ct: &mut [u8])
-    requires { ⌜ (length (now dk) ≡ 2400) × (length (now ct) ≡ 1088) ⌝ }
+// The parts of the turn's key are raised, and its ciphertext is made anew where the public part is.
+pub fn raise_key(s: Sizes, raised: Raised, turn: usize, dk: &mut [u8], ct: &mut [u8])
+    requires { ⌜ Bounded s × (length (now dk) ≡ s .dk) ⌝ }
 {
     match raised {
         Raised::None => {}
-        Raised::Secret => raise_secret(false, dk),
-        Raised::Public => raise_public(false, turn, dk, ct),
-        Raised::Both => raise_both(false, turn, dk, ct),
-        Raised::Edged => raise_both(true, turn, dk, ct),
+        Raised::Secret => raise_secret(s, false, dk),
+        Raised::Public => raise_public(s, false, turn, dk, ct),
+        Raised::Both => raise_both(s, false, turn, dk, ct),
+        Raised::Edged => raise_both(s, true, turn, dk, ct),
     }
 }

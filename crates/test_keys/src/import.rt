@@ -1,9 +1,13 @@
 // Import, its buffers holding 238 in each byte before.
 ghost use mathlib.Core.Path.{_≡_};
 ghost use lib.ListN.{length};
+ghost use Rattle.buffers.specs.Split.{Sized, splitLength};
+ghost use Rattle.test_support.specs.Sizes.{Bounded};
 use buffers::split_key::pack;
+use buffers::split_key::split_bytes;
 use refusals::number;
 use test_support::bytes::unchanged;
+use test_support::sizes::Sizes;
 
 fn mask(i: usize) -> u16 {
     ((3328 + 1300 * (i % 3329)) % 3329) as u16
@@ -27,47 +31,96 @@ pub fn fixed_words() -> [u64; 4]
     ]
 }
 
-// The number of the answer.
-fn import_into(dk: &[u8], mask_coeffs: &[u16], mask_words: &[u64], split: &mut [u8]) -> u64
-    requires { ⌜ length (now split) ≡ 4352 ⌝ }
+// The number of the answer. The split key goes to a string of bytes.
+fn import_packed(
+    rank: u32,
+    k: usize,
+    dk: &[u8],
+    mask_coeffs: &[u16],
+    mask_words: &[u64],
+    s0: &mut [u16],
+    s1: &mut [u16],
+    z0: &mut [u64],
+    z1: &mut [u64],
+    public: &mut [u8],
+    split: &mut [u8],
+) -> u64
+    requires { ⌜ Sized k (now s0) (now s1) (now z0) (now z1) (now public) × (length (now split) ≡ splitLength k) ⌝ }
 {
-    let mut s0 = [0xeeeeu16; 768];
-    let mut s1 = [0xeeeeu16; 768];
+    let answer = split_key::import(rank, dk, mask_coeffs, mask_words, s0, s1, z0, z1, public);
+    pack(k, s0, s1, z0, z1, public, split);
+    number(answer)
+}
+
+fn import_into(
+    s: Sizes,
+    dk: &[u8],
+    mask_coeffs: &[u16],
+    mask_words: &[u64],
+    split: &mut [u8],
+) -> u64
+    requires { ⌜ Bounded s × (length (now split) ≡ splitLength (s .rank)) ⌝ }
+{
+    let mut s0 = [0xeeeeu16; 1024];
+    let mut s1 = [0xeeeeu16; 1024];
     let mut z0 = [0xeeee_eeee_eeee_eeeeu64; 4];
     let mut z1 = [0xeeee_eeee_eeee_eeeeu64; 4];
-    let mut public = [0xeeu8; 1216];
-    let n = number(split_key::import(
+    let mut public = [0xeeu8; 1600];
+    let n = s.coefficients;
+    let m = s.public;
+    import_packed(
+        s.rank,
+        s.rank as usize,
         dk,
         mask_coeffs,
         mask_words,
-        &mut s0,
-        &mut s1,
+        &mut s0[0..n],
+        &mut s1[0..n],
         &mut z0,
         &mut z1,
-        &mut public,
-    ));
-    pack(3, &s0, &s1, &z0, &z1, &public, split);
-    n
+        &mut public[0..m],
+        split,
+    )
 }
 
 // The number of the answer, or 99 where a refused call changed a buffer. Where the call is carried out, out is SHA3-256
 // of the split key.
-pub fn import(dk: &[u8], mask_coeffs: &[u16], mask_words: &[u64], out: &mut [u8]) -> u64 {
-    let mut split = [0u8; 4352];
-    let n = import_into(dk, mask_coeffs, mask_words, &mut split);
+fn import_split(
+    s: Sizes,
+    dk: &[u8],
+    mask_coeffs: &[u16],
+    mask_words: &[u64],
+    split: &mut [u8],
+    out: &mut [u8],
+) -> u64
+    requires { ⌜ Bounded s × (length (now split) ≡ splitLength (s .rank)) ⌝ }
+{
+    let n = import_into(s, dk, mask_coeffs, mask_words, split);
     if n == 0 {
-        fips202::sha3_256(&split, out);
+        fips202::sha3_256(split, out);
         return 0;
     }
-    if unchanged(&split) {
+    if unchanged(split) {
         return n;
     }
     99
 }
 
-pub fn import_masked(dk: &[u8], out: &mut [u8]) -> u64 {
-    let mut mask_coeffs = [0u16; 768];
+pub fn import(s: Sizes, dk: &[u8], mask_coeffs: &[u16], mask_words: &[u64], out: &mut [u8]) -> u64
+    requires { ⌜ Bounded s ⌝ }
+{
+    let mut split = [0u8; 5760];
+    let e = split_bytes(s.rank as usize);
+    import_split(s, dk, mask_coeffs, mask_words, &mut split[0..e], out)
+}
+
+// Under fixed masks.
+pub fn import_masked(s: Sizes, dk: &[u8], out: &mut [u8]) -> u64
+    requires { ⌜ Bounded s ⌝ }
+{
+    let mut mask_coeffs = [0u16; 1024];
     let mask_words = fixed_words();
+    let n = s.coefficients;
     fixed_coefficients(&mut mask_coeffs);
-    import(dk, &mask_coeffs, &mask_words, out)
+    import(s, dk, &mask_coeffs[0..n], &mask_words, out)
 }

@@ -1,53 +1,72 @@
-// The draws of a hundred turns are SHAKE128 of the empty string, 1,184 bytes a turn: d, z, m and a random ciphertext.
+// The draws of a hundred turns are SHAKE128 of the empty string, 96 bytes a turn and as many as a ciphertext has: d, z,
+// m and a random ciphertext.
 ghost use mathlib.Core.Path.{_≡_};
-ghost use Prim.Native.Nat.{_≤_};
+ghost use Prim.Native.Nat.{_+_, _≤_};
 ghost use lib.ListN.{length};
+ghost use Rattle.test_support.specs.Sizes.{Bounded};
 use slices::copy_bytes;
+use test_support::sizes::Sizes;
 
 // The last turn of those that the draws are for.
 fn squeeze(draws: &mut [u8], out: &mut [u8])
-    requires { ⌜ (1184 ≤ length (now draws)) × (length (now out) ≡ 1184) ⌝ }
+    requires { ⌜ length (now out) ≤ length (now draws) ⌝ }
 {
     let empty = [0u8; 0];
     fips202::shake128(&empty, draws);
-    let a = draws.len() - 1184;
+    let a = draws.len() - out.len();
     copy_bytes(&draws[a..], out);
 }
 
+// Turns of out's length.
 fn draw(turn: usize, out: &mut [u8])
-    requires { ⌜ length (now out) ≡ 1184 ⌝ }
+    requires { ⌜ length (now out) ≤ 1664 ⌝ }
 {
-    let mut draws = [0u8; 118400];
-    let e = 1184 * (turn % 100 + 1);
-    squeeze(&mut draws[..e], out);
+    let mut draws = [0u8; 166400];
+    let e = out.len() * (turn % 100 + 1);
+    squeeze(&mut draws[0..e], out);
 }
 
-fn make_drawn(drawn: &[u8], ek: &mut [u8], dk: &mut [u8], ct: &mut [u8], k: &mut [u8])
-    requires { ⌜ length (now drawn) ≡ 1184 ⌝ }
+fn take_in(turn: usize, at: usize, drawn: &mut [u8], out: &mut [u8])
+    requires { ⌜ (length (now drawn) ≤ 1664) × (at + length (now out) ≤ length (now drawn)) ⌝ }
 {
-    mlkem::keygen(&drawn[0..32], &drawn[32..64], ek, dk);
-    mlkem::encaps(ek, &drawn[64..96], ct, k);
+    draw(turn, drawn);
+    let e = at + out.len();
+    copy_bytes(&drawn[at..e], out);
+}
+
+// Of the turn's draws those from byte `at` on.
+fn take(s: Sizes, turn: usize, at: usize, out: &mut [u8])
+    requires { ⌜ Bounded s × (at + length (now out) ≤ 96 + s .ct) ⌝ }
+{
+    let mut drawn = [0u8; 1664];
+    let n = 96 + s.ct;
+    take_in(turn, at, &mut drawn[0..n], out);
+}
+
+fn make_from(rank: u32, seeds: &[u8], ek: &mut [u8], dk: &mut [u8], ct: &mut [u8], k: &mut [u8])
+    requires { ⌜ length (now seeds) ≡ 96 ⌝ }
+{
+    mlkem::keygen(rank, &seeds[0..32], &seeds[32..64], ek, dk);
+    mlkem::encaps(rank, ek, &seeds[64..96], ct, k);
 }
 
 // The turn's keys, ciphertext and secret.
-pub fn make(turn: usize, ek: &mut [u8], dk: &mut [u8], ct: &mut [u8], k: &mut [u8]) {
-    let mut drawn = [0u8; 1184];
-    draw(turn, &mut drawn);
-    make_drawn(&drawn, ek, dk, ct, k);
+pub fn make(s: Sizes, turn: usize, ek: &mut [u8], dk: &mut [u8], ct: &mut [u8], k: &mut [u8])
+    requires { ⌜ Bounded s ⌝ }
+{
+    let mut seeds = [0u8; 96];
+    take(s, turn, 0, &mut seeds);
+    make_from(s.rank, &seeds, ek, dk, ct, k);
 }
 
-pub fn message(turn: usize, m: &mut [u8])
-    requires { ⌜ length (now m) ≡ 32 ⌝ }
+pub fn message(s: Sizes, turn: usize, m: &mut [u8])
+    requires { ⌜ Bounded s × (length (now m) ≡ 32) ⌝ }
 {
-    let mut drawn = [0u8; 1184];
-    draw(turn, &mut drawn);
-    copy_bytes(&drawn[64..96], m);
+    take(s, turn, 64, m);
 }
 
-pub fn random_ciphertext(turn: usize, ct: &mut [u8])
-    requires { ⌜ length (now ct) ≡ 1088 ⌝ }
+pub fn random_ciphertext(s: Sizes, turn: usize, ct: &mut [u8])
+    requires { ⌜ Bounded s × (length (now ct) ≡ s .ct) ⌝ }
 {
-    let mut drawn = [0u8; 1184];
-    draw(turn, &mut drawn);
-    copy_bytes(&drawn[96..1184], ct);
+    take(s, turn, 96, ct);
 }

@@ -1,8 +1,9 @@
-// NIST's published vectors for ML-KEM-768 (ACVP), whose decapsulations are masked. It reads what tools/nist_vectors
-// writes from the published files, and prints how many of each file agree.
+// NIST's published vectors for ML-KEM's three parameter sets (ACVP), whose decapsulations are masked. It reads what
+// tools/nist_vectors writes from the published files, and prints how many of each file agree.
 ghost use mathlib.Core.Path.{_≡_};
-ghost use Prim.Native.Nat.{_≤_};
+ghost use Prim.Native.Nat.{_+_, _≤_};
 ghost use lib.ListN.{length};
+ghost use Rattle.test_support.specs.Sizes.{Bounded};
 use masked::decaps;
 use refusals::conditions::same;
 use refusals::number;
@@ -14,6 +15,9 @@ use test_records::fill;
 use test_records::finish;
 use test_records::open;
 use test_support::masks::Masks;
+use test_support::sizes::Sizes;
+use test_support::sizes::of_rank;
+use test_support::sizes::print_name;
 
 mod masked; // masked decapsulation under a key as bytes
 
@@ -23,96 +27,169 @@ enum Function {
     Decapsulation(Masks),
 }
 
+// ---- the calls, held to what is published
+
+fn keygen_gives(
+    rank: u32,
+    seeds: &[u8],
+    ek: &[u8],
+    dk: &[u8],
+    made_ek: &mut [u8],
+    made_dk: &mut [u8],
+) -> bool
+    requires { ⌜ (length (now seeds) ≡ 64)
+        × (length (now «made_ek») ≡ length (now ek)) × (length (now «made_dk») ≡ length (now dk)) ⌝ }
+{
+    if number(mlkem::keygen(rank, &seeds[0..32], &seeds[32..64], made_ek, made_dk)) != 0 {
+        return false;
+    }
+    if !same(made_ek, ek) {
+        return false;
+    }
+    same(made_dk, dk)
+}
+
+fn encaps_gives(rank: u32, ek: &[u8], m: &[u8], ct: &[u8], k: &[u8], made_ct: &mut [u8]) -> bool
+    requires { ⌜ (length (now «made_ct») ≡ length (now ct)) × (length (now k) ≡ 32) ⌝ }
+{
+    let mut made_k = [0u8; 32];
+    if number(mlkem::encaps(rank, ek, m, made_ct, &mut made_k)) != 0 {
+        return false;
+    }
+    if !same(made_ct, ct) {
+        return false;
+    }
+    same(&made_k, k)
+}
+
 // ---- a record's fields, without its parameter set
 
 // d, z, ek, dk.
-fn keygen_agrees(fields: &[u8]) -> bool
-    requires { ⌜ length (now fields) ≡ 3648 ⌝ }
+fn keygen_agrees(s: Sizes, fields: &[u8]) -> bool
+    requires { ⌜ Bounded s × (length (now fields) ≡ 64 + s .ek + s .dk) ⌝ }
 {
-    let mut ek = [0u8; 1184];
-    let mut dk = [0u8; 2400];
-    if number(mlkem::keygen(&fields[0..32], &fields[32..64], &mut ek, &mut dk)) != 0 {
-        return false;
-    }
-    if !same(&ek, &fields[64..1248]) {
-        return false;
-    }
-    same(&dk, &fields[1248..3648])
+    let mut ek = [0u8; 1568];
+    let mut dk = [0u8; 3168];
+    let a = s.ek;
+    let b = s.dk;
+    let e = 64 + a;
+    keygen_gives(
+        s.rank,
+        &fields[0..64],
+        &fields[64..e],
+        &fields[e..],
+        &mut ek[0..a],
+        &mut dk[0..b],
+    )
 }
 
 // ek, m, c, k.
-fn encaps_agrees(fields: &[u8]) -> bool
-    requires { ⌜ length (now fields) ≡ 2336 ⌝ }
+fn encaps_agrees(s: Sizes, fields: &[u8]) -> bool
+    requires { ⌜ Bounded s × (length (now fields) ≡ s .ek + s .ct + 64) ⌝ }
 {
-    let mut ct = [0u8; 1088];
-    let mut k = [0u8; 32];
-    if number(mlkem::encaps(&fields[0..1184], &fields[1184..1216], &mut ct, &mut k)) != 0 {
-        return false;
-    }
-    if !same(&ct, &fields[1216..2304]) {
-        return false;
-    }
-    same(&k, &fields[2304..2336])
+    let mut ct = [0u8; 1568];
+    let n = s.ct;
+    let a = s.ek;
+    let b = a + 32;
+    let c = b + n;
+    encaps_gives(
+        s.rank,
+        &fields[0..a],
+        &fields[a..b],
+        &fields[b..c],
+        &fields[c..],
+        &mut ct[0..n],
+    )
 }
 
 // c, k. The key is split under drawn masks.
-fn decaps_agrees(dk: &[u8], strip: Masks, fields: &[u8]) -> bool
-    requires { ⌜ length (now fields) ≡ 1120 ⌝ }
+fn decaps_agrees(s: Sizes, dk: &[u8], strip: Masks, fields: &[u8]) -> bool
+    requires { ⌜ Bounded s × (length (now fields) ≡ s .ct + 32) ⌝ }
 {
     let mut k = [0u8; 32];
-    if decaps(dk, Masks::Drawn(1), &fields[0..1088], strip, &mut k) != 0 {
+    let n = s.ct;
+    if decaps(s, dk, Masks::Drawn(1), &fields[0..n], strip, &mut k) != 0 {
         return false;
     }
-    same(&k, &fields[1088..1120])
+    same(&k, &fields[n..])
 }
 
 // ---- records
 
-fn take_keygen(fd: i32) -> Found {
-    let mut fields = [0u8; 3648];
-    if !fill(fd, &mut fields) {
+fn take_keygen_in(s: Sizes, fd: i32, fields: &mut [u8]) -> Found
+    requires { ⌜ Bounded s × (length (now fields) ≡ 64 + s .ek + s .dk) ⌝ }
+{
+    if !fill(fd, fields) {
         return Found::Damaged;
     }
-    agrees(keygen_agrees(&fields))
+    agrees(keygen_agrees(s, fields))
 }
 
-fn take_encaps(fd: i32) -> Found {
-    let mut fields = [0u8; 2336];
-    if !fill(fd, &mut fields) {
+fn take_keygen(s: Sizes, fd: i32) -> Found
+    requires { ⌜ Bounded s ⌝ }
+{
+    let mut fields = [0u8; 4800];
+    let e = 64 + s.ek + s.dk;
+    take_keygen_in(s, fd, &mut fields[0..e])
+}
+
+fn take_encaps_in(s: Sizes, fd: i32, fields: &mut [u8]) -> Found
+    requires { ⌜ Bounded s × (length (now fields) ≡ s .ek + s .ct + 64) ⌝ }
+{
+    if !fill(fd, fields) {
         return Found::Damaged;
     }
-    agrees(encaps_agrees(&fields))
+    agrees(encaps_agrees(s, fields))
 }
 
-fn take_decaps(dk: &[u8], strip: Masks, fd: i32) -> Found {
-    let mut fields = [0u8; 1120];
-    if !fill(fd, &mut fields) {
+fn take_encaps(s: Sizes, fd: i32) -> Found
+    requires { ⌜ Bounded s ⌝ }
+{
+    let mut fields = [0u8; 3200];
+    let e = s.ek + s.ct + 64;
+    take_encaps_in(s, fd, &mut fields[0..e])
+}
+
+fn take_decaps_in(s: Sizes, dk: &[u8], strip: Masks, fd: i32, fields: &mut [u8]) -> Found
+    requires { ⌜ Bounded s × (length (now fields) ≡ s .ct + 32) ⌝ }
+{
+    if !fill(fd, fields) {
         return Found::Damaged;
     }
-    agrees(decaps_agrees(dk, strip, &fields))
+    agrees(decaps_agrees(s, dk, strip, fields))
 }
 
-// The parameter set is the one that there is.
-fn take(function: Function, dk: &[u8], fd: i32) -> Found {
-    if test_records::number(fd) != 768 {
+fn take_decaps(s: Sizes, dk: &[u8], strip: Masks, fd: i32) -> Found
+    requires { ⌜ Bounded s ⌝ }
+{
+    let mut fields = [0u8; 1600];
+    let e = s.ct + 32;
+    take_decaps_in(s, dk, strip, fd, &mut fields[0..e])
+}
+
+// A record begins with its parameter set, 512, 768 or 1024.
+fn take(s: Sizes, function: Function, dk: &[u8], fd: i32) -> Found
+    requires { ⌜ Bounded s ⌝ }
+{
+    if test_records::number(fd) != s.coefficients {
         return Found::Damaged;
     }
     match function {
-        Function::KeyGen => take_keygen(fd),
-        Function::Encapsulation => take_encaps(fd),
-        Function::Decapsulation(strip) => take_decaps(dk, strip, fd),
+        Function::KeyGen => take_keygen(s, fd),
+        Function::Encapsulation => take_encaps(s, fd),
+        Function::Decapsulation(strip) => take_decaps(s, dk, strip, fd),
     }
 }
 
-fn take_all(function: Function, dk: &[u8], fd: i32, count: usize) -> Tally
-    requires { ⌜ count ≤ 65536 ⌝ }
+fn take_all(s: Sizes, function: Function, dk: &[u8], fd: i32, count: usize) -> Tally
+    requires { ⌜ Bounded s × (count ≤ 65536) ⌝ }
 {
     let mut tally = Tally {
         agreed: 0,
         damaged: false,
     };
     for _ in 0..count {
-        tally = add(tally, take(function, dk, fd));
+        tally = add(tally, take(s, function, dk, fd));
     }
     tally
 }
@@ -128,8 +205,8 @@ fn take_key(function: Function, fd: i32, dk: &mut [u8]) -> bool {
     }
 }
 
-fn take_file(function: Function, fd: i32, count: usize, dk: &mut [u8]) -> Tally
-    requires { ⌜ count ≤ 65536 ⌝ }
+fn take_file(s: Sizes, function: Function, fd: i32, count: usize, dk: &mut [u8]) -> Tally
+    requires { ⌜ Bounded s × (count ≤ 65536) ⌝ }
 {
     if !take_key(function, fd, dk) {
         return Tally {
@@ -137,46 +214,83 @@ fn take_file(function: Function, fd: i32, count: usize, dk: &mut [u8]) -> Tally
             damaged: true,
         };
     }
-    take_all(function, dk, fd, count)
+    take_all(s, function, dk, fd, count)
 }
 
-fn line(name: &[u8], function: Function, path: &[u8]) {
-    let fd = open(name, path);
+// Of three files the one of the rank's set.
+fn open_one(rank: u32, name: &[u8], of_512: &[u8], of_768: &[u8], of_1024: &[u8]) -> i32 {
+    if rank == 2 {
+        return open(name, of_512);
+    }
+    if rank == 3 {
+        return open(name, of_768);
+    }
+    open(name, of_1024)
+}
+
+fn open_file(rank: u32, function: Function, name: &[u8]) -> i32 {
+    match function {
+        Function::KeyGen => open_one(
+            rank,
+            name,
+            b"ML-KEM-512-keyGen",
+            b"ML-KEM-768-keyGen",
+            b"ML-KEM-1024-keyGen",
+        ),
+        Function::Encapsulation => open_one(
+            rank,
+            name,
+            b"ML-KEM-512-encapsulation",
+            b"ML-KEM-768-encapsulation",
+            b"ML-KEM-1024-encapsulation",
+        ),
+        Function::Decapsulation(_) => open_one(
+            rank,
+            name,
+            b"ML-KEM-512-decapsulation",
+            b"ML-KEM-768-decapsulation",
+            b"ML-KEM-1024-decapsulation",
+        ),
+    }
+}
+
+fn line(s: Sizes, function: Function, name: &[u8])
+    requires { ⌜ Bounded s ⌝ }
+{
+    print_name(s);
+    let fd = open_file(s.rank, function, name);
     if fd < 0 {
         return;
     }
     let count = test_records::number(fd);
-    let mut dk = [0u8; 2400];
-    finish(fd, count, take_file(function, fd, count, &mut dk));
+    let mut dk = [0u8; 3168];
+    let n = s.dk;
+    finish(fd, count, take_file(s, function, fd, count, &mut dk[0..n]));
+}
+
+fn set(rank: u32) {
+    let s = of_rank(rank);
+    line(s, Function::KeyGen, b", key making");
+    line(s, Function::Encapsulation, b", encapsulation");
+    line(
+        s,
+        Function::Decapsulation(Masks::Zero),
+        b", decapsulation, strip zero",
+    );
+    line(
+        s,
+        Function::Decapsulation(Masks::Full),
+        b", decapsulation, strip full",
+    );
+    line(
+        s,
+        Function::Decapsulation(Masks::Drawn(2)),
+        b", decapsulation, strip drawn",
+    );
 }
 
 fn main() {
-    line(
-        b"ML-KEM-768, key making",
-        Function::KeyGen,
-        b"ML-KEM-768-keyGen",
-    );
-    line(
-        b"ML-KEM-768, encapsulation",
-        Function::Encapsulation,
-        b"ML-KEM-768-encapsulation",
-    );
-    let zero = Function::Decapsulation(Masks::Zero);
-    line(
-        b"ML-KEM-768, decapsulation, strip zero",
-        zero,
-        b"ML-KEM-768-decapsulation",
-    );
-    let full = Function::Decapsulation(Masks::Full);
-    line(
-        b"ML-KEM-768, decapsulation, strip full",
-        full,
-        b"ML-KEM-768-decapsulation",
-    );
-    let drawn = Function::Decapsulation(Masks::Drawn(2));
-    line(
-        b"ML-KEM-768, decapsulation, strip drawn",
-        drawn,
-        b"ML-KEM-768-decapsulation",
-    );
+    for rank in 2..5 {
+        set(rank);
+    }
 }

@@ -1,76 +1,159 @@
 // Masked decapsulation of a ciphertext under a key as bytes. Split and strip are made from masks of a kind.
 ghost use mathlib.Core.Path.{_≡_};
+ghost use Prim.Native.Nat.{_≤_};
 ghost use lib.ListN.{length};
+ghost use Rattle.test_support.specs.Sizes.{Bounded};
 use buffers::little_endian::put_words;
 use buffers::values::xor_words;
 use refusals::number;
 use test_support::masks;
 use test_support::masks::Masks;
+use test_support::sizes::Sizes;
 
-// The number of import's answer.
+// The number of import's answer. The masks go to coeffs.
 fn import(
+    rank: u32,
     dk: &[u8],
     kind: Masks,
+    coeffs: &mut [u16],
     s0: &mut [u16],
     s1: &mut [u16],
     z0: &mut [u64],
     z1: &mut [u64],
     public: &mut [u8],
-) -> u64 {
-    let mut coeffs = [0u16; 768];
+) -> u64
+    requires { ⌜ length (now coeffs) ≤ 9472 ⌝ }
+{
     let mut words = [0u64; 4];
-    masks::coefficients(kind, b's', &mut coeffs);
+    masks::coefficients(kind, b's', coeffs);
     masks::words(kind, b'z', &mut words);
-    number(split_key::import(dk, &coeffs, &words, s0, s1, z0, z1, public))
+    number(split_key::import(rank, dk, coeffs, &words, s0, s1, z0, z1, public))
 }
 
-// The number of decapsulation's.
+// The number of decapsulation's. The strip goes to words and coeffs.
 fn decaps_split(
+    rank: u32,
     s0: &[u16],
     s1: &[u16],
     z0: &[u64],
     z1: &[u64],
     public: &[u8],
     ct: &[u8],
-    strip: Masks,
+    kind: Masks,
+    words: &mut [u64],
+    coeffs: &mut [u16],
     k0: &mut [u64],
     k1: &mut [u64],
-) -> u64 {
-    let mut words = [0u64; 11750];
-    let mut coeffs = [0u16; 7424];
-    masks::words(strip, b'w', &mut words);
-    masks::coefficients(strip, b'c', &mut coeffs);
-    number(decapsulation::decaps(s0, s1, z0, z1, public, ct, &words, &coeffs, k0, k1))
+) -> u64
+    requires { ⌜ (length (now words) ≤ 15192) × (length (now coeffs) ≤ 9472) ⌝ }
+{
+    masks::words(kind, b'w', words);
+    masks::coefficients(kind, b'c', coeffs);
+    number(decapsulation::decaps(rank, s0, s1, z0, z1, public, ct, words, coeffs, k0, k1))
 }
 
 // Import's where it isn't 0, else decapsulation's.
+fn decaps_in(
+    rank: u32,
+    dk: &[u8],
+    split: Masks,
+    ct: &[u8],
+    strip: Masks,
+    mask_coeffs: &mut [u16],
+    s0: &mut [u16],
+    s1: &mut [u16],
+    public: &mut [u8],
+    words: &mut [u64],
+    coeffs: &mut [u16],
+    k0: &mut [u64],
+    k1: &mut [u64],
+) -> u64
+    requires { ⌜ (length (now «mask_coeffs») ≤ 9472) × (length (now words) ≤ 15192) × (length (now coeffs) ≤ 9472) ⌝ }
+{
+    let mut z0 = [0u64; 4];
+    let mut z1 = [0u64; 4];
+    let n = import(
+        rank,
+        dk,
+        split,
+        mask_coeffs,
+        s0,
+        s1,
+        &mut z0,
+        &mut z1,
+        public,
+    );
+    if n != 0 {
+        return n;
+    }
+    decaps_split(
+        rank,
+        s0,
+        s1,
+        &z0,
+        &z1,
+        public,
+        ct,
+        strip,
+        words,
+        coeffs,
+        k0,
+        k1,
+    )
+}
+
 fn decaps_shares(
+    s: Sizes,
     dk: &[u8],
     split: Masks,
     ct: &[u8],
     strip: Masks,
     k0: &mut [u64],
     k1: &mut [u64],
-) -> u64 {
-    let mut s0 = [0u16; 768];
-    let mut s1 = [0u16; 768];
-    let mut z0 = [0u64; 4];
-    let mut z1 = [0u64; 4];
-    let mut public = [0u8; 1216];
-    let n = import(dk, split, &mut s0, &mut s1, &mut z0, &mut z1, &mut public);
-    if n != 0 {
-        return n;
-    }
-    decaps_split(&s0, &s1, &z0, &z1, &public, ct, strip, k0, k1)
+) -> u64
+    requires { ⌜ Bounded s ⌝ }
+{
+    let mut mask_coeffs = [0u16; 1024];
+    let mut s0 = [0u16; 1024];
+    let mut s1 = [0u16; 1024];
+    let mut public = [0u8; 1600];
+    let mut words = [0u64; 15192];
+    let mut coeffs = [0u16; 9472];
+    let n = s.coefficients;
+    let a = s.public;
+    let b = s.words;
+    let c = s.coeffs;
+    decaps_in(
+        s.rank,
+        dk,
+        split,
+        ct,
+        strip,
+        &mut mask_coeffs[0..n],
+        &mut s0[0..n],
+        &mut s1[0..n],
+        &mut public[0..a],
+        &mut words[0..b],
+        &mut coeffs[0..c],
+        k0,
+        k1,
+    )
 }
 
 // The same; where it is 0, out is what the shares of K stand for.
-pub(crate) fn decaps(dk: &[u8], split: Masks, ct: &[u8], strip: Masks, out: &mut [u8]) -> u64
-    requires { ⌜ length (now out) ≡ 32 ⌝ }
+pub(crate) fn decaps(
+    s: Sizes,
+    dk: &[u8],
+    split: Masks,
+    ct: &[u8],
+    strip: Masks,
+    out: &mut [u8],
+) -> u64
+    requires { ⌜ Bounded s × (length (now out) ≡ 32) ⌝ }
 {
     let mut k0 = [0u64; 4];
     let mut k1 = [0u64; 4];
-    let n = decaps_shares(dk, split, ct, strip, &mut k0, &mut k1);
+    let n = decaps_shares(s, dk, split, ct, strip, &mut k0, &mut k1);
     let mut k = [0u64; 4];
     xor_words(&k0, &k1, &mut k);
     put_words(&k, out);

@@ -1,5 +1,7 @@
-// A lent buffer that hasn't its length.
-ghost use Prim.Native.Nat.{_+_, _<_, _≤_};
+// Lengths of lent buffers, of which one or all aren't what they should be.
+ghost use Prim.Native.Nat.{_<_, _≤_};
+use crate::sizes::of_rank;
+use crate::sizes::print_name;
 use text::print;
 use text::print_decimal;
 
@@ -10,45 +12,95 @@ pub enum Edge {
     Long,
 }
 
-// Of a call's lent buffers, number `at` is at the edge, and the others have their lengths.
-pub struct Lengths {
-    pub at: usize,
-    pub edge: Edge,
+// Buffers of a call.
+pub enum At {
+    Buffer(usize),
+    All,
 }
 
-pub fn exact() -> Lengths {
+// The buffers at `at` are at the edge of their lengths in the set of rank `of`. The others have their lengths in the
+// call's set.
+pub struct Lengths {
+    pub at: At,
+    pub edge: Edge,
+    pub of: u32,
+}
+
+// Each buffer has its length in the set.
+pub fn exact(rank: u32) -> Lengths {
     Lengths {
-        at: 0,
+        at: At::All,
         edge: Edge::Exact,
+        of: rank,
     }
 }
 
-// The length of buffer i, which should be n.
-pub fn length_at(lengths: Lengths, i: usize, n: usize) -> usize
-    requires { ⌜ (0 < n) × (n < 20000) ⌝ }
-    ensures { λ r. ⌜ r ≤ n + 1 ⌝ }
+fn is_at(at: At, i: usize) -> bool {
+    match at {
+        At::Buffer(j) => i == j,
+        At::All => true,
+    }
+}
+
+// The length of buffer i, which should be n, and m in the set of rank `of`. The room is for one element more than
+// either.
+pub fn length_at(lengths: Lengths, i: usize, n: usize, m: usize, room: usize) -> usize
+    requires { ⌜ (n < room) × (0 < m) × (m < room) ⌝ }
+    ensures { λ r. ⌜ r ≤ room ⌝ }
 {
-    if lengths.at != i {
+    let at = lengths.at;
+    if !is_at(at, i) {
         return n;
     }
     let edge = lengths.edge;
     match edge {
-        Edge::Exact => n,
+        Edge::Exact => m,
         Edge::Empty => 0,
-        Edge::Short => n - 1,
-        Edge::Long => n + 1,
+        Edge::Short => m - 1,
+        Edge::Long => m + 1,
     }
+}
+
+fn print_at(at: At) {
+    match at {
+        At::Buffer(i) => {
+            print(b", buffer ");
+            print_decimal(i as u64);
+        }
+        At::All => print(b", all buffers"),
+    }
+}
+
+fn print_as(rank: u32) {
+    print(b" as in ");
+    print_name(of_rank(rank));
 }
 
 pub fn print_lengths(call: &[u8], lengths: Lengths) {
     print(call);
-    print(b", buffer ");
-    print_decimal(lengths.at as u64);
+    let at = lengths.at;
+    print_at(at);
     let edge = lengths.edge;
     match edge {
-        Edge::Exact => print(b" exact: "),
-        Edge::Empty => print(b" empty: "),
-        Edge::Short => print(b" short: "),
-        Edge::Long => print(b" long: "),
+        Edge::Exact => print_as(lengths.of),
+        Edge::Empty => print(b" empty"),
+        Edge::Short => print(b" short"),
+        Edge::Long => print(b" long"),
     }
+    print(b": ");
+}
+
+// A call for a rank, its buffers as they should be or all empty.
+pub fn print_rank(call: &[u8], rank: u32, lengths: Lengths) {
+    print(call);
+    print(b", rank ");
+    print_decimal(rank as u64);
+    let edge = lengths.edge;
+    match edge {
+        Edge::Exact => {}
+        Edge::Empty => print(b", buffers empty"),
+        Edge::Short => print(b", buffers short"),
+        Edge::Long => print(b", buffers long"),
+    }
+    print(b": ");
 }

@@ -5,3 +5,4 @@ pub mod edges; // lengths of lent buffers
 pub mod hashes; // hashes, printed
 pub mod masked_hashes; // the masked hashes on shares of a message
 pub mod masks; // masks of a kind
+pub mod sizes; // the three parameter sets in numbers

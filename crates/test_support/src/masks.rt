@@ -23,9 +23,9 @@ fn squeeze_words(seed: &[u8], stream: &mut [u8], out: &mut [u64])
 }
 
 fn draw_words(what: u8, n: u8, out: &mut [u64])
-    requires { ⌜ length (now out) ≤ 11750 ⌝ }
+    requires { ⌜ length (now out) ≤ 15192 ⌝ }
 {
-    let mut stream = [0u8; 94000];
+    let mut stream = [0u8; 121536];
     let seed = [what, n];
     let e = 8 * out.len();
     squeeze_words(&seed, &mut stream[..e], out);
@@ -40,9 +40,9 @@ fn squeeze_coefficients(seed: &[u8], stream: &mut [u8], out: &mut [u16])
 }
 
 fn draw_coefficients(what: u8, n: u8, out: &mut [u16])
-    requires { ⌜ length (now out) ≤ 7424 ⌝ }
+    requires { ⌜ length (now out) ≤ 9472 ⌝ }
 {
-    let mut stream = [0u8; 14848];
+    let mut stream = [0u8; 18944];
     let seed = [what, n];
     let e = 2 * out.len();
     squeeze_coefficients(&seed, &mut stream[..e], out);
@@ -50,7 +50,7 @@ fn draw_coefficients(what: u8, n: u8, out: &mut [u16])
 
 // The seed of a stream is the letter `what` and the number.
 pub fn words(masks: Masks, what: u8, out: &mut [u64])
-    requires { ⌜ length (now out) ≤ 11750 ⌝ }
+    requires { ⌜ length (now out) ≤ 15192 ⌝ }
 {
     match masks {
         Masks::Zero => set_words(0, out),
@@ -60,7 +60,7 @@ pub fn words(masks: Masks, what: u8, out: &mut [u64])
 }
 
 pub fn coefficients(masks: Masks, what: u8, out: &mut [u16])
-    requires { ⌜ length (now out) ≤ 7424 ⌝ }
+    requires { ⌜ length (now out) ≤ 9472 ⌝ }
 {
     match masks {
         Masks::Zero => set_coefficients(0, out),

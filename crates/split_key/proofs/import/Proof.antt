@@ -1,24 +1,12 @@
--- A wrong length is row 1, which comes first; else all lengths are exact, as import_sized asks.
-use mathlib.Core.Path.{_≡_, sym, ap₂, _∙_}
-use mathlib.Core.List.{List, [], _∷_}
-use Prim.Native.Nat.{ℕ, _+_, _*_}
+-- A rank that isn't accepted is refused before anything else; else the call is that with the rank's set.
+use mathlib.Core.Path.{refl}
 use borrow.Author.Needs.{needs}
-use borrow.Author.Tests.{not-true, not-false}
 use native.Mathlib.Omega.{arith}
-use lib.ListN.{length}
-use Rattle.parameters.specs.Fits.{Fits}
-use Rattle.parameters.specs.FitsLaws.{fits-ofRank}
-use Rattle.refusals.specs.declared.Answer.the-variants.{WrongLength}
-use Rattle.refusals.specs.Same.{same}
-use Rattle.refusals.specs.Refusals.{sized}
-use Rattle.refusals.specs.RefusalLaws.{refused, sized-exact}
-use Rattle.split_key.specs.SplitKey.{SplitKey, splitKey}
-use Rattle.split_key.specs.Import.{importLengths, importAnswer}
-use Rattle.split_key.specs.ImportAnswerLaws.{import-refused, imported-of}
+use Rattle.parameters.specs.ByRankLaws.{byRank-refused, byRank-called}
 use Rattle.split_key.proofs.import.Statement.{statement}
 use Rattle.split_key.proofs.import.Tie as tie
 
--- ---- places: the test, the lengths, the set and the start, from the end
+-- ---- places: the call and the set
 
 abbrev returned : tie.After-slice-known10 → tie.After-z1
 returned c = c .before .before .before
@@ -29,97 +17,36 @@ returned-z c = c .before .before .before
 abbrev returned-s : tie.After-slice-known7 → tie.After-s0
 returned-s c = c .before .before .before
 
-abbrev lent : tie.After-import-sized-arg5 → tie.After-import-sized-arg2
+abbrev called : tie.After-slice-known10 → tie.After-import-at
+called c = returned-s (returned-z (returned c)) .before
+
+abbrev lent : tie.After-import-at-arg5 → tie.After-import-at-arg2
 lent c = c .before .before .before
 
-abbrev tested : tie.After-import-sized-arg5 → tie.Else1
-tested c = lent c .before .before
-
-abbrev counted : tie.After-exact → tie.After-dk-bytes
-counted c = c .before .before .before
-
-abbrev chosen : tie.After-exact → tie.After-of-rank
-chosen c = counted c .before .before .before
-
-abbrev known : tie.After-of-rank → tie.After-slice-known3
-known c = c .before .before .before
-
-abbrev shared : tie.After-slice-known3 → tie.After-shared-slice-known3
-shared c = c .before .before .before
-
-abbrev start : tie.After-exact → tie.Start
-start c = shared (known (chosen c)) .before .before .before
-
--- ---- facts
-
-fits : (c : tie.After-of-rank) → Fits (c .of-rank .result)
-fits c = rw (c .of-rank .ensures) (fits-ofRank 3)
-
--- the lengths of the lent buffers
-abbrev has : tie.Start → List ℕ
-has c =
-    let s = c .args in
-    length (s .dk .now) ∷ length (s .mask-coeffs .now) ∷ length (s .mask-words .now) ∷ length (s .s0 .now)
-    ∷ length (s .s1 .now) ∷ length (s .z0 .now) ∷ length (s .z1 .now) ∷ length (s .public .now) ∷ []
-
-abbrev key : tie.Start → SplitKey
-key c =
-    let s = c .args in
-    splitKey (s .s0 .now) (s .s1 .now) (s .z0 .now) (s .z1 .now) (s .public .now)
-
-row1 : (c : tie.After-exact)
-    → (let s = start c .args in
-    let p = chosen c .of-rank .result in
-    sized (importLengths p (s .dk .now) (s .mask-coeffs .now) (s .mask-words .now) (key (start c))) ≡ c .exact .result)
-unfolding sized same
-row1 c =
-    let n = 256 * chosen c .of-rank .result .k in
-    let dk = counted c .dk-bytes .ensures in
-    let ek = counted c .before .ek-bytes .ensures in
-    sym
-    (c .exact .ensures
-    ∙ ap₂ (λ (a b : ℕ). same (has (start c)) (a ∷ n ∷ 4 ∷ n ∷ n ∷ 4 ∷ 4 ∷ (b + 32) ∷ [])) dk ek)
+abbrev chosen : tie.After-import-at-arg5 → tie.After-of-rank
+chosen c = lent c .before .before
 
 returns : tie.Need-returns
-unfolding importAnswer
-returns c =
-    let set = chosen (c .before) .of-rank in
-    let wrong = refused WrongLength _ (row1 (c .before) ∙ not-true _ (c .if1 .taken)) in
-    imported-of (set .ensures) (import-refused (set .result) WrongLength (omega arith) _ _ _ _ wrong)
+returns c = byRank-refused _ (c .before .is-rank .ensures) (c .if1 .taken) refl refl
 
-import-sized-requires : tie.Need-import-sized-requires
-import-sized-requires c κs =
-    let x = tested c .before in
-    let e = sized-exact _ (row1 x ∙ not-false _ (tested c .if1 .left)) in
-    let k = e .1 .1 .1 in (
-      fits (chosen x),
-      record {
-        dk = e .0;
-        maskCoeffs = e .1 .0;
-        maskWords = e .1 .1 .0;
-        key = record { s0 = k .0; s1 = k .1 .0; z0 = k .1 .1 .0; z1 = k .1 .1 .1 .0; public = k .1 .1 .1 .1 .0 };
-      },
-    )
+import-at-requires : tie.Need-import-at-requires
+import-at-requires c κs = chosen c .of-rank .ensures .1
 
 returns-2 : tie.Need-returns-2
 returns-2 c =
-    let s = returned-s (returned-z (returned c)) .before in
-    imported-of (chosen (tested (s .before) .before) .of-rank .ensures) (s .import-sized .ensures)
+    let set = chosen (called c .before) in
+    let test = set .before in
+    byRank-called _ (test .before .is-rank .ensures) (test .if1 .left) (set .of-rank .ensures .0)
+    (called c .import-at .ensures)
 
 pub import-spec : {M : Type 1} → statement M
 import-spec =
     tie.close
     (tie.spec
     (λ c κs. search needs)
-    (λ c. record { fits = omega (arith, fits (c .before) .rank .most) })
-    (λ c κs. fits (c .before))
-    (λ c. omega arith)
-    (λ c κs. fits (c .before .before))
-    (λ c. omega arith)
-    (λ c. omega arith)
-    (λ c κs. search needs)
     returns
-    import-sized-requires
+    (λ c κs. search needs)
+    import-at-requires
     (λ c. omega arith)
     (λ c. omega arith)
     (λ c. omega arith)

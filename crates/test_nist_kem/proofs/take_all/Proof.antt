@@ -6,10 +6,10 @@ use Rattle.test_nist_kem.proofs.take_all.Tie as tie
 
 -- i records taken
 abbrev Inv-loop : tie.InvT-loop
-Inv-loop function dk fd count tally₀ i₀ tally i = (i ≤ count) × (tally .agreed ≤ i)
+Inv-loop s function dk fd count tally₀ i₀ tally i = (i ≤ count) × (tally .agreed ≤ i)
 
 abbrev μ-loop : tie.MeasureT-loop
-μ-loop function dk fd count tally₀ i₀ tally i = count - i
+μ-loop s function dk fd count tally₀ i₀ tally i = count - i
 
 pub take-all-spec : {M : Type 1} → statement M
 take-all-spec =

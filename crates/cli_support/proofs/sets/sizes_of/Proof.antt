@@ -1,8 +1,6 @@
 -- The rank's set is one of FIPS 203's three, each of which lies within the bounds.
 use mathlib.Core.Path.{sym, subst}
 use borrow.Author.Needs.{needs}
-use Rattle.parameters.specs.Fits.{Fits}
-use Rattle.parameters.specs.FitsLaws.{fits-ofRank}
 use Rattle.cli_support.specs.Bounded.{SetBounded}
 use Rattle.cli_support.proofs.SetBounds.{bounded}
 use Rattle.cli_support.proofs.sets.sizes_of.Statement.{statement}
@@ -10,9 +8,8 @@ use Rattle.cli_support.proofs.sets.sizes_of.Tie as tie
 
 measured-requires : tie.Need-measured-requires
 measured-requires c κs =
-    let rank = c .before .args .rank in
-    let e = sym (c .of-rank .ensures) in
-    (subst Fits e (fits-ofRank rank), subst SetBounded e (bounded rank))
+    let made = c .of-rank .ensures in
+    (made .1, subst SetBounded (sym (made .0)) (bounded (c .before .args .rank)))
 
 pub sizes-of-spec : {M : Type 1} → statement M
 sizes-of-spec = tie.close (tie.spec (λ c κs. search needs) measured-requires (λ c. search needs))

@@ -1,28 +1,44 @@
--- Told no step, the one function answers as its rows alone, which are decapsulation's.
-use Rattle.decapsulation.proofs.Outcome.{told-decapsulated, told-of}
-use Rattle.parameters.specs.FitsLaws.{fits-ofRank}
-use native.Mathlib.Omega.{arith}
+-- A rank that isn't accepted is refused before anything else; else the call is that with the rank's set.
+use mathlib.Core.Path.{refl}
 use borrow.Author.Needs.{needs}
+use native.Mathlib.Omega.{arith}
+use Rattle.parameters.specs.ByRankLaws.{byRank-refused, byRank-called}
 use Rattle.decapsulation.proofs.decapsulation.decaps.Statement.{statement}
 use Rattle.decapsulation.proofs.decapsulation.decaps.Tie as tie
 
--- ---- places: what the run leaves, the set
+-- ---- places: the call and the set
 
-abbrev filled : tie.After-slice-known4 → tie.After-k0
-filled c = c .before .before .before
+abbrev returned : tie.After-slice-known4 → tie.After-k0
+returned c = c .before .before .before
 
-abbrev chosen : tie.After-value → tie.After-of-rank
+abbrev called : tie.After-slice-known4 → tie.After-decaps-at
+called c = returned c .before
+
+abbrev chosen : tie.After-decaps-at → tie.After-of-rank
 chosen c = c .before .before .before
 
-decapsulate-requires : tie.Need-decapsulate-requires
-decapsulate-requires c κs = rw (chosen c .of-rank .ensures) (fits-ofRank 3)
-
 returns : tie.Need-returns
-returns c =
-    let run = filled c .before in
-    told-decapsulated (told-of (chosen (run .before) .of-rank .ensures) (run .decapsulate .ensures))
+returns c = byRank-refused _ (c .before .is-rank .ensures) (c .if1 .taken) refl (refl, refl)
+
+decaps-at-requires : tie.Need-decaps-at-requires
+decaps-at-requires c κs = c .before .before .of-rank .ensures .1
+
+returns-2 : tie.Need-returns-2
+returns-2 c =
+    let call = called c in
+    let set = chosen call in
+    let test = set .before in
+    byRank-called _ (test .before .is-rank .ensures) (test .if1 .left) (set .of-rank .ensures .0)
+    (call .decaps-at .ensures)
 
 pub decaps-spec : {M : Type 1} → statement M
 decaps-spec =
     tie.close
-    (tie.spec (λ c κs. search needs) decapsulate-requires (λ c. omega arith) (λ c. omega arith) returns)
+    (tie.spec
+    (λ c κs. search needs)
+    returns
+    (λ c κs. search needs)
+    decaps-at-requires
+    (λ c. omega arith)
+    (λ c. omega arith)
+    returns-2)

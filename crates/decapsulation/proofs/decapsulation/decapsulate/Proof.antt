@@ -17,13 +17,13 @@ use Rattle.decapsulation.proofs.decapsulation.decapsulate.Tie as tie
 -- ---- places: the test, and the start before it
 
 abbrev counted : tie.After-exact → tie.After-strip-coeffs
-counted c = c .before .before
+counted c = c .before .before .before
 
-abbrev lengths : tie.After-strip-coeffs → tie.After-has
+abbrev lengths : tie.After-strip-coeffs → tie.After-ek-bytes
 lengths c = c .before .before .before
 
-abbrev set : tie.After-has → tie.After-struct-known
-set c = c .before .before .before
+abbrev set : tie.After-ek-bytes → tie.After-struct-known
+set c = c .before .before
 
 abbrev outputs : tie.After-struct-known → tie.After-shared-slice-known8
 outputs c = c .before .before .before
@@ -73,9 +73,9 @@ row1 : (c : tie.After-exact)
 row1 c =
     let a = start c .args in
     let n = counted c in
-    let words = n .before in
-    let ct = words .before in
-    let public = lengths n .before .ek-bytes .ensures in
+    let ct = n .before in
+    let words = ct .before in
+    let public = lengths n .ek-bytes .ensures in
     sized-same (a .p) (lent (start c)) (a .k0 .now) (a .k1 .now)
     ∙ same-wants (a .p) (lent (start c)) (a .k0 .now) (a .k1 .now) public (ct .ct-bytes .ensures)
     (words .strip-words .ensures .0) (n .strip-coeffs .ensures .0)
@@ -106,10 +106,10 @@ decapsulate-spec =
     (λ c. record { fits = omega (arith, square (begun (c .before))) })
     (λ c κs. search needs)
     (λ c. search needs)
+    (λ c κs. search needs)
+    (λ c κs. search needs)
+    (λ c κs. search needs)
     (λ c. omega arith)
-    (λ c κs. search needs)
-    (λ c κs. search needs)
-    (λ c κs. search needs)
     (λ c. omega arith)
     (λ c κs. search needs)
     returns

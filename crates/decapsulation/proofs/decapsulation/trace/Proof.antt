@@ -1,44 +1,33 @@
--- Told a step, or one past the end for all steps past it, the one function answers and hands back what the trace does.
-use mathlib.Core.Path.{ap, _∙_, sym}
-use native.Mathlib.Omega.{arith}
-use Rattle.parameters.specs.FitsLaws.{fits-ofRank}
-use Rattle.stages.specs.EntryCounts.{steps}
-use Rattle.decapsulation.proofs.Outcome.{told-traced, told-of}
+-- A rank that isn't accepted is refused before anything else; else the call is that with the rank's set.
+use mathlib.Core.Path.{refl}
 use borrow.Author.Needs.{needs}
+use Rattle.parameters.specs.ByRankLaws.{byRank-refused, byRank-called}
 use Rattle.decapsulation.proofs.decapsulation.trace.Statement.{statement}
 use Rattle.decapsulation.proofs.decapsulation.trace.Tie as tie
 
--- ---- places: the run, the buffers for K, what is told, the set
-
-abbrev run : tie.After-k12 → tie.After-decapsulate
-run c = c .before .before
-
-abbrev buffers : tie.After-decapsulate-arg → tie.After-k0
-buffers c = c .before .before
-
-abbrev told : tie.After-k0 → tie.After-left-of
-told c = c .before
-
-abbrev chosen : tie.After-left-of → tie.After-of-rank
+-- the set
+abbrev chosen : tie.After-trace-at → tie.After-of-rank
 chosen c = c .before .before
 
 returns : tie.Need-returns
-returns c =
-    let d = run c in
-    let l = told (buffers (d .before)) in
-    let set = chosen l .of-rank .ensures in
-    told-traced _ _ (sym (l .before .steps .ensures .0 ∙ ap steps set)) (l .left-of .ensures)
-    (record { long0 = omega arith; long1 = omega arith })
-    (told-of set (d .decapsulate .ensures))
+returns c = byRank-refused _ (c .before .is-rank .ensures) (c .if1 .taken) refl refl
+
+trace-at-requires : tie.Need-trace-at-requires
+trace-at-requires c κs = c .before .of-rank .ensures .1
+
+returns-2 : tie.Need-returns-2
+returns-2 c =
+    let set = chosen c in
+    let test = set .before in
+    byRank-called _ (test .before .is-rank .ensures) (test .if1 .left) (set .of-rank .ensures .0)
+    (c .trace-at .ensures)
 
 pub trace-spec : {M : Type 1} → statement M
 trace-spec =
     tie.close
     (tie.spec
     (λ c κs. search needs)
-    (λ c κs. rw (c .of-rank .ensures) (fits-ofRank 3))
+    returns
     (λ c κs. search needs)
-    (λ c. omega arith)
-    (λ c. omega arith)
-    (λ c κs. rw (chosen (told (buffers c)) .of-rank .ensures) (fits-ofRank 3))
-    returns)
+    trace-at-requires
+    returns-2)

@@ -1,90 +1,43 @@
--- A wrong length is row 1, which comes first; else all lengths are exact, as keygen_sized asks.
-use mathlib.Core.Path.{_≡_, sym, ap₂, _∙_}
-use mathlib.Core.List.{[], _∷_}
-use Prim.Native.Nat.{ℕ}
+-- A rank that isn't accepted is refused before anything else; else the call is that with the rank's set.
+use mathlib.Core.Path.{refl}
 use borrow.Author.Needs.{needs}
-use borrow.Author.Tests.{not-true, not-false}
 use native.Mathlib.Omega.{arith}
-use lib.ListN.{length}
-use Rattle.parameters.specs.Fits.{Fits}
-use Rattle.parameters.specs.FitsLaws.{fits-ofRank}
-use Rattle.refusals.specs.declared.Answer.the-variants.{WrongLength}
-use Rattle.refusals.specs.Same.{same}
-use Rattle.refusals.specs.Refusals.{sized}
-use Rattle.refusals.specs.RefusalLaws.{refused, sized-exact}
-use Rattle.mlkem.specs.Calls.{keyGenLengths, keyGenAnswer}
-use Rattle.mlkem.specs.CallLaws.{keygen-refused, keys-made-of}
+use Rattle.parameters.specs.ByRankLaws.{byRank-refused, byRank-called}
 use Rattle.mlkem.proofs.key_making.keygen.Statement.{statement}
 use Rattle.mlkem.proofs.key_making.keygen.Tie as tie
 
--- ---- places: the test, the lengths, the set and the start, from the end
+-- ---- places: the call and the set
 
 abbrev returned : tie.After-slice-known4 → tie.After-ek
 returned c = c .before .before .before
 
-abbrev tested : tie.After-keygen-sized-arg2 → tie.Else1
-tested c = c .before .before
+abbrev called : tie.After-slice-known4 → tie.After-keygen-at
+called c = returned c .before
 
-abbrev counted : tie.After-exact → tie.After-dk-bytes
-counted c = c .before .before .before
-
-abbrev chosen : tie.After-exact → tie.After-of-rank
-chosen c = counted c .before .before
-
-abbrev known : tie.After-of-rank → tie.After-shared-slice-known2
-known c = c .before .before .before
-
-abbrev start : tie.After-exact → tie.Start
-start c = known (chosen c) .before .before
-
--- ---- facts
-
-fits : (c : tie.After-of-rank) → Fits (c .of-rank .result)
-fits c = rw (c .of-rank .ensures) (fits-ofRank 3)
-
-row1 : (c : tie.After-exact)
-    → (let s = start c .args in
-    let p = chosen c .of-rank .result in
-    sized (keyGenLengths p (s .d .now) (s .z .now) (s .ek .now) (s .dk .now)) ≡ c .exact .result)
-unfolding sized same
-row1 c =
-    let s = start c .args in
-    let n = counted c in
-    let has = length (s .d .now) ∷ length (s .z .now) ∷ length (s .ek .now) ∷ length (s .dk .now) ∷ [] in
-    sym
-    (c .exact .ensures
-    ∙ ap₂ (λ (a b : ℕ). same has (32 ∷ 32 ∷ a ∷ b ∷ [])) (n .before .ek-bytes .ensures) (n .dk-bytes .ensures))
+abbrev chosen : tie.After-keygen-at → tie.After-of-rank
+chosen c = c .before .before .before
 
 returns : tie.Need-returns
-unfolding keyGenAnswer
-returns c =
-    let set = chosen (c .before) .of-rank in
-    let wrong = refused WrongLength _ (row1 (c .before) ∙ not-true _ (c .if1 .taken)) in
-    keys-made-of (set .ensures) (keygen-refused (set .result) WrongLength (omega arith) _ _ _ _ wrong)
+returns c = byRank-refused _ (c .before .is-rank .ensures) (c .if1 .taken) refl (refl, refl)
 
-keygen-sized-requires : tie.Need-keygen-sized-requires
-keygen-sized-requires c κs =
-    let x = tested c .before in
-    let e = sized-exact _ (row1 x ∙ not-false _ (tested c .if1 .left)) in
-    (fits (chosen x), record { d = e .0; z = e .1 .0; ek = e .1 .1 .0; dk = e .1 .1 .1 .0 })
+keygen-at-requires : tie.Need-keygen-at-requires
+keygen-at-requires c κs = c .before .before .of-rank .ensures .1
 
 returns-2 : tie.Need-returns-2
 returns-2 c =
-    let s = returned c .before in
-    keys-made-of (chosen (tested (s .before) .before) .of-rank .ensures) (s .keygen-sized .ensures)
+    let set = chosen (called c) in
+    let test = set .before in
+    byRank-called _ (test .before .is-rank .ensures) (test .if1 .left) (set .of-rank .ensures .0)
+    (called c .keygen-at .ensures)
 
 pub keygen-spec : {M : Type 1} → statement M
 keygen-spec =
     tie.close
     (tie.spec
     (λ c κs. search needs)
-    (λ c κs. fits c)
-    (λ c κs. fits (c .before))
-    (λ c. omega arith)
-    (λ c. omega arith)
-    (λ c κs. search needs)
     returns
-    keygen-sized-requires
+    (λ c κs. search needs)
+    keygen-at-requires
     (λ c. omega arith)
     (λ c. omega arith)
     returns-2)

@@ -5,10 +5,10 @@ use Rattle.test_kem_refusals.proofs.lengths.lines.Statement.{statement}
 use Rattle.test_kem_refusals.proofs.lengths.lines.Tie as tie
 
 abbrev Inv-loop : tie.InvT-loop
-Inv-loop call n edge at₀ at = Unit {0}
+Inv-loop s call n edge at₀ at = Unit {0}
 
 abbrev μ-loop : tie.MeasureT-loop
-μ-loop call n edge at₀ at = n - at
+μ-loop s call n edge at₀ at = n - at
 
 pub lines-spec : {M : Type 1} → statement M
 lines-spec =

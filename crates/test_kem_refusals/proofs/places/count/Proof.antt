@@ -8,11 +8,11 @@ use Rattle.test_kem_refusals.proofs.places.count.Tie as tie
 
 -- i places tried
 abbrev Inv-loop : tie.InvT-loop
-Inv-loop part dk n v first results₀ found₀ i₀ results found i =
+Inv-loop s part dk n v first results₀ found₀ i₀ results found i =
     (i ≤ n) × (found ≤ i) × (length results ≡ length results₀)
 
 abbrev μ-loop : tie.MeasureT-loop
-μ-loop part dk n v first results₀ found₀ i₀ results found i = n - i
+μ-loop s part dk n v first results₀ found₀ i₀ results found i = n - i
 
 pub count-spec : {M : Type 1} → statement M
 count-spec =

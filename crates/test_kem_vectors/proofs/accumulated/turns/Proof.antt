@@ -8,10 +8,10 @@ use Rattle.test_kem_vectors.proofs.accumulated.turns.Tie as tie
 
 -- i turns taken
 abbrev Inv-loop : tie.InvT-loop
-Inv-loop feed₀ found₀ i₀ feed found i = (i ≤ 100) × (found ≤ i) × (length feed ≡ length feed₀)
+Inv-loop s n feed₀ found₀ i₀ feed found i = (i ≤ 100) × (found ≤ i) × (length feed ≡ length feed₀)
 
 abbrev μ-loop : tie.MeasureT-loop
-μ-loop feed₀ found₀ i₀ feed found i = 100 - i
+μ-loop s n feed₀ found₀ i₀ feed found i = 100 - i
 
 pub turns-spec : {M : Type 1} → statement M
 turns-spec =

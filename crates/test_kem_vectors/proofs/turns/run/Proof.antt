@@ -5,10 +5,10 @@ use Rattle.test_kem_vectors.proofs.turns.run.Statement.{statement}
 use Rattle.test_kem_vectors.proofs.turns.run.Tie as tie
 
 abbrev Inv-loop : tie.InvT-loop
-Inv-loop turn₀ turn = turn ≤ 10
+Inv-loop s turn₀ turn = turn ≤ 10
 
 abbrev μ-loop : tie.MeasureT-loop
-μ-loop turn₀ turn = 10 - turn
+μ-loop s turn₀ turn = 10 - turn
 
 pub run-spec : {M : Type 1} → statement M
 run-spec =

@@ -1,0 +1,31 @@
+-- Demand 2 for the calls as they are told a rank: one that answers 0 was told an accepted rank, and did what it does
+-- with that rank's set, which lies within the bounds.
+use mathlib.Core.Path.{_≡_}
+use mathlib.Core.List.{List}
+use Prim.Native.Nat.{ℕ, _^_}
+use Rattle.words.specs.Bounded.{Below}
+use Rattle.words.specs.LittleEndian.{wordsToBytes}
+use Rattle.worksheet.specs.SharedList.{sharedList, joinedList}
+use Rattle.parameters.specs.Ranks.{ofRank}
+use Rattle.parameters.specs.FitsLaws.{fits-ofRank}
+use Rattle.parameters.specs.ByRankLaws.{byRank-done}
+use Rattle.mlkem.specs.MlKem as fips203
+use Rattle.split_key.specs.Import.{ImportedBy}
+use Rattle.split_key.specs.SplitKey.{SplitKey}
+use Rattle.meaning.specs.JoinedDk.{joinedDk}
+use Rattle.decapsulation.specs.Calls.{Input, Typed, DecapsulatedBy}
+use Rattle.decapsulation.specs.Demand2.{decaps-joins}
+use Rattle.decapsulation.specs.CallToCall.{imported-decaps}
+
+module _ {rank : ℕ} {g : Input} {k0₀ k1₀ k0 k1 : List ℕ} (d : DecapsulatedBy rank g k0₀ k1₀ 0 k0 k1) where
+  pub decaps-joins-by : Typed g
+      → wordsToBytes 8 (joinedList (sharedList k0 k1))
+      ≡ fips203.decaps (ofRank rank) (joinedDk (ofRank rank) (g .key)) (g .ct)
+  decaps-joins-by types = decaps-joins (byRank-done d) (fits-ofRank rank) types
+
+  -- import of dk, told the same rank, has left the split key in g
+  pub imported-decaps-by : {dk maskCoeffs maskWords : List ℕ} {key₀ : SplitKey}
+      → ImportedBy rank dk maskCoeffs maskWords key₀ 0 (g .key)
+      → Below 256 dk → Below (2 ^ 64) maskWords → Below 256 (g .ct) → Below (2 ^ 64) (g .words)
+      → wordsToBytes 8 (joinedList (sharedList k0 k1)) ≡ fips203.decaps (ofRank rank) dk (g .ct)
+  imported-decaps-by i = imported-decaps (fits-ofRank rank) (byRank-done i) (byRank-done d)

@@ -1,0 +1,34 @@
+"""Lines of the test programs on refusals that depend on the rank and on lengths alone."""
+from models.parameters import SETS
+
+EDGES = "empty", "short", "long"
+NO_RANKS = 0, 1, 5, 2**32 - 1
+
+
+def print_lengths(calls):
+    """Each buffer at wrong lengths. calls: pairs of a call's name and its number of buffers."""
+    for edge in EDGES:
+        for call, buffers in calls:
+            for at in range(buffers):
+                print(f"{call}, buffer {at} {edge}: refused 1, unchanged")
+
+
+def print_sisters(p, calls):
+    """Each buffer with the length that it has in another set, where that is another length; then all buffers."""
+    for sister in SETS:
+        if sister == p:
+            continue
+        for call in calls:
+            for at, (ours, theirs) in enumerate(zip(p.lent[call], sister.lent[call])):
+                if ours != theirs:
+                    print(f"{call}, buffer {at} as in {sister.name}: refused 1, unchanged")
+        for call in calls:
+            print(f"{call}, all buffers as in {sister.name}: refused 1, unchanged")
+
+
+def print_no_ranks(calls):
+    print("no such rank")
+    for rank in NO_RANKS:
+        for call in calls:
+            print(f"{call}, rank {rank}: refused 9, unchanged")
+            print(f"{call}, rank {rank}, buffers empty: refused 9, unchanged")
