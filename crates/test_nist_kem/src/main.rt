@@ -40,26 +40,16 @@ fn keygen_gives(
     requires { ⌜ (length (now seeds) ≡ 64)
         × (length (now «made_ek») ≡ length (now ek)) × (length (now «made_dk») ≡ length (now dk)) ⌝ }
 {
-    if number(mlkem::keygen(rank, &seeds[0..32], &seeds[32..64], made_ek, made_dk)) != 0 {
-        return false;
-    }
-    if !same(made_ek, ek) {
-        return false;
-    }
-    same(made_dk, dk)
+    let answer = mlkem::keygen(rank, &seeds[0..32], &seeds[32..64], made_ek, made_dk);
+    (number(answer) == 0) & same(made_ek, ek) & same(made_dk, dk)
 }
 
 fn encaps_gives(rank: u32, ek: &[u8], m: &[u8], ct: &[u8], k: &[u8], made_ct: &mut [u8]) -> bool
     requires { ⌜ (length (now «made_ct») ≡ length (now ct)) × (length (now k) ≡ 32) ⌝ }
 {
     let mut made_k = [0u8; 32];
-    if number(mlkem::encaps(rank, ek, m, made_ct, &mut made_k)) != 0 {
-        return false;
-    }
-    if !same(made_ct, ct) {
-        return false;
-    }
-    same(&made_k, k)
+    let answer = mlkem::encaps(rank, ek, m, made_ct, &mut made_k);
+    (number(answer) == 0) & same(made_ct, ct) & same(&made_k, k)
 }
 
 // ---- a record's fields, without its parameter set
@@ -108,10 +98,8 @@ fn decaps_agrees(s: Sizes, dk: &[u8], strip: Masks, fields: &[u8]) -> bool
 {
     let mut k = [0u8; 32];
     let n = s.ct;
-    if decaps(s, dk, Masks::Drawn(1), &fields[0..n], strip, &mut k) != 0 {
-        return false;
-    }
-    same(&k, &fields[n..])
+    let answer = decaps(s, dk, Masks::Drawn(1), &fields[0..n], strip, &mut k);
+    (answer == 0) & same(&k, &fields[n..])
 }
 
 // ---- records

@@ -30,8 +30,44 @@ fn import(
     number(split_key::import(rank, dk, coeffs, &words, s0, s1, z0, z1, public))
 }
 
-// The number of decapsulation's. The strip goes to words and coeffs.
-fn decaps_split(
+// The number of decapsulation's. Where it is 0, out is what the shares of K stand for.
+fn decaps_joined(
+    rank: u32,
+    s0: &[u16],
+    s1: &[u16],
+    z0: &[u64],
+    z1: &[u64],
+    public: &[u8],
+    ct: &[u8],
+    words: &[u64],
+    coeffs: &[u16],
+    out: &mut [u8],
+) -> u64
+    requires { ⌜ length (now out) ≡ 32 ⌝ }
+{
+    let mut k0 = [0u64; 4];
+    let mut k1 = [0u64; 4];
+    let mut k = [0u64; 4];
+    let answer = decapsulation::decaps(
+        rank,
+        s0,
+        s1,
+        z0,
+        z1,
+        public,
+        ct,
+        words,
+        coeffs,
+        &mut k0,
+        &mut k1,
+    );
+    xor_words(&k0, &k1, &mut k);
+    put_words(&k, out);
+    number(answer)
+}
+
+// The strip goes to words and coeffs.
+fn decaps_strip(
     rank: u32,
     s0: &[u16],
     s1: &[u16],
@@ -42,19 +78,54 @@ fn decaps_split(
     kind: Masks,
     words: &mut [u64],
     coeffs: &mut [u16],
-    k0: &mut [u64],
-    k1: &mut [u64],
+    out: &mut [u8],
 ) -> u64
-    requires { ⌜ (length (now words) ≤ 15192) × (length (now coeffs) ≤ 9472) ⌝ }
+    requires { ⌜ (length (now words) ≤ 15192) × (length (now coeffs) ≤ 9472) × (length (now out) ≡ 32) ⌝ }
 {
     masks::words(kind, b'w', words);
     masks::coefficients(kind, b'c', coeffs);
-    number(decapsulation::decaps(rank, s0, s1, z0, z1, public, ct, words, coeffs, k0, k1))
+    decaps_joined(rank, s0, s1, z0, z1, public, ct, words, coeffs, out)
+}
+
+fn decaps_split(
+    s: Sizes,
+    s0: &[u16],
+    s1: &[u16],
+    z0: &[u64],
+    z1: &[u64],
+    public: &[u8],
+    ct: &[u8],
+    strip: Masks,
+    out: &mut [u8],
+) -> u64
+    requires { ⌜ Bounded s × (length (now out) ≡ 32) ⌝ }
+{
+    let mut words = [0u64; 15192];
+    let mut coeffs = [0u16; 9472];
+    let a = s.words;
+    let b = s.coeffs;
+    decaps_strip(
+        s.rank,
+        s0,
+        s1,
+        z0,
+        z1,
+        public,
+        ct,
+        strip,
+        &mut words[0..a],
+        &mut coeffs[0..b],
+        out,
+    )
+}
+
+fn first_refusal(a: u64, b: u64) -> u64 {
+    if a != 0 { a } else { b }
 }
 
 // Import's where it isn't 0, else decapsulation's.
 fn decaps_in(
-    rank: u32,
+    s: Sizes,
     dk: &[u8],
     split: Masks,
     ct: &[u8],
@@ -63,17 +134,14 @@ fn decaps_in(
     s0: &mut [u16],
     s1: &mut [u16],
     public: &mut [u8],
-    words: &mut [u64],
-    coeffs: &mut [u16],
-    k0: &mut [u64],
-    k1: &mut [u64],
+    out: &mut [u8],
 ) -> u64
-    requires { ⌜ (length (now «mask_coeffs») ≤ 9472) × (length (now words) ≤ 15192) × (length (now coeffs) ≤ 9472) ⌝ }
+    requires { ⌜ Bounded s × (length (now «mask_coeffs») ≤ 9472) × (length (now out) ≡ 32) ⌝ }
 {
     let mut z0 = [0u64; 4];
     let mut z1 = [0u64; 4];
-    let n = import(
-        rank,
+    let imported = import(
+        s.rank,
         dk,
         split,
         mask_coeffs,
@@ -83,64 +151,10 @@ fn decaps_in(
         &mut z1,
         public,
     );
-    if n != 0 {
-        return n;
-    }
-    decaps_split(
-        rank,
-        s0,
-        s1,
-        &z0,
-        &z1,
-        public,
-        ct,
-        strip,
-        words,
-        coeffs,
-        k0,
-        k1,
-    )
+    let opened = decaps_split(s, s0, s1, &z0, &z1, public, ct, strip, out);
+    first_refusal(imported, opened)
 }
 
-fn decaps_shares(
-    s: Sizes,
-    dk: &[u8],
-    split: Masks,
-    ct: &[u8],
-    strip: Masks,
-    k0: &mut [u64],
-    k1: &mut [u64],
-) -> u64
-    requires { ⌜ Bounded s ⌝ }
-{
-    let mut mask_coeffs = [0u16; 1024];
-    let mut s0 = [0u16; 1024];
-    let mut s1 = [0u16; 1024];
-    let mut public = [0u8; 1600];
-    let mut words = [0u64; 15192];
-    let mut coeffs = [0u16; 9472];
-    let n = s.coefficients;
-    let a = s.public;
-    let b = s.words;
-    let c = s.coeffs;
-    decaps_in(
-        s.rank,
-        dk,
-        split,
-        ct,
-        strip,
-        &mut mask_coeffs[0..n],
-        &mut s0[0..n],
-        &mut s1[0..n],
-        &mut public[0..a],
-        &mut words[0..b],
-        &mut coeffs[0..c],
-        k0,
-        k1,
-    )
-}
-
-// The same; where it is 0, out is what the shares of K stand for.
 pub(crate) fn decaps(
     s: Sizes,
     dk: &[u8],
@@ -151,11 +165,22 @@ pub(crate) fn decaps(
 ) -> u64
     requires { ⌜ Bounded s × (length (now out) ≡ 32) ⌝ }
 {
-    let mut k0 = [0u64; 4];
-    let mut k1 = [0u64; 4];
-    let n = decaps_shares(s, dk, split, ct, strip, &mut k0, &mut k1);
-    let mut k = [0u64; 4];
-    xor_words(&k0, &k1, &mut k);
-    put_words(&k, out);
-    n
+    let mut mask_coeffs = [0u16; 1024];
+    let mut s0 = [0u16; 1024];
+    let mut s1 = [0u16; 1024];
+    let mut public = [0u8; 1600];
+    let n = s.coefficients;
+    let a = s.public;
+    decaps_in(
+        s,
+        dk,
+        split,
+        ct,
+        strip,
+        &mut mask_coeffs[0..n],
+        &mut s0[0..n],
+        &mut s1[0..n],
+        &mut public[0..a],
+        out,
+    )
 }
