@@ -177,7 +177,7 @@ fn spoil(fault: Fault, s0: &mut [u16], s1: &mut [u16], coeffs: &mut [u16]) {
     }
 }
 
-// Each buffer has one element more than the largest set asks for; what is past the set's length is left as it is.
+// Each buffer has one element more than the largest set asks for, and its first elements become what the set asks for.
 // Import's answer.
 pub fn make(
     case: Case,

@@ -61,8 +61,8 @@ fn change(s: Sizes, part: Part, i: usize, v: u16, key: &mut [u8], mask_coeffs: &
 
 // ---- the call
 
-// The number of the answer, or 99 where a refused call changed a buffer. out is the secret where the call is carried
-// out.
+// The number of the answer, or 99 where a refused call changed a buffer. Where the call is carried out, out is the
+// secret.
 fn encaps_into(rank: u32, ek: &[u8], ct: &mut [u8], out: &mut [u8]) -> u64 {
     let m = [7u8; 32];
     let n = number(mlkem::encaps(rank, ek, &m, ct, out));

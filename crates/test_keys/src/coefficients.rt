@@ -1,5 +1,4 @@
 // The coefficients of an encoded vector, 12 bits each: two in three bytes.
-ghost use mathlib.Core.Path.{_≡_};
 ghost use Prim.Native.Nat.{_+_, _*_, _<_, _≤_};
 ghost use lib.ListN.{length};
 
@@ -27,7 +26,7 @@ pub fn put(bytes: &mut [u8], i: usize, v: u16)
 
 // The same in the part of a key that starts at byte `at`.
 pub fn put_at(key: &mut [u8], at: usize, i: usize, v: u16)
-    requires { ⌜ (2 * at + 3 * i + 3 ≤ 2 * length (now key)) ⌝ }
+    requires { ⌜ 2 * at + 3 * i + 3 ≤ 2 * length (now key) ⌝ }
 {
     put(&mut key[at..], i, v);
 }

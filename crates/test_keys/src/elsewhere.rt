@@ -1,6 +1,6 @@
 // Keys made elsewhere, whose coefficients aren't all below 3329.
 ghost use mathlib.Core.Path.{_≡_};
-ghost use Prim.Native.Nat.{_+_, _*_, _≤_};
+ghost use Prim.Native.Nat.{_*_, _≤_};
 ghost use lib.ListN.{length};
 ghost use Rattle.parameters.specs.Fits.{Fits};
 ghost use Rattle.parameters.specs.Lengths.{ekBytes, ctBytes};

@@ -42,7 +42,7 @@ fn is_at(at: At, i: usize) -> bool {
     }
 }
 
-// The length of buffer i, which should be n, and m in the set of rank `of`. The room is for one element more than
+// The length of buffer i, which should be n, and m in the set of rank `of`. There is room for one element more than
 // either.
 pub fn length_at(lengths: Lengths, i: usize, n: usize, m: usize, room: usize) -> usize
     requires { ⌜ (n < room) × (0 < m) × (m < room) ⌝ }
@@ -96,11 +96,8 @@ pub fn print_rank(call: &[u8], rank: u32, lengths: Lengths) {
     print(b", rank ");
     print_decimal(rank as u64);
     let edge = lengths.edge;
-    match edge {
-        Edge::Exact => {}
-        Edge::Empty => print(b", buffers empty"),
-        Edge::Short => print(b", buffers short"),
-        Edge::Long => print(b", buffers long"),
+    if let Edge::Empty = edge {
+        print(b", buffers empty");
     }
     print(b": ");
 }
