@@ -1,2 +1,1 @@
 pub mod ByRows
-pub mod Clocking

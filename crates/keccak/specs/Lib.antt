@@ -3,4 +3,4 @@ pub mod Rows
 pub mod LinearPass
 pub mod Aim
 pub mod Constant
-pub mod Rounds
+pub mod RoundTable

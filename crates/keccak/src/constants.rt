@@ -1,35 +1,40 @@
-// The round constants (FIPS 202, algorithms 5 and 6), by the shift register.
+// The round constants (FIPS 202, algorithms 5 and 6), in a table.
 ghost use mathlib.Core.Path.{_≡_};
-ghost use Rattle.keccak.specs.KeccakP.{clocked};
-ghost use Rattle.keccak.specs.Rounds.{RoundStart, RoundConstant};
+ghost use Rattle.words.specs.Tab.{tab};
+ghost use Rattle.keccak.specs.KeccakP.{constant};
 
-// Algorithm 5, step 3: the register after one more step.
-fn clock(r: u8) -> u8
-    ensures { λ x. ⌜ x ≡ clocked r ⌝ }
+// Algorithm 6, steps 2 and 3: RC of the rounds 0 to 23.
+const ROUND_CONSTANTS: [u64; 24] = [
+    0x0000_0000_0000_0001,
+    0x0000_0000_0000_8082,
+    0x8000_0000_0000_808a,
+    0x8000_0000_8000_8000,
+    0x0000_0000_0000_808b,
+    0x0000_0000_8000_0001,
+    0x8000_0000_8000_8081,
+    0x8000_0000_0000_8009,
+    0x0000_0000_0000_008a,
+    0x0000_0000_0000_0088,
+    0x0000_0000_8000_8009,
+    0x0000_0000_8000_000a,
+    0x0000_0000_8000_808b,
+    0x8000_0000_0000_008b,
+    0x8000_0000_0000_8089,
+    0x8000_0000_0000_8003,
+    0x8000_0000_0000_8002,
+    0x8000_0000_0000_0080,
+    0x0000_0000_0000_800a,
+    0x8000_0000_8000_000a,
+    0x8000_0000_8000_8081,
+    0x8000_0000_0000_8080,
+    0x0000_0000_8000_0001,
+    0x8000_0000_8000_8008,
+];
+
+// The table. A permutation takes it once, before its rounds: a constant array that is indexed by a variable in the
+// round would be built on the stack in each round.
+pub fn round_constants() -> [u64; 24]
+    ensures { λ r. ⌜ r ≡ tab 24 constant ⌝ }
 {
-    (r << 1) ^ ((r >> 7) * 0x71)
-}
-
-// A round's constant, and the register where the next round's begins.
-pub struct Constant {
-    pub word: u64,
-    pub next: u8,
-}
-
-// Algorithm 6, steps 2 and 3: the constant of round i, with the register at its first bit.
-pub fn round_constant(i: usize, first: u8) -> Constant
-    requires { ⌜ RoundStart i first ⌝ }
-    ensures { λ r. ⌜ RoundConstant i (r .word) (r .next) ⌝ }
-{
-    let mut word: u64 = 0;
-    let mut reg = first;
-    let mut place: u32 = 0;
-    let mut j: usize = 0;
-    while j < 7 {
-        word = word ^ (((reg % 2) as u64) << place);
-        reg = clock(reg);
-        place = 2 * place + 1;
-        j += 1;
-    }
-    Constant { word, next: reg }
+    ROUND_CONSTANTS
 }

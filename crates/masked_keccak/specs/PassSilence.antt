@@ -1,12 +1,12 @@
 -- Couplings of theta, rho and pi on the two shares of a state, each share alone.
 use Prim.Native.Nat.{ℕ, _+_, _*_, _<_}
-use mathlib.Core.Path.{_≡_, sym, ap, ap₂, _∙_}
+use mathlib.Core.Path.{_≡_, sym, ap₂, _∙_}
 use mathlib.Core.Bool.{Bool, true, false}
 use mathlib.Core.List.{List}
 use native.Mathlib.Omega.{arith}
 use lib.ListN.{getD}
 use Rattle.words.specs.Tab.{tab}
-use Rattle.words.specs.TabLaws.{getD-tab}
+use Rattle.words.specs.TabLaws.{tabulated-at}
 use Rattle.keccak.specs.LinearPass.{passAt, LaneBits, pass-is, pass-cong, pass-bits, pass-xor}
 use Rattle.keccak.specs.Aim.{aimed, aimed-bits, aimed-1, aimed-2}
 use Rattle.worksheet.specs.declared.Shares.{Shares}
@@ -47,7 +47,7 @@ record Passed (s s′ t t′ : SharedList) : Type 0 where
 
 passed-lane : (l : List ℕ) {a : List ℕ} → a ≡ tab 25 (lanesOf (linear l)) → (i : ℕ) → i < 25
     → getD a i 0 ≡ passAt (lanesOf l) i
-passed-lane l e i h = ap (λ (m : List ℕ). getD m i 0) e ∙ getD-tab 25 (lanesOf (linear l)) i 0 h ∙ pass-is l i
+passed-lane l e i h = tabulated-at 25 (lanesOf (linear l)) e i 0 h ∙ pass-is l i
 
 same-lane : (l l′ : List ℕ) → ((k : ℕ) → k < 25 → getD l k 0 ≡ getD l′ k 0)
     → (i : ℕ) → i < 25 → getD (linear l) i 0 ≡ getD (linear l′) i 0

@@ -10,7 +10,7 @@ use crate::chi::EnteredStates;
 use crate::chi::chi;
 use crate::pass::enter_lanes;
 use crate::pass::pass;
-use keccak::constants::round_constant;
+use keccak::constants::round_constants;
 use keccak::state::State;
 use worksheet::Recorder;
 use worksheet::enter_xor;
@@ -18,9 +18,16 @@ use worksheet::enter_xor;
 pub mod chi; // chi on two shares
 pub mod pass; // theta, rho and pi on one share
 
-// Round i, with its constant k and 25 masks.
-fn round(rec: Recorder, a: State, b: State, ws: &[u64], i: usize, k: u64) -> EnteredStates
-    requires { ⌜ RoundLent i k (now ws) ⌝ }
+// Round i, with the table of constants and 25 masks.
+fn round(
+    rec: Recorder,
+    a: State,
+    b: State,
+    constants: &[u64],
+    i: usize,
+    ws: &[u64],
+) -> EnteredStates
+    requires { ⌜ RoundLent (now constants) i (now ws) ⌝ }
     ensures { λ o. ⌜
         Draws word roundWords (maskedRound i (sharedState a b)) rec (now (ws .entry))
         (sharedState (o .s0) (o .s1)) (o .rec)
@@ -32,7 +39,7 @@ fn round(rec: Recorder, a: State, b: State, ws: &[u64], i: usize, k: u64) -> Ent
     let rec1 = enter_lanes(rec0, q);
     let o = chi(rec1, p, q, ws);
     let mut s = o.s0;
-    let e = enter_xor(o.rec, s.lanes[0], k);
+    let e = enter_xor(o.rec, s.lanes[0], constants[i]);
     s.lanes[0] = e.value;
     let t = o.s1;
     let last = e.rec;
@@ -54,15 +61,13 @@ pub fn permute(rec: Recorder, a: State, b: State, ws: &[u64]) -> EnteredStates
     let mut rec = rec;
     let mut s = a;
     let mut t = b;
-    let mut reg: u8 = 1;
+    let constants = round_constants();
     for i in 0..24 {
-        let k = round_constant(i, reg);
         let p = 25 * i;
-        let o = round(rec, s, t, &ws[p..], i, k.word);
+        let o = round(rec, s, t, &constants, i, &ws[p..]);
         s = o.s0;
         t = o.s1;
         rec = o.rec;
-        reg = k.next;
     }
     EnteredStates { s0: s, s1: t, rec }
 }

@@ -19,7 +19,7 @@ use Rattle.words.specs.DigitLaws.{digit-lt, digit-div, digit-mod, digit-high, d
 use Rattle.words.specs.Plane.{plane}
 use Rattle.words.specs.PlaneLaws.{plane-bits, digit-plane}
 use Rattle.words.specs.Tab.{tab}
-use Rattle.words.specs.TabLaws.{tab-cong, getD-tab}
+use Rattle.words.specs.TabLaws.{tab-cong, tabulated-at}
 use Rattle.words.specs.Table.{every}
 use Rattle.words.specs.TableLaws.{every-at}
 use Rattle.planes.specs.Transposition.{pick, packed, differences, lower, upper, stepped, transposed}
@@ -319,4 +319,4 @@ stepped-tab {l} s m f e g =
     (row (r / 2 + 16) (omega arith)))
   where
     row : (i : ℕ) → i < 32 → getD l i 0 ≡ f i
-    row i h = ap (λ (x : List ℕ). getD x i 0) e ∙ getD-tab 32 f i 0 h
+    row i h = tabulated-at 32 f e i 0 h

@@ -7,7 +7,7 @@ use native.Mathlib.Nat.{mul-le-mul-right}
 use native.Mathlib.Omega.{arith}
 use lib.ListN.{length, getD}
 use Rattle.words.specs.Residue.{q}
-use Rattle.words.specs.TabLaws.{length-tab}
+use Rattle.words.specs.TabLaws.{tabulated-length}
 use Rattle.words.specs.Iterate.{iterate}
 use Rattle.words.specs.IterateLaws.{Reached, reached-start, reached-turn, reached-end}
 use Rattle.transform.specs.Transform.{zeta}
@@ -43,7 +43,7 @@ pub record Layered (block : ℕ → ℕ → ℕ → List ℕ → List ℕ) (entr
 module _ {block : ℕ → ℕ → ℕ → List ℕ → List ℕ} {entry : ℕ → ℕ} {zetas : List ℕ} {k len : ℕ} where
   pub layered-start : {f : List ℕ} → LayerInput f zetas k len → Layered block entry zetas k len f 0 f
   layered-start i =
-      record { input = i; entries = ap length (i .table) ∙ length-tab 128 zeta; long = refl; reached = reached-start }
+      record { input = i; entries = tabulated-length 128 zeta (i .table); long = refl; reached = reached-start }
 
   module _ {f₀ f : List ℕ} {b : ℕ} (p : Layered block entry zetas k len f₀ b f) where
     -- block b lies within f

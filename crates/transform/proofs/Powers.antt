@@ -8,7 +8,7 @@ use native.Mathlib.Omega.{arith}
 use lib.Dec.{T, eqb, eqb→eq}
 use lib.ListN.{getD}
 use Rattle.words.specs.Tab.{tab}
-use Rattle.words.specs.TabLaws.{getD-tab}
+use Rattle.words.specs.TabLaws.{tabulated-at}
 use Rattle.words.specs.Residue.{q}
 use Rattle.words.specs.Table.{every}
 use Rattle.words.specs.TableLaws.{every-at, table-tab}
@@ -35,7 +35,7 @@ zetas-tab = table-tab zeta zetas tt
 
 module _ {l : List ℕ} (e : l ≡ tab 128 zeta) (i : ℕ) (h : i < 128) where
   pub root : getD l i 0 ≡ zeta i
-  root = ap (λ (m : List ℕ). getD m i 0) e ∙ getD-tab 128 zeta i 0 h
+  root = tabulated-at 128 zeta e i 0 h
 
   pub root-below : getD l i 0 < q
   unfolding zeta

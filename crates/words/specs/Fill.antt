@@ -16,7 +16,7 @@ use lib.ListN.{length, getD, take, drop, set, replicate, length-set, length-appe
 use lib.ListN.{getD-replicate}
 use lib.Seq.{take-suc-set, take-all, take-at, getD-take, getD-set-other}
 use Rattle.words.specs.Tab.{tab}
-use Rattle.words.specs.TabLaws.{length-tab, getD-tab, tab-add, tab-of, tab-getD}
+use Rattle.words.specs.TabLaws.{length-tab, tabulated-length, tabulated-at, tab-add, tab-of, tab-getD}
 use Rattle.words.specs.Bounded.{Below}
 
 module _ {A : Type 0} where
@@ -48,7 +48,7 @@ module _ {A : Type 0} where
       let r = drop (e - i) (drop i l) in
       let w : i + (e - i) ≡ e = omega arith in
       let b : length (tab i f ++ p) ≡ e =
-      length-append (tab i f) p ∙ omega (arith, length-tab i f, ap length q ∙ length-tab (e - i) (λ k. f (i + k))) in
+      length-append (tab i f) p ∙ omega (arith, length-tab i f, tabulated-length (e - i) (λ k. f (i + k)) q) in
       rw (a .front, ← append-assoc (tab i f) p r)
       record {
         within = g;
@@ -72,7 +72,7 @@ module _ {A : Type 0} where
       filled-end a h ∙ sym (tab-of x (replicate n x) n (length-replicate n x) (λ k g. getD-replicate n k x x g))
 
   pub filled-at : {n : ℕ} {f : ℕ → A} {i : ℕ} {l : List A} → Filled n f i l → (d : A) (k : ℕ) → k < i → getD l k d ≡ f k
-  filled-at {f = f} {i} {l} a d k h = sym (getD-take i l k d h) ∙ ap (λ m. getD m k d) (a .front) ∙ getD-tab i f k d h
+  filled-at {f = f} {i} {l} a d k h = sym (getD-take i l k d h) ∙ tabulated-at i f (a .front) k d h
 
   -- the first i of the n elements are in place, and the others are still those of l₀
   pub record Replaced (n : ℕ) (f : ℕ → A) (d : A) (l₀ : List A) (i : ℕ) (l : List A) : Type 0 where

@@ -1,5 +1,5 @@
 -- Laws of tabulated lists.
-use mathlib.Core.Path.{_≡_, refl, sym, ap₂, _∙_}
+use mathlib.Core.Path.{_≡_, refl, sym, ap, ap₂, _∙_}
 use mathlib.Core.List.{List, [], _∷_, _++_, map, append-nil, append-assoc}
 use Prim.Native.Nat.{ℕ, zero, suc, _+_, _<_, _≤_}
 use native.Mathlib.Nat.{add-zero, add-suc}
@@ -23,6 +23,13 @@ module _ {A : Type 0} where
       go : Dec (i < n) → (i < n → getD (tab n f) i d ≡ f i) → getD (tab n f ++ f n ∷ []) i d ≡ f i
       go (yes p) r = List·getD-append (tab n f) (f n ∷ []) d i (rw (length-tab n f) p) ∙ r p
       go (no p) r = let e : i ≡ n = omega arith in rw e (getD-at (tab n f) (f n) [] d n (length-tab n f))
+
+  -- a list that is equal to a tabulated one: its length, and its element i
+  pub tabulated-length : (n : ℕ) (f : ℕ → A) {l : List A} → l ≡ tab n f → length l ≡ n
+  tabulated-length n f e = ap length e ∙ length-tab n f
+
+  pub tabulated-at : (n : ℕ) (f : ℕ → A) {l : List A} → l ≡ tab n f → (i : ℕ) (d : A) → i < n → getD l i d ≡ f i
+  tabulated-at n f e i d h = ap (λ (m : List A). getD m i d) e ∙ getD-tab n f i d h
 
   pub tab-cong : (n : ℕ) {f g : ℕ → A} → ((i : ℕ) → i < n → f i ≡ g i) → tab n f ≡ tab n g
   unfolding tab

@@ -1,33 +1,36 @@
--- The loop is the definition's own iteration of round, and the register goes along with it, seven steps a round.
-use mathlib.Core.Path.{_≡_, refl}
-use Prim.Native.Nat.{_-_, _*_}
-use borrow.Author.Needs.{needs}
-use Rattle.words.specs.Iterate.{iterate}
+-- The loop is the definition's own iteration of round, and each round is lent the table.
+use mathlib.Core.Path.{_≡_}
+use mathlib.Core.List.{List}
+use Prim.Native.Nat.{ℕ, _-_}
+use native.Mathlib.Omega.{arith}
+use Rattle.words.specs.Tab.{tab}
 use Rattle.words.specs.IterateLaws.{Reached, reached-start, reached-turn, reached-end}
-use Rattle.keccak.specs.KeccakP.{register, round, keccak-p}
+use Rattle.keccak.specs.KeccakP.{constant, round, keccak-p}
 use Rattle.keccak.proofs.permute.Statement.{statement}
 use Rattle.keccak.proofs.permute.Tie as tie
 
--- i rounds done
+-- i rounds done, from the lanes s to the lanes t
+record Rounds (constants s : List ℕ) (i : ℕ) (t : List ℕ) : Type 0 where
+  pub table : constants ≡ tab 24 constant
+  pub lanes : Reached 24 round s i t
+
 abbrev Inv-loop : tie.InvT-loop
-Inv-loop t₀ reg₀ i₀ t reg i = Reached 24 round (t₀ .lanes) i (t .lanes) × (reg ≡ register (7 * i))
+Inv-loop constants t₀ i₀ t i = Rounds constants (t₀ .lanes) i (t .lanes)
 
 abbrev μ-loop : tie.MeasureT-loop
-μ-loop t₀ reg₀ i₀ t reg i = 24 - i
+μ-loop constants t₀ i₀ t i = 24 - i
 
-loop-holds : tie.Need-loop-holds Inv-loop μ-loop
-unfolding register iterate
-loop-holds c = (reached-start, refl)
+round-requires : tie.Need-round-requires Inv-loop μ-loop
+round-requires c κs = record { inside = omega arith; entries = c .before .before .loop .inv .table }
 
 loop-again : tie.Need-loop-again Inv-loop μ-loop
 loop-again c =
-    let k = c .before .round-constant in
-    let turn = c .before .before in
-    (reached-turn (turn .before .loop .inv .0) (turn .loop-test .taken) (c .round .ensures), k .ensures .next)
+    let a = c .before .before .before .loop .inv in
+    record { table = a .table; lanes = reached-turn (a .lanes) (omega arith) (c .round .ensures) }
 
 returns : tie.Need-returns Inv-loop μ-loop
 unfolding keccak-p
-returns c = reached-end (c .before .loop .inv .0) (c .loop-test .left)
+returns c = reached-end (c .before .loop .inv .lanes) (omega arith)
 
 pub permute-spec : {M : Type 1} → statement M
 permute-spec =
@@ -35,10 +38,11 @@ permute-spec =
     (tie.spec
     Inv-loop
     μ-loop
-    loop-holds
-    (λ c κs. record { inside = c .loop-test .taken; clocked = c .before .loop .inv .1 })
-    (λ c κs. c .round-constant .ensures .is)
-    (λ c. search needs)
-    (λ c. search needs)
+    (λ c κs. tt)
+    (λ c. record { table = c .round-constants .ensures; lanes = reached-start })
+    (λ c. omega arith)
+    round-requires
+    (λ c. omega arith)
+    (λ c. omega arith)
     loop-again
     returns)

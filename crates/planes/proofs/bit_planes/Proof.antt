@@ -1,13 +1,12 @@
 -- The transposition makes 32 planes, and turn j copies plane j to its place.
 use Prim.Native.Nat.{ℕ, _≤_, _-_}
-use mathlib.Core.Path.{_≡_, refl, ap, _∙_}
-use mathlib.Core.List.{List}
+use mathlib.Core.Path.{_≡_, refl}
 use native.Mathlib.Omega.{arith}
 use lib.ListN.{getD}
 use borrow.Author.Needs.{needs}
 use Rattle.words.specs.Fill.{Filled, filled-start, filled-turn}
 use Rattle.words.specs.Plane.{plane}
-use Rattle.words.specs.TabLaws.{getD-tab}
+use Rattle.words.specs.TabLaws.{tabulated-at}
 use Rattle.planes.proofs.bit_planes.Statement.{statement}
 use Rattle.planes.proofs.bit_planes.Tie as tie
 
@@ -33,10 +32,10 @@ loop-again c =
     let head = c .before in
     let l = head .loop in
     let t = transposed head in
-    let v : ℕ → ℕ = λ i. getD (start t .args .v .now) i 0 in
-    let planes = ap (λ (x : List ℕ). getD x (l .j) 0) (t .transpose .ensures) in (
+    let v : ℕ → ℕ = λ i. getD (start t .args .v .now) i 0 in (
       omega arith,
-      filled-turn (l .inv .1) (omega arith) (planes ∙ getD-tab 32 (plane 64 v) (l .j) 0 (omega arith)),
+      filled-turn (l .inv .1) (omega arith)
+          (tabulated-at 32 (plane 64 v) (t .transpose .ensures) (l .j) 0 (omega arith)),
     )
 
 returns : tie.Need-returns Inv-loop μ-loop

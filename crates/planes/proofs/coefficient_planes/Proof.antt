@@ -1,7 +1,6 @@
 -- Turn j copies plane j of the widened coefficients, which is that of the coefficients: a plane reads values alone.
 use Prim.Native.Nat.{ℕ, _≤_, _<_, _-_}
 use mathlib.Core.Path.{_≡_, ap, _∙_}
-use mathlib.Core.List.{List}
 use native.Mathlib.Omega.{arith}
 use lib.ListN.{getD, length}
 use borrow.Author.Needs.{needs}
@@ -9,7 +8,7 @@ use Rattle.words.specs.Digit.{digit}
 use Rattle.words.specs.Fill.{Filled, filled-start, filled-turn, filled-end, filled-at}
 use Rattle.words.specs.Plane.{plane}
 use Rattle.words.specs.PlaneLaws.{plane-cong}
-use Rattle.words.specs.TabLaws.{getD-tab, length-tab}
+use Rattle.words.specs.TabLaws.{tabulated-length, tabulated-at}
 use Rattle.planes.proofs.coefficient_planes.Statement.{statement}
 use Rattle.planes.proofs.coefficient_planes.Tie as tie
 
@@ -34,7 +33,7 @@ abbrev coefficient : tie.After-widened Inv-loop μ-loop → ℕ → ℕ
 coefficient c i = getD (start c .args .f .now) i 0
 
 long : (c : tie.After-widened Inv-loop μ-loop) → length (c .widened .result) ≡ 64
-long c = ap length (c .widened .ensures) ∙ length-tab 64 (coefficient c)
+long c = tabulated-length 64 (coefficient c) (c .widened .ensures)
 
 loop-again : tie.Need-loop-again Inv-loop μ-loop
 loop-again c =
@@ -42,7 +41,7 @@ loop-again c =
     let b = c .before .before in
     let w = widened b in
     let same : (i : ℕ) → i < 64 → getD (w .widened .result) i 0 ≡ coefficient w i =
-    λ i h. ap (λ (x : List ℕ). getD x i 0) (w .widened .ensures) ∙ getD-tab 64 (coefficient w) i 0 h in (
+    λ i h. tabulated-at 64 (coefficient w) (w .widened .ensures) i 0 h in (
       omega arith,
       filled-turn (l .inv .1) (omega arith)
           (filled-at (b .bit-planes .ensures) 0 (l .j) (omega arith)

@@ -4,7 +4,7 @@ use Prim.Native.Nat.{ℕ, _+_, _-_, _*_}
 use native.Mathlib.Omega.{arith}
 use lib.ListN.{length, length-set}
 use Rattle.words.specs.Residue.{q}
-use Rattle.words.specs.TabLaws.{length-tab}
+use Rattle.words.specs.TabLaws.{tabulated-length}
 use Rattle.words.specs.Fill.{Filled, filled-start, filled-turn, filled-end}
 use Rattle.transform.specs.Transform.{zeta, gamma}
 use Rattle.transform.proofs.Powers.{gamma-even, gamma-odd, root, root-below}
@@ -45,7 +45,7 @@ gammas-of-spec =
     (tie.spec
     Inv-loop
     μ-loop
-    (λ c. (ap length (c .pre .table) ∙ length-tab 128 zeta, filled-start (omega arith)))
+    (λ c. (tabulated-length 128 zeta (c .pre .table), filled-start (omega arith)))
     (λ c. omega arith)
     (λ c. omega arith)
     (λ c. omega arith)

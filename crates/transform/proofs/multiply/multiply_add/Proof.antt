@@ -1,11 +1,9 @@
 -- Turn by turn one more pair of f g is added to s, with the constant that FIPS 203 gives it.
-use mathlib.Core.Path.{_≡_, ap, _∙_}
-use mathlib.Core.List.{List}
-use Prim.Native.Nat.{ℕ, _-_}
+use mathlib.Core.Path.{_≡_}
+use Prim.Native.Nat.{_-_}
 use native.Mathlib.Omega.{arith}
-use lib.ListN.{getD}
 use Rattle.words.specs.Tab.{tab}
-use Rattle.words.specs.TabLaws.{getD-tab}
+use Rattle.words.specs.TabLaws.{tabulated-at}
 use Rattle.transform.specs.Transform.{gamma}
 use Rattle.transform.proofs.Powers.{zetas-tab}
 use Rattle.transform.proofs.Products.{Added, added-start, added-turn, added-end}
@@ -42,7 +40,7 @@ base-case-multiply-requires c κs =
       sum = omega arith;
       left = omega arith;
       right = omega arith;
-      constant = ap (λ (l : List ℕ). getD l (a .i) 0) (a .inv .0) ∙ getD-tab 128 gamma (a .i) 0 (omega arith);
+      constant = tabulated-at 128 gamma (a .inv .0) (a .i) 0 (omega arith);
     }
 
 loop-again : tie.Need-loop-again Inv-loop μ-loop
