@@ -1,12 +1,11 @@
 -- FIPS 203's three sets lie within the bounds: their numbers, with the counts of the table, are compared.
 use mathlib.Core.Path.{_≡_}
-use mathlib.Core.Bool.{Bool, true, false, cond}
 use Prim.Native.Nat.{ℕ}
 use borrow.Author.Needs.{needs}
-use lib.Dec.{eqb}
 use Rattle.parameters.specs.declared.Parameters.{Parameters}
 use Rattle.parameters.specs.Sets.{mlKem512, mlKem768, mlKem1024}
 use Rattle.parameters.specs.Ranks.{ofRank}
+use Rattle.parameters.specs.RankLaws.{each-set}
 use Rattle.parameters.specs.Lengths.{ekBytes, dkBytes, ctBytes}
 use Rattle.stages.specs.Counts.{stripWords, stripCoeffs}
 use Rattle.stages.specs.EntryCounts.{steps}
@@ -23,16 +22,10 @@ listed :
     → SetBounded p
 listed p ew ec es b = rw (ew, ec, es) b
 
-chosen : (b c : Bool) → SetBounded (cond b mlKem512 (cond c mlKem768 mlKem1024))
-chosen true c =
-    let t = countsTable in
-    listed mlKem512 (t .words512 .strip) (t .coeffs512 .strip) (t .entries512 .steps) (search needs)
-chosen false true =
-    let t = countsTable in
-    listed mlKem768 (t .words768 .strip) (t .coeffs768 .strip) (t .entries768 .steps) (search needs)
-chosen false false =
-    let t = countsTable in
-    listed mlKem1024 (t .words1024 .strip) (t .coeffs1024 .strip) (t .entries1024 .steps) (search needs)
-
 pub bounded : (rank : ℕ) → SetBounded (ofRank rank)
-bounded rank = chosen (eqb rank 2) (eqb rank 3)
+bounded =
+    let t = countsTable in
+    each-set SetBounded
+    (listed mlKem512 (t .words512 .strip) (t .coeffs512 .strip) (t .entries512 .steps) (search needs))
+    (listed mlKem768 (t .words768 .strip) (t .coeffs768 .strip) (t .entries768 .steps) (search needs))
+    (listed mlKem1024 (t .words1024 .strip) (t .coeffs1024 .strip) (t .entries1024 .steps) (search needs))

@@ -15,9 +15,9 @@ use Rattle.refusals.specs.declared.Answer.{Answer}
 use Rattle.refusals.specs.declared.Answer.the-variants.{Done, WrongLength, MaskRange, ShareRange, ShortStream}
 use Rattle.refusals.specs.declared.Answer.the-variants.{NoSuchStep}
 use Rattle.refusals.specs.Refusals.{number, answer, after, Row, Lent, lent, sized}
-use Rattle.refusals.specs.Same.{same}
 use Rattle.refusals.specs.SameLaws.{and-right}
-use Rattle.refusals.specs.RefusalLaws.{refused, passed, no-row, after-refused, sized-exact, sized-more, sized-first}
+use Rattle.refusals.specs.RefusalLaws.{refused, passed, no-row, after-refused, wants}
+use Rattle.refusals.specs.RefusalLaws.{sized-exact, sized-more, sized-first}
 use Rattle.tracing.specs.Told.{toldAnswer, toldValue, leftOf}
 use Rattle.tracing.specs.Trace as trace
 use Rattle.tracing.specs.ToldLaws.{told-none, told-refused, told-over, told-done, ran-value, left-answer, left-value}
@@ -48,23 +48,10 @@ module _ (p : Parameters) (g : Input) (k0 k1 : List ℕ) where
   abbrev pub all : List Lent
   all = lengths p g ++ lent k0 4 ∷ lent k1 4 ∷ []
 
-  abbrev has : List ℕ
-  has =
-      length (g .key .s .s0) ∷ length (g .key .s .s1) ∷ length (g .key .z .s0) ∷ length (g .key .z .s1)
-      ∷ length (g .key .public) ∷ length (g .ct) ∷ length (g .words) ∷ length (g .coeffs) ∷ length k0 ∷ length k1 ∷ []
-
-  pub sized-same : sized all
-      ≡ same has
-      ((256 * p .k) ∷ (256 * p .k) ∷ 4 ∷ 4 ∷ (ekBytes p + 32) ∷ ctBytes p ∷ stripWords p ∷ stripCoeffs p ∷ 4 ∷ 4 ∷ [])
-  unfolding sized same
-  sized-same = refl
-
   -- with the lengths as the code counts them
-  pub same-wants : {h ct w c : ℕ} → h ≡ ekBytes p → ct ≡ ctBytes p → w ≡ stripWords p → c ≡ stripCoeffs p
-      → same has
-      ((256 * p .k) ∷ (256 * p .k) ∷ 4 ∷ 4 ∷ (ekBytes p + 32) ∷ ctBytes p ∷ stripWords p ∷ stripCoeffs p ∷ 4 ∷ 4 ∷ [])
-      ≡ same has ((256 * p .k) ∷ (256 * p .k) ∷ 4 ∷ 4 ∷ (h + 32) ∷ ct ∷ w ∷ c ∷ 4 ∷ 4 ∷ [])
-  same-wants e f g k = rw (e, f, g, k) refl
+  pub wanted : {h ct w c : ℕ} → h ≡ ekBytes p → ct ≡ ctBytes p → w ≡ stripWords p → c ≡ stripCoeffs p
+      → (256 * p .k) ∷ (256 * p .k) ∷ 4 ∷ 4 ∷ (h + 32) ∷ ct ∷ w ∷ c ∷ 4 ∷ 4 ∷ [] ≡ wants all
+  wanted e f g k = rw (e, f, g, k) refl
 
 sized-last : (bs cs : List Lent) → sized (bs ++ cs) ≡ true → sized cs ≡ true
 unfolding sized

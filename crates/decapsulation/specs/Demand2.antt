@@ -26,15 +26,10 @@ module _ {p : Parameters} {g : Input} {k0₀ k1₀ k0 k1 : List ℕ} (d : Decaps
 
   key-inOrder : Typed g → InOrder p (g .key)
   key-inOrder types =
-      let l = decapsulated-tested .long .key in
       record {
-        s0 = l .s0;
-        s1 = l .s1;
-        z0 = l .z0;
-        z1 = l .z1;
+        long = decapsulated-tested .long .key;
         words0 = types .z0;
         words1 = types .z1;
-        public = l .public;
         bytes = below-drop (ekBytes p) (types .public);
       }
 

@@ -13,9 +13,16 @@ use Rattle.mlkem.specs.MlKem as fips203
 use Rattle.split_key.specs.Import.{ImportedBy}
 use Rattle.split_key.specs.SplitKey.{SplitKey}
 use Rattle.meaning.specs.JoinedDk.{joinedDk}
+use Rattle.meaning.specs.ReducedDk.{reducedDk}
 use Rattle.decapsulation.specs.Calls.{Input, Typed, DecapsulatedBy}
 use Rattle.decapsulation.specs.Demand2.{decaps-joins}
-use Rattle.decapsulation.specs.CallToCall.{imported-decaps}
+use Rattle.decapsulation.specs.CallToCall.{imported-joins, imported-decaps}
+
+pub imported-joins-by : {rank : ℕ} {dk maskCoeffs maskWords : List ℕ} {key₀ key : SplitKey}
+    → ImportedBy rank dk maskCoeffs maskWords key₀ 0 key
+    → Below 256 dk → Below (2 ^ 64) maskWords
+    → joinedDk (ofRank rank) key ≡ reducedDk (ofRank rank) dk
+imported-joins-by i = imported-joins (byRank-done i)
 
 module _ {rank : ℕ} {g : Input} {k0₀ k1₀ k0 k1 : List ℕ} (d : DecapsulatedBy rank g k0₀ k1₀ 0 k0 k1) where
   pub decaps-joins-by : Typed g

@@ -43,12 +43,12 @@ module _ {p : Parameters} {key : SplitKey} (o : InOrder p key) where
   length-secret = length-concat each-encoded
 
   length-hOf : length (hOf p key) ≡ 32
-  length-hOf = length-drop (ekBytes p) (key .public) ∙ omega (arith, o .public)
+  length-hOf = length-drop (ekBytes p) (key .public) ∙ omega (arith, o .long .public)
 
   length-z : length z ≡ 32
   unfolding joinedList
   length-z =
-      length-wordsToBytes 8 (joinedList (key .z)) ∙ ap (λ (n : ℕ). 8 * n) (length-tab (length (key .z .s0)) _ ∙ o .z0)
+      length-wordsToBytes 8 (joinedList (key .z)) ∙ ap (λ (n : ℕ). 8 * n) (length-tab (length (key .z .s0)) _ ∙ o .long .z0)
 
   secretPart-joined : secretPart p (joinedDk p key) ≡ secret
   unfolding joinedDk
@@ -60,13 +60,13 @@ module _ {p : Parameters} {key : SplitKey} (o : InOrder p key) where
 
   pub publicPart-joined : publicPart p (joinedDk p key) ≡ ekOf p key
   publicPart-joined =
-      ap (take (ekBytes p)) after-secret ∙ take-append-le (ekBytes p) (key .public) z (omega (arith, o .public))
+      ap (take (ekBytes p)) after-secret ∙ take-append-le (ekBytes p) (key .public) z (omega (arith, o .long .public))
 
   after-public : drop (vectorBytes p + ekBytes p) (joinedDk p key) ≡ hOf p key ++ z
   after-public =
       sym (drop-drop (ekBytes p) (vectorBytes p) (joinedDk p key))
       ∙ ap (drop (ekBytes p)) after-secret
-      ∙ drop-append-le (ekBytes p) (key .public) z (omega (arith, o .public))
+      ∙ drop-append-le (ekBytes p) (key .public) z (omega (arith, o .long .public))
 
   pub hashPart-joined : hashPart p (joinedDk p key) ≡ hOf p key
   hashPart-joined = ap (take 32) after-public ∙ take-at (hOf p key) z 32 length-hOf
@@ -85,7 +85,7 @@ module _ {p : Parameters} {key : SplitKey} (o : InOrder p key) where
       let f = joinedCoeffs (key .s) in
       ap byteDecode12 (parts-concat each-encoded i h)
       ∙ byteDecode12-byteEncode (parts 256 f i)
-      (length-part (256 * i) 256 f (omega (arith, part-fits 256 h, length-add (key .s .s0) (key .s .s1), o .s0)))
+      (length-part (256 * i) 256 f (omega (arith, part-fits 256 h, length-add (key .s .s0) (key .s .s1), o .long .s0)))
       (below-take 256 (below-drop (256 * i) (below-add (key .s .s0) (key .s .s1))))
 
   pub decrypt-joined : (c : List ℕ) → decrypt p (secretPart p (joinedDk p key)) c

@@ -4,15 +4,14 @@ use mathlib.Core.Path.{_≡_, refl, sym, ap, ap₂, _∙_}
 use mathlib.Core.List.{List, map, _++_, append-assoc}
 use Prim.Native.Nat.{ℕ, _+_, _%_, _<_}
 use native.Mathlib.Omega.{arith}
-use lib.ListN.{length, getD, drop, length-append, length-drop, take-append-drop, List·getD-map}
+use lib.ListN.{length, getD, drop, length-drop, take-append-drop, List·getD-map}
 use lib.Seq.{ext-getD, take-all, take-at, drop-at, drop-drop}
 use Rattle.words.specs.WordLaws.{xor-bits}
 use Rattle.words.specs.Bounded.{Below}
 use Rattle.words.specs.BoundedLaws.{below-append, below-take, below-drop, below-tab}
 use Rattle.words.specs.LittleEndian.{wordsToBytes}
 use Rattle.words.specs.LittleEndianLaws.{wordsToBytes-words}
-use Rattle.words.specs.TabLaws.{length-tab, tab-cong}
-use Rattle.words.specs.Part.{length-part}
+use Rattle.words.specs.TabLaws.{tab-cong}
 use Rattle.words.specs.Residue.{q}
 use Rattle.codec.specs.Bytes.{byteEncode}
 use Rattle.codec.specs.BytesLaws.{length-byteDecode12}
@@ -33,7 +32,8 @@ use Rattle.vectors.specs.VectorLaws.{length-concat, concat-cong, parts-concat, 
 use Rattle.mlkem.specs.MlKem.{secretPart, publicPart, hashPart, zPart, decaps}
 use Rattle.split_key.specs.SplitKey.{ekOf, hOf, secondCoeffs, secondWords, publicOf, split}
 use Rattle.split_key.specs.Importable.{Importable}
-use Rattle.split_key.specs.SplitLaws.{length-secondCoeffs, join-coefficients, join-words}
+use Rattle.split_key.specs.SplitLengths.{length-publicPart, length-zPart, split-sized}
+use Rattle.split_key.specs.SplitLaws.{join-coefficients, join-words}
 use Rattle.parameters.specs.Fits.{Fits}
 use Rattle.stages.specs.Worksheet.{worksheet}
 use Rattle.meaning.specs.JoinedDk.{joinedDk}
@@ -43,15 +43,6 @@ use Rattle.meaning.specs.InOrder.{InOrder}
 use Rattle.meaning.specs.WorksheetValue.{run-worksheet}
 
 module _ {p : Parameters} {dk a w : List ℕ} (o : Importable p dk a w) where
-  length-public : length (publicPart p dk) ≡ ekBytes p
-  length-public = length-part (vectorBytes p) (ekBytes p) dk (omega (arith, o .accepted .long))
-
-  length-hash : length (hashPart p dk) ≡ 32
-  length-hash = length-part (vectorBytes p + ekBytes p) 32 dk (omega (arith, o .accepted .long))
-
-  length-zPart : length (zPart p dk) ≡ 32
-  length-zPart = length-part (vectorBytes p + ekBytes p + 32) 32 dk (omega (arith, o .accepted .long))
-
   below-zPart : Below 256 (zPart p dk)
   below-zPart = below-take 32 (below-drop (vectorBytes p + ekBytes p + 32) (o .bytes))
 
@@ -59,14 +50,10 @@ module _ {p : Parameters} {dk a w : List ℕ} (o : Importable p dk a w) where
   unfolding split secondWords
   split-inOrder =
       record {
-        s0 = o .coeffs;
-        s1 = length-secondCoeffs p dk a;
-        z0 = o .words;
-        z1 = length-tab 4 _;
+        long = split-sized (o .accepted) a w (o .coeffs) (o .words);
         words0 = o .bits;
         words1 = below-tab 4 (omega arith) (λ i h.
             xor-bits (laneOf-bits below-zPart i) (record { lt = o .bits .at i }) .lt);
-        public = length-append (publicPart p dk) (hashPart p dk) ∙ omega (arith, length-public, length-hash);
         bytes = below-drop (ekBytes p)
             (below-append (publicPart p dk)
             (below-take (ekBytes p) (below-drop (vectorBytes p) (o .bytes)))
@@ -98,7 +85,7 @@ module _ {p : Parameters} {dk a w : List ℕ} (o : Importable p dk a w) where
   unfolding joinedList
   joined-z =
       ap (wordsToBytes 8) (rw (o .words) (tab-cong 4 (join-words p dk w)))
-      ∙ wordsToBytes-words 8 (zPart p dk) below-zPart 4 length-zPart
+      ∙ wordsToBytes-words 8 (zPart p dk) below-zPart 4 (length-zPart (o .accepted))
 
   -- ---- the whole
 
@@ -127,11 +114,11 @@ module _ {p : Parameters} {dk a w : List ℕ} (o : Importable p dk a w) where
 
   ekOf-split : ekOf p (split p dk a w) ≡ publicPart p dk
   unfolding split
-  ekOf-split = take-at (publicPart p dk) (hashPart p dk) (ekBytes p) length-public
+  ekOf-split = take-at (publicPart p dk) (hashPart p dk) (ekBytes p) (length-publicPart (o .accepted))
 
   hOf-split : hOf p (split p dk a w) ≡ hashPart p dk
   unfolding split
-  hOf-split = drop-at (publicPart p dk) (hashPart p dk) (ekBytes p) length-public
+  hOf-split = drop-at (publicPart p dk) (hashPart p dk) (ekBytes p) (length-publicPart (o .accepted))
 
   zPart-split : zPart p (joinedDk p (split p dk a w)) ≡ zPart p dk
   unfolding split

@@ -78,9 +78,9 @@ z-sharing {key = key} o =
     record {
       words = tab n (λ i. joined (sharedAt (key .z) i));
       sharing = record {
-        long = length-tab n (λ i. joined (sharedAt (key .z) i)) ∙ o .z0;
+        long = length-tab n (λ i. joined (sharedAt (key .z) i)) ∙ o .long .z0;
         at = λ i h.
-            rw (getD-tab n (λ i. joined (sharedAt (key .z) i)) i 0 (omega (arith, o .z0)))
+            rw (getD-tab n (λ i. joined (sharedAt (key .z) i)) i 0 (omega (arith, o .long .z0)))
             (sharing-joined (record { lt = o .words0 .at i }) (record { lt = o .words1 .at i }));
       };
       bytes = refl;

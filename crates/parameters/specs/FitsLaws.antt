@@ -1,10 +1,9 @@
 -- FIPS 203's three sets lie within the bounds: their numbers are compared.
-use mathlib.Core.Bool.{Bool, true, false, cond}
 use Prim.Native.Nat.{ℕ, _≤_}
 use native.Mathlib.Omega.{arith}
-use lib.Dec.{eqb}
 use Rattle.parameters.specs.Sets.{mlKem512, mlKem768, mlKem1024}
 use Rattle.parameters.specs.Ranks.{ofRank}
+use Rattle.parameters.specs.RankLaws.{each-set}
 use Rattle.parameters.specs.Fits.{Within, Fits}
 
 within : {low high : ℕ} (n : ℕ) → low ≤ n → n ≤ high → Within low high n
@@ -40,10 +39,5 @@ fits1024 =
       dv = within 5 (omega arith) (omega arith);
     }
 
-chosen : (b c : Bool) → Fits (cond b mlKem512 (cond c mlKem768 mlKem1024))
-chosen true c = fits512
-chosen false true = fits768
-chosen false false = fits1024
-
 pub fits-ofRank : (rank : ℕ) → Fits (ofRank rank)
-fits-ofRank rank = chosen (eqb rank 2) (eqb rank 3)
+fits-ofRank = each-set Fits fits512 fits768 fits1024

@@ -1,7 +1,9 @@
 pub mod Sets
 pub mod Ranks
+pub mod RankLaws
 pub mod ByRank
 pub mod ByRankLaws
 pub mod Lengths
 pub mod Fits
+pub mod Largest
 pub mod FitsLaws

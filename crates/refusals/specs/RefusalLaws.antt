@@ -4,16 +4,16 @@ use mathlib.Core.Bool.{Bool, true, false, not, cond, _&&_}
 use mathlib.Core.List.{List, [], _∷_, _++_}
 use Prim.Native.Nat.{ℕ, _<_}
 use native.Mathlib.Omega.{arith}
-use borrow.Author.Tests.{eqb-true, eq-eqb, ne-eqb, not-false}
+use borrow.Author.Tests.{eqb-true, eq-eqb, ne-eqb, not-true, not-false}
 use lib.Dec.{eqb}
-use lib.ListN.{length, getD}
+use lib.ListN.{length}
 use Rattle.refusals.specs.declared.Answer.{Answer}
 use Rattle.refusals.specs.declared.Answer.the-variants.{Done, WrongLength, PublicKeyRange, WrongHash}
 use Rattle.refusals.specs.declared.Answer.the-variants.{MaskRange, ShareRange, ShortStream}
 use Rattle.refusals.specs.declared.Answer.the-variants.{NoSuchStep, NoSuchRank}
 use Rattle.refusals.specs.Refusals.{number, Row, row, answer, after, Lent, sized}
 use Rattle.refusals.specs.Same.{same}
-use Rattle.refusals.specs.SameLaws.{and-left, and-right, same-true}
+use Rattle.refusals.specs.SameLaws.{and-left, and-right}
 
 -- the answer is that of the first row whose test b fails
 module _ (a : Answer) (rs : List Row) {b : Bool} where
@@ -62,11 +62,6 @@ after-kept {A} r new old h = sym (after-refused (number r) new old (λ z. omega 
 
 -- ---- lengths
 
--- the lengths that `exact` compared, one by one
-pub exact-at : (has wants : List ℕ) {r : Bool} → r ≡ same has wants → not r ≡ false → (i : ℕ)
-    → getD has i 0 ≡ getD wants i 0
-exact-at has wants {r} e t i = ap (λ (l : List ℕ). getD l i 0) (same-true has wants (sym e ∙ not-false r t))
-
 -- each lent buffer has its length
 abbrev pub Exact : List Lent → Type 0
 Exact [] = Unit {0}
@@ -99,3 +94,36 @@ sized-first (b ∷ bs) cs e =
     let c = eqb (length (b .list)) (b .size) in
     ap₂ (λ (x y : Bool). x && y) (and-left c (sized (bs ++ cs)) e)
     (sized-first bs cs (and-right c (sized (bs ++ cs)) e))
+
+-- ---- row 1, as a call tests it by `exact`
+
+-- the lengths that the lent buffers have, and those that they must have
+abbrev pub has : List Lent → List ℕ
+has [] = []
+has (b ∷ bs) = length (b .list) ∷ has bs
+
+abbrev pub wants : List Lent → List ℕ
+wants [] = []
+wants (b ∷ bs) = b .size ∷ wants bs
+
+sized-same : (bs : List Lent) → sized bs ≡ same (has bs) (wants bs)
+unfolding sized same
+sized-same [] = refl
+sized-same (b ∷ bs) = ap (λ (c : Bool). eqb (length (b .list)) (b .size) && c) (sized-same bs)
+
+-- the call has tested the buffers bs, with the answer t
+pub record LengthsTested (bs : List Lent) (t : Bool) : Type 0 where
+  pub is : sized bs ≡ t
+
+pub lengths-tested : (bs : List Lent) {w : List ℕ} {t : Bool} → t ≡ same (has bs) w → w ≡ wants bs → LengthsTested bs t
+lengths-tested bs e h = record { is = sized-same bs ∙ ap (same (has bs)) (sym h) ∙ sym e }
+
+module _ {bs : List Lent} {t : Bool} (r : LengthsTested bs t) where
+  pub row1-refused : (rs : List Row) → not t ≡ true → answer (row (not (sized bs)) WrongLength ∷ rs) ≡ WrongLength
+  row1-refused rs h = refused WrongLength rs (r .is ∙ not-true t h)
+
+  pub row1-sized : not t ≡ false → sized bs ≡ true
+  row1-sized h = r .is ∙ not-false t h
+
+  pub row1-exact : not t ≡ false → Exact bs
+  row1-exact h = sized-exact bs (row1-sized h)

@@ -10,7 +10,6 @@ use lib.ListN.{length, drop, replicate}
 use lib.Seq.{drop-at}
 use Rattle.words.specs.Bounded.{Below}
 use Rattle.words.specs.BoundedLaws.{below-take, below-drop}
-use Rattle.words.specs.Part.{length-part}
 use Rattle.words.specs.Residue.{q}
 use Rattle.worksheet.specs.Prog.{word, coeff, Prog, _>>=_, mask, times}
 use Rattle.worksheet.specs.Sum.{when}
@@ -28,6 +27,7 @@ use Rattle.mlkem.specs.MlKem.{publicPart, hashPart}
 use Rattle.kpke.specs.KPke.{matrixFull}
 use Rattle.mlkem.specs.Calls.{rhoOf}
 use Rattle.split_key.specs.SplitKey.{SplitKey, splitKey, secondCoeffs, secondWords, publicOf, split}
+use Rattle.split_key.specs.SplitLengths.{length-publicPart, length-hashPart}
 use Rattle.split_key.specs.AcceptedLaws.{accepted-public}
 use Rattle.stages.specs.Counts.{stripWords, stripCoeffs}
 use Rattle.stages.specs.EntryCounts.{steps}
@@ -51,17 +51,11 @@ like-words = like-times 4 (λ j h. draw-c identity (λ x l. ret-c tt))
 -- ---- the public key and h, as import stores them
 
 module _ {p : Parameters} {dk : List ℕ} (key : Key p dk) where
-  pub length-publicPart : length (publicPart p dk) ≡ ekBytes p
-  length-publicPart = length-part (vectorBytes p) (ekBytes p) dk (omega (arith, key .accepts .long))
-
-  pub length-hashPart : length (hashPart p dk) ≡ 32
-  length-hashPart = length-part (vectorBytes p + ekBytes p) 32 dk (omega (arith, key .accepts .long))
-
   public-hash : drop (ekBytes p) (publicOf p dk) ≡ hashPart p dk
-  public-hash = drop-at (publicPart p dk) (hashPart p dk) (ekBytes p) length-publicPart
+  public-hash = drop-at (publicPart p dk) (hashPart p dk) (ekBytes p) (length-publicPart (key .accepts))
 
   length-hash : length (drop (ekBytes p) (publicOf p dk)) ≡ 32
-  length-hash = ap length public-hash ∙ length-hashPart
+  length-hash = ap length public-hash ∙ length-hashPart (key .accepts)
 
   below-hash : Below 256 (drop (ekBytes p) (publicOf p dk))
   below-hash = rw public-hash (below-take 32 (below-drop (vectorBytes p + ekBytes p) (key .bytes)))

@@ -4,16 +4,15 @@
 use mathlib.Core.Path.{_≡_, refl, sym, ap, ap₂, _∙_}
 use mathlib.Core.Bool.{Bool, true, false, cond, _&&_}
 use mathlib.Core.List.{List}
-use Prim.Native.Nat.{ℕ, _+_, _*_, _^_, _<_}
+use Prim.Native.Nat.{ℕ, _*_, _^_, _<_}
 use native.Mathlib.Decide.{decLt}
 use native.Mathlib.Omega.{arith}
 use borrow.Author.Tests.{lt-ltb, le-ltb}
 use lib.Dec.{eqb, ltb}
-use lib.ListN.{length, getD, replicate, length-append}
+use lib.ListN.{length, getD, replicate}
 use lib.Seq.{take-at}
 use Rattle.words.specs.Bounded.{Below}
 use Rattle.words.specs.Residue.{q}
-use Rattle.words.specs.TabLaws.{length-tab}
 use Rattle.worksheet.specs.Sum.{when}
 use Rattle.worksheet.specs.Count.{tally, strips}
 use Rattle.worksheet.specs.CountLaws.{hit-getD}
@@ -30,8 +29,8 @@ use Rattle.vectors.specs.Vector.{coefficients}
 use Rattle.mlkem.specs.MlKem.{secretPart, publicPart, hashPart}
 use Rattle.refusals.specs.ReducedLaws.{below-reduced}
 use Rattle.mlkem.specs.Calls.{rhoOf}
-use Rattle.split_key.specs.SplitKey.{secondCoeffs, secondWords, publicOf, split}
-use Rattle.split_key.specs.SplitLaws.{length-secondCoeffs}
+use Rattle.split_key.specs.SplitKey.{secondCoeffs, split}
+use Rattle.split_key.specs.SplitLengths.{length-publicPart, split-sized}
 use Rattle.stages.specs.Counts.{stripWords, stripCoeffs}
 use Rattle.stages.specs.EntryCounts.{steps}
 use Rattle.tracing.specs.Trace as trace
@@ -39,13 +38,9 @@ use Rattle.decapsulation.specs.Calls.{Input, sheet, imported, traceAnswer, trac
 use Rattle.decapsulation.specs.Sized.{Sized}
 use Rattle.decapsulation.specs.AnswerLaws.{trace-rows, sheet-steps}
 use Rattle.silence.specs.Claim.{Key, Ciphertext, gives, choices, handsBack, traceChoices, Silent}
-use Rattle.silence.specs.Demand3.{hit-past, length-publicPart, length-hashPart, demand3}
+use Rattle.silence.specs.Demand3.{hit-past, demand3}
 
 module _ {p : Parameters} {dk c : List ℕ} (key : Key p dk) (ct : Ciphertext p c) where
-  length-public : length (publicOf p dk) ≡ ekBytes p + 32
-  length-public =
-      length-append (publicPart p dk) (hashPart p dk) ∙ omega (arith, length-publicPart key, length-hashPart key)
-
   abbrev full : Bool
   full = matrixFull (p .k) (rhoOf p (publicPart p dk))
 
@@ -55,20 +50,7 @@ module _ {p : Parameters} {dk c : List ℕ} (key : Key p dk) (ct : Ciphertext p 
     g = imported p dk a w c ws cs
 
     all-long : Sized p g
-    unfolding split secondWords
-    all-long =
-        record {
-          key = record {
-            s0 = la;
-            s1 = length-secondCoeffs p dk a;
-            z0 = lw;
-            z1 = length-tab 4 _;
-            public = length-public;
-          };
-          ct = ct .long;
-          words = lws;
-          coeffs = lcs;
-        }
+    all-long = record { key = split-sized (key .accepts) a w la lw; ct = ct .long; words = lws; coeffs = lcs }
 
     second-below : Below q (secondCoeffs p dk a)
     unfolding secondCoeffs
@@ -80,7 +62,7 @@ module _ {p : Parameters} {dk c : List ℕ} (key : Key p dk) (ct : Ciphertext p 
         trace-rows p g t all-long (below-reduced cs rcs)
         (ap₂ (λ (x y : Bool). x && y) (below-reduced a ra) (below-reduced (secondCoeffs p dk a) second-below))
         ∙ ap (λ (l : List ℕ). cond (matrixFull (p .k) (rhoOf p l)) (cond (ltb t (steps p)) Done NoSuchStep) ShortStream)
-        (take-at (publicPart p dk) (hashPart p dk) (ekBytes p) (length-publicPart key))
+        (take-at (publicPart p dk) (hashPart p dk) (ekBytes p) (length-publicPart (key .accepts)))
 
     -- the trace hands back the worksheet's entry
     handsBack-gives : handsBack p g t v ≡ when full (gives p dk c t v a w ws cs)

@@ -2,6 +2,7 @@ pub mod SplitKey
 pub mod SplitLaws
 pub mod Import
 pub mod Sized
+pub mod SplitLengths
 pub mod ImportAnswerLaws
 pub mod AcceptedLaws
 pub mod Importable

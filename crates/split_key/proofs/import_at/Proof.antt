@@ -1,15 +1,11 @@
 -- A wrong length is row 1, which comes first; else all lengths are exact, as import_sized asks.
-use mathlib.Core.Path.{_≡_, sym, ap₂, _∙_}
-use mathlib.Core.List.{List, [], _∷_}
+use mathlib.Core.Path.{ap₂}
+use mathlib.Core.List.{[], _∷_}
 use Prim.Native.Nat.{ℕ, _+_, _*_}
 use borrow.Author.Needs.{needs}
-use borrow.Author.Tests.{not-true, not-false}
 use native.Mathlib.Omega.{arith}
-use lib.ListN.{length}
 use Rattle.refusals.specs.declared.Answer.the-variants.{WrongLength}
-use Rattle.refusals.specs.Same.{same}
-use Rattle.refusals.specs.Refusals.{sized}
-use Rattle.refusals.specs.RefusalLaws.{refused, sized-exact}
+use Rattle.refusals.specs.RefusalLaws.{LengthsTested, lengths-tested, row1-refused, row1-exact}
 use Rattle.split_key.specs.SplitKey.{SplitKey, splitKey}
 use Rattle.split_key.specs.Import.{importLengths, importAnswer}
 use Rattle.split_key.specs.ImportAnswerLaws.{import-refused}
@@ -50,13 +46,6 @@ start c = begun (known (counted c .before .before .before))
 
 -- ---- facts
 
--- the lengths of the lent buffers
-abbrev has : tie.Start → List ℕ
-has c =
-    let s = c .args in
-    length (s .dk .now) ∷ length (s .mask-coeffs .now) ∷ length (s .mask-words .now) ∷ length (s .s0 .now)
-    ∷ length (s .s1 .now) ∷ length (s .z0 .now) ∷ length (s .z1 .now) ∷ length (s .public .now) ∷ []
-
 abbrev key : tie.Start → SplitKey
 key c =
     let s = c .args in
@@ -64,28 +53,25 @@ key c =
 
 row1 : (c : tie.After-exact)
     → (let s = start c .args in
-    let p = s .p in
-    sized (importLengths p (s .dk .now) (s .mask-coeffs .now) (s .mask-words .now) (key (start c))) ≡ c .exact .result)
-unfolding sized same
+    LengthsTested (importLengths (s .p) (s .dk .now) (s .mask-coeffs .now) (s .mask-words .now) (key (start c)))
+    (c .exact .result))
 row1 c =
     let n = 256 * start c .args .p .k in
-    let dk = counted c .dk-bytes .ensures in
-    let ek = counted c .before .ek-bytes .ensures in
-    sym
-    (c .exact .ensures
-    ∙ ap₂ (λ (a b : ℕ). same (has (start c)) (a ∷ n ∷ 4 ∷ n ∷ n ∷ 4 ∷ 4 ∷ (b + 32) ∷ [])) dk ek)
+    let x = counted c in
+    lengths-tested _ (c .exact .ensures)
+    (ap₂ (λ (dk ek : ℕ). dk ∷ n ∷ 4 ∷ n ∷ n ∷ 4 ∷ 4 ∷ (ek + 32) ∷ []) (x .dk-bytes .ensures)
+    (x .before .ek-bytes .ensures))
 
 returns : tie.Need-returns
 unfolding importAnswer
 returns c =
     let p = start (c .before) .args .p in
-    let wrong = refused WrongLength _ (row1 (c .before) ∙ not-true _ (c .if1 .taken)) in
-    import-refused p WrongLength (omega arith) _ _ _ _ wrong
+    import-refused p WrongLength (omega arith) _ _ _ _ (row1-refused (row1 (c .before)) _ (c .if1 .taken))
 
 import-sized-requires : tie.Need-import-sized-requires
 import-sized-requires c κs =
     let x = tested c .before in
-    let e = sized-exact _ (row1 x ∙ not-false _ (tested c .if1 .left)) in
+    let e = row1-exact (row1 x) (tested c .if1 .left) in
     let k = e .1 .1 .1 in (
       start x .pre,
       record {

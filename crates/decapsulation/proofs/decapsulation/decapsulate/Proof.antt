@@ -1,14 +1,12 @@
 -- The test of lengths is row 1's; where it is passed the lengths are exact, as the rest asks.
-use mathlib.Core.Path.{_≡_, refl, sym, _∙_}
+use mathlib.Core.Path.{refl}
 use Prim.Native.Nat.{_*_, _≤_}
-use native.Mathlib.Nat.{mul-le-mul}
 use native.Mathlib.Omega.{arith}
-use borrow.Author.Tests.{not-true, not-false}
 use Rattle.refusals.specs.declared.Answer.the-variants.{WrongLength}
-use Rattle.refusals.specs.Refusals.{sized}
-use Rattle.refusals.specs.RefusalLaws.{refused}
+use Rattle.refusals.specs.RefusalLaws.{LengthsTested, lengths-tested, row1-refused, row1-sized}
+use Rattle.parameters.specs.Largest.{matrix-most}
 use Rattle.decapsulation.specs.Calls.{Input, input}
-use Rattle.decapsulation.proofs.Outcome.{all, sized-same, same-wants, all-sized, shares-long, told-row}
+use Rattle.decapsulation.proofs.Outcome.{all, wanted, all-sized, shares-long, told-row}
 use Rattle.decapsulation.proofs.LentParts.{length-front}
 use borrow.Author.Needs.{needs}
 use Rattle.decapsulation.proofs.decapsulation.decapsulate.Statement.{statement}
@@ -61,35 +59,28 @@ lent s =
 -- ---- facts
 
 square : (s : tie.Start) → 256 * s .args .p .k * s .args .p .k ≤ 4096
-square s =
-    let k = s .pre .rank .most in
-    let n : 256 * s .args .p .k ≤ 1024 = omega (arith, k) in
-    mul-le-mul n k
+square s = omega (arith, matrix-most (s .pre))
 
--- the test is row 1's
 row1 : (c : tie.After-exact)
-    → (let a = start c .args in
-    sized (all (a .p) (lent (start c)) (a .k0 .now) (a .k1 .now)) ≡ c .exact .result)
+    → (let a = start c .args in LengthsTested (all (a .p) (lent (start c)) (a .k0 .now) (a .k1 .now)) (c .exact .result))
 row1 c =
     let a = start c .args in
     let n = counted c in
     let ct = n .before in
     let words = ct .before in
-    let public = lengths n .ek-bytes .ensures in
-    sized-same (a .p) (lent (start c)) (a .k0 .now) (a .k1 .now)
-    ∙ same-wants (a .p) (lent (start c)) (a .k0 .now) (a .k1 .now) public (ct .ct-bytes .ensures)
-    (words .strip-words .ensures .0) (n .strip-coeffs .ensures .0)
-    ∙ sym (c .exact .ensures)
+    lengths-tested _ (c .exact .ensures)
+    (wanted (a .p) (lent (start c)) (a .k0 .now) (a .k1 .now) (lengths n .ek-bytes .ensures) (ct .ct-bytes .ensures)
+    (words .strip-words .ensures .0) (n .strip-coeffs .ensures .0))
 
 returns : tie.Need-returns
-returns c = told-row WrongLength (omega arith) (refused WrongLength _ (row1 (c .before) ∙ not-true _ (c .if1 .taken)))
+returns c = told-row WrongLength (omega arith) (row1-refused (row1 (c .before)) _ (c .if1 .taken))
 
 decapsulate-in-requires : tie.Need-decapsulate-in-requires
 decapsulate-in-requires c κs =
     let t = tested c in
     let s = start (t .before) in
     let a = s .args in
-    let e = row1 (t .before) ∙ not-false _ (t .if1 .left) in (
+    let e = row1-sized (row1 (t .before)) (t .if1 .left) in (
       s .pre,
       record {
         input = all-sized (a .p) (lent s) (a .k0 .now) (a .k1 .now) e;

@@ -1,10 +1,10 @@
 -- Stages 1 to 8 draw their words and all coefficients, stage 9 the next words, and stage 10 the last four.
 use mathlib.Core.Path.{_≡_, refl, ap, ap₂, _∙_}
 use Prim.Native.Nat.{ℕ, _+_, _≤_}
-use native.Mathlib.Nat.{mul-le-mul}
 use native.Mathlib.Omega.{arith}
 use borrow.Author.Needs.{needs}
 use lib.ListN.{length, drop}
+use Rattle.parameters.specs.Largest.{ctBytes-most}
 use Rattle.worksheet.specs.Ran.{bind}
 use Rattle.worksheet.specs.SharedList.{SharedList, sharedList}
 use Rattle.masked_fips202.specs.MaskedWords.{shake256MaskWords}
@@ -104,9 +104,7 @@ rejected-words : (s : tie.Start) → shake256MaskWords (32 + length (s .args .c 
 rejected-words s = ap (λ (n : ℕ). shake256MaskWords (32 + n) 4) (s .pre .input .ct)
 
 ct-most : (s : tie.Start) → length (s .args .c .now) ≤ 1568
-ct-most s =
-    let f = s .pre .fits in
-    omega (arith, s .pre .input .ct, mul-le-mul (f .du .most) (f .rank .most), f .dv .most)
+ct-most s = omega (arith, s .pre .input .ct, ctBytes-most (s .pre .fits))
 
 compared-requires : tie.Need-compared-requires
 unfolding stripCoeffs

@@ -9,6 +9,7 @@ use lib.Seq.{length-take-le}
 use Rattle.worksheet.specs.SharedList.{SharedList, sharedList}
 use Rattle.worksheet.specs.Zip.{zip}
 use Rattle.parameters.specs.declared.Parameters.{Parameters}
+use Rattle.parameters.specs.Largest.{planes-most}
 use Rattle.stages.specs.Worksheet.{wordCount}
 use Rattle.stages.specs.Counts.{compressPolyWords, stage7Words}
 use Rattle.stages.specs.LentLaws.{residues-part, residues-rest}
@@ -87,9 +88,7 @@ module _ (c : tie.After-compress-poly-words) where
   masks-within = omega (arith, u-masks, all-masks)
 
   few-planes : p c .k * (4 * p c .du) ≤ 4 * 44
-  few-planes =
-      let h : 4 * p c .du ≤ 44 = omega (arith, start c .pre .fits .du .most) in
-      mul-le-mul (start c .pre .fits .rank .most) h
+  few-planes = planes-most (start c .pre .fits)
 
 front : (c : tie.After-compress-polynomials)
     → (let m = counted c in Front (p m .k * (4 * p m .du)) (wordCount (p m)) (planes m) (u-planes c))

@@ -1,15 +1,11 @@
 -- A wrong length is row 1, which comes first; else all lengths are exact, as encaps_sized asks.
-use mathlib.Core.Path.{_≡_, sym, ap₂, _∙_}
+use mathlib.Core.Path.{ap₂}
 use mathlib.Core.List.{[], _∷_}
 use Prim.Native.Nat.{ℕ}
 use borrow.Author.Needs.{needs}
-use borrow.Author.Tests.{not-true, not-false}
 use native.Mathlib.Omega.{arith}
-use lib.ListN.{length}
 use Rattle.refusals.specs.declared.Answer.the-variants.{WrongLength}
-use Rattle.refusals.specs.Same.{same}
-use Rattle.refusals.specs.Refusals.{sized}
-use Rattle.refusals.specs.RefusalLaws.{refused, sized-exact}
+use Rattle.refusals.specs.RefusalLaws.{LengthsTested, lengths-tested, row1-refused, row1-exact}
 use Rattle.mlkem.specs.Calls.{encapsLengths, encapsAnswer}
 use Rattle.mlkem.specs.CallLaws.{encaps-refused}
 use Rattle.mlkem.proofs.encapsulation.encaps_at.Statement.{statement}
@@ -36,28 +32,22 @@ start c = known (counted c .before) .before .before
 
 row1 : (c : tie.After-exact)
     → (let s = start c .args in
-    let p = s .p in
-    sized (encapsLengths p (s .ek .now) (s .m .now) (s .ct .now) (s .k .now)) ≡ c .exact .result)
-unfolding sized same
+    LengthsTested (encapsLengths (s .p) (s .ek .now) (s .m .now) (s .ct .now) (s .k .now)) (c .exact .result))
 row1 c =
-    let s = start c .args in
     let n = counted c in
-    let has = length (s .ek .now) ∷ length (s .m .now) ∷ length (s .ct .now) ∷ length (s .k .now) ∷ [] in
-    sym
-    (c .exact .ensures
-    ∙ ap₂ (λ (a b : ℕ). same has (a ∷ 32 ∷ b ∷ 32 ∷ [])) (n .before .ek-bytes .ensures) (n .ct-bytes .ensures))
+    lengths-tested _ (c .exact .ensures)
+    (ap₂ (λ (ek ct : ℕ). ek ∷ 32 ∷ ct ∷ 32 ∷ []) (n .before .ek-bytes .ensures) (n .ct-bytes .ensures))
 
 returns : tie.Need-returns
 unfolding encapsAnswer
 returns c =
     let p = start (c .before) .args .p in
-    let wrong = refused WrongLength _ (row1 (c .before) ∙ not-true _ (c .if1 .taken)) in
-    encaps-refused p WrongLength (omega arith) _ _ _ _ wrong
+    encaps-refused p WrongLength (omega arith) _ _ _ _ (row1-refused (row1 (c .before)) _ (c .if1 .taken))
 
 encaps-sized-requires : tie.Need-encaps-sized-requires
 encaps-sized-requires c κs =
     let x = tested c .before in
-    let e = sized-exact _ (row1 x ∙ not-false _ (tested c .if1 .left)) in
+    let e = row1-exact (row1 x) (tested c .if1 .left) in
     (start x .pre, record { ek = e .0; m = e .1 .0; ct = e .1 .1 .0; k = e .1 .1 .1 .0 })
 
 returns-2 : tie.Need-returns-2

@@ -1,15 +1,11 @@
 -- A wrong length is row 1, which comes first; else all lengths are exact, as keygen_sized asks.
-use mathlib.Core.Path.{_≡_, sym, ap₂, _∙_}
+use mathlib.Core.Path.{ap₂}
 use mathlib.Core.List.{[], _∷_}
 use Prim.Native.Nat.{ℕ}
 use borrow.Author.Needs.{needs}
-use borrow.Author.Tests.{not-true, not-false}
 use native.Mathlib.Omega.{arith}
-use lib.ListN.{length}
 use Rattle.refusals.specs.declared.Answer.the-variants.{WrongLength}
-use Rattle.refusals.specs.Same.{same}
-use Rattle.refusals.specs.Refusals.{sized}
-use Rattle.refusals.specs.RefusalLaws.{refused, sized-exact}
+use Rattle.refusals.specs.RefusalLaws.{LengthsTested, lengths-tested, row1-refused, row1-exact}
 use Rattle.mlkem.specs.Calls.{keyGenLengths, keyGenAnswer}
 use Rattle.mlkem.specs.CallLaws.{keygen-refused}
 use Rattle.mlkem.proofs.key_making.keygen_at.Statement.{statement}
@@ -36,28 +32,22 @@ start c = known (counted c .before) .before .before
 
 row1 : (c : tie.After-exact)
     → (let s = start c .args in
-    let p = s .p in
-    sized (keyGenLengths p (s .d .now) (s .z .now) (s .ek .now) (s .dk .now)) ≡ c .exact .result)
-unfolding sized same
+    LengthsTested (keyGenLengths (s .p) (s .d .now) (s .z .now) (s .ek .now) (s .dk .now)) (c .exact .result))
 row1 c =
-    let s = start c .args in
     let n = counted c in
-    let has = length (s .d .now) ∷ length (s .z .now) ∷ length (s .ek .now) ∷ length (s .dk .now) ∷ [] in
-    sym
-    (c .exact .ensures
-    ∙ ap₂ (λ (a b : ℕ). same has (32 ∷ 32 ∷ a ∷ b ∷ [])) (n .before .ek-bytes .ensures) (n .dk-bytes .ensures))
+    lengths-tested _ (c .exact .ensures)
+    (ap₂ (λ (ek dk : ℕ). 32 ∷ 32 ∷ ek ∷ dk ∷ []) (n .before .ek-bytes .ensures) (n .dk-bytes .ensures))
 
 returns : tie.Need-returns
 unfolding keyGenAnswer
 returns c =
     let p = start (c .before) .args .p in
-    let wrong = refused WrongLength _ (row1 (c .before) ∙ not-true _ (c .if1 .taken)) in
-    keygen-refused p WrongLength (omega arith) _ _ _ _ wrong
+    keygen-refused p WrongLength (omega arith) _ _ _ _ (row1-refused (row1 (c .before)) _ (c .if1 .taken))
 
 keygen-sized-requires : tie.Need-keygen-sized-requires
 keygen-sized-requires c κs =
     let x = tested c .before in
-    let e = sized-exact _ (row1 x ∙ not-false _ (tested c .if1 .left)) in
+    let e = row1-exact (row1 x) (tested c .if1 .left) in
     (start x .pre, record { d = e .0; z = e .1 .0; ek = e .1 .1 .0; dk = e .1 .1 .1 .0 })
 
 returns-2 : tie.Need-returns-2

@@ -1,8 +1,7 @@
 -- A rank of at most 4 has a matrix of at most 4,096 coefficients, which are the room that keygen_in asks for.
-use Prim.Native.Nat.{_*_, _≤_}
 use borrow.Author.Needs.{needs}
-use native.Mathlib.Nat.{mul-le-mul}
 use native.Mathlib.Omega.{arith}
+use Rattle.parameters.specs.Largest.{matrix-most}
 use Rattle.mlkem.proofs.key_making.keygen_sized.Statement.{statement}
 use Rattle.mlkem.proofs.key_making.keygen_sized.Tie as tie
 
@@ -14,18 +13,15 @@ known c = c .before .before .before
 abbrev start : tie.After-struct-known2 → tie.Start
 start c = known c .before .before .before
 
-places : (c : tie.After-struct-known2) → start c .args .p .k * start c .args .p .k ≤ 16
-places c = let r = start c .pre .0 .rank in mul-le-mul (r .most) (r .most)
-
 pub keygen-sized-spec : {M : Type 1} → statement M
 keygen-sized-spec =
     tie.close
     (tie.spec
     (λ c. omega arith)
-    (λ c. record { fits = omega (arith, places c) })
+    (λ c. record { fits = omega (arith, matrix-most (start c .pre .0)) })
     (λ c. omega arith)
     (λ c. omega arith)
-    (λ c. omega (arith, places c))
+    (λ c. omega (arith, matrix-most (start c .pre .0)))
     (λ c κs. search needs)
     (λ c. omega arith)
     (λ c. omega arith)
