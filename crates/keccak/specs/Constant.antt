@@ -1,14 +1,23 @@
--- The round constants have 64 bits.
-use Prim.Native.Nat.{ℕ, _+_, _-_, _^_}
+-- The round constants: the entries of a list that tabulates them, and that they have 64 bits.
+use mathlib.Core.Path.{_≡_}
+use mathlib.Core.List.{List}
+use Prim.Native.Nat.{ℕ, _+_, _-_, _^_, _<_}
 use native.Mathlib.Nat.{mod-lt}
 use native.Mathlib.Omega.{arith}
 use lib.Dec.{leb, leb→le}
+use lib.ListN.{getD}
 use lib.Pow.{shl-lt}
 use Rattle.words.specs.Bits.{Bits}
 use Rattle.words.specs.WordLaws.{xor-bits, zero-bits, bits-mono}
 use Rattle.words.specs.IterateLaws.{iterate-keeps}
 use Rattle.words.specs.TableLaws.{every-at}
+use Rattle.words.specs.Tab.{tab}
+use Rattle.words.specs.TabLaws.{tabulated-at}
 use Rattle.keccak.specs.KeccakP.{rc, withBit, constant}
+
+pub entry-constant : {constants : List ℕ} → constants ≡ tab 24 constant → (i : ℕ) → i < 24
+    → getD constants i 0 ≡ constant i
+entry-constant e i h = tabulated-at 24 constant e i 0 h
 
 pub constant-bits : (i : ℕ) → Bits 64 (constant i)
 unfolding constant rc

@@ -3,4 +3,3 @@ pub mod Rows
 pub mod LinearPass
 pub mod Aim
 pub mod Constant
-pub mod RoundTable

@@ -1,7 +1,6 @@
 // Keccak-p[1600, 24] (FIPS 202, section 3).
 ghost use mathlib.Core.Path.{_≡_};
-ghost use Rattle.keccak.specs.KeccakP.{keccak-p, round as roundOf};
-ghost use Rattle.keccak.specs.RoundTable.{RoundTable};
+ghost use Rattle.keccak.specs.KeccakP.{keccak-p, constant as constantOf, round as roundOf};
 use crate::constants::round_constants;
 use crate::state::State;
 use crate::steps::chi;
@@ -15,12 +14,12 @@ pub mod row; // five lanes of a state
 pub mod state; // the 25 lanes
 pub mod steps; // the step mappings
 
-// Algorithm 7, step 2: round i, with the table of constants.
-fn round(s: State, constants: &[u64], i: usize) -> State
-    requires { ⌜ RoundTable (now constants) i ⌝ }
+// Algorithm 7, step 2: round i, with its constant k.
+fn round(s: State, i: usize, k: u64) -> State
+    requires { ⌜ k ≡ constantOf i ⌝ }
     ensures { λ r. ⌜ r .lanes ≡ roundOf i (s .lanes) ⌝ }
 {
-    iota(chi(pi(rho(theta(s)))), constants[i])
+    iota(chi(pi(rho(theta(s)))), k)
 }
 
 // Algorithm 7: the permutation.
@@ -30,7 +29,7 @@ pub fn permute(s: State) -> State
     let constants = round_constants();
     let mut t = s;
     for i in 0..24 {
-        t = round(t, &constants, i);
+        t = round(t, i, constants[i]);
     }
     t
 }

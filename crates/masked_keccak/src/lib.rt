@@ -23,7 +23,7 @@ fn round(
     rec: Recorder,
     a: State,
     b: State,
-    constants: &[u64],
+    constants: &[u64; 24],
     i: usize,
     ws: &[u64],
 ) -> EnteredStates

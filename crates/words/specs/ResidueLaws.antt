@@ -24,10 +24,6 @@ add-sub-mod : (x c m : ℕ) → x < m → c ≤ m → ((x + c) % m + (m - c)) % 
 add-sub-mod x c m h g =
     mod-add-mod (x + c) m (m - c) ∙ ap (λ (n : ℕ). n % m) (omega arith) ∙ add-mod-right x m ∙ mod-eq-of-lt h
 
-pub sub-add-mod : (x c m : ℕ) → x < m → c ≤ m → ((x + (m - c)) % m + c) % m ≡ x
-sub-add-mod x c m h g =
-    mod-add-mod (x + (m - c)) m c ∙ ap (λ (n : ℕ). n % m) (omega arith) ∙ add-mod-right x m ∙ mod-eq-of-lt h
-
 -- a summand is determined by the sum
 pub add-mod-cancel : (a x y m : ℕ) → a ≤ m → x < m → y < m → (a + x) % m ≡ (a + y) % m → x ≡ y
 add-mod-cancel a x y m h f g e = sym (back x f) ∙ ap (λ (n : ℕ). (n + (m - a)) % m) e ∙ back y g

@@ -1,4 +1,4 @@
--- The loop is the definition's own iteration of round, and each round is lent the table.
+-- The loop is the definition's own iteration of round, and what it reads in the table is each round's constant.
 use mathlib.Core.Path.{_≡_}
 use mathlib.Core.List.{List}
 use Prim.Native.Nat.{ℕ, _-_}
@@ -6,6 +6,7 @@ use native.Mathlib.Omega.{arith}
 use Rattle.words.specs.Tab.{tab}
 use Rattle.words.specs.IterateLaws.{Reached, reached-start, reached-turn, reached-end}
 use Rattle.keccak.specs.KeccakP.{constant, round, keccak-p}
+use Rattle.keccak.specs.Constant.{entry-constant}
 use Rattle.keccak.proofs.permute.Statement.{statement}
 use Rattle.keccak.proofs.permute.Tie as tie
 
@@ -21,11 +22,11 @@ abbrev μ-loop : tie.MeasureT-loop
 μ-loop constants t₀ i₀ t i = 24 - i
 
 round-requires : tie.Need-round-requires Inv-loop μ-loop
-round-requires c κs = record { inside = omega arith; entries = c .before .before .loop .inv .table }
+round-requires c κs = let a = c .before .loop in entry-constant (a .inv .table) (a .i) (omega arith)
 
 loop-again : tie.Need-loop-again Inv-loop μ-loop
 loop-again c =
-    let a = c .before .before .before .loop .inv in
+    let a = c .before .before .loop .inv in
     record { table = a .table; lanes = reached-turn (a .lanes) (omega arith) (c .round .ensures) }
 
 returns : tie.Need-returns Inv-loop μ-loop
@@ -40,6 +41,7 @@ permute-spec =
     μ-loop
     (λ c κs. tt)
     (λ c. record { table = c .round-constants .ensures; lanes = reached-start })
+    (λ c. omega arith)
     (λ c. omega arith)
     round-requires
     (λ c. omega arith)

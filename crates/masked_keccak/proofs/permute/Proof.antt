@@ -47,7 +47,8 @@ round-requires : tie.Need-round-requires Inv-loop μ-loop
 round-requires c κs =
     let a = c .before .before .before .loop in
     record {
-      table = record { inside = omega arith; entries = a .inv .table };
+      inside = omega arith;
+      table = a .inv .table;
       masks = simp (length-take, length-drop) (omega arith);
     }
 
@@ -80,7 +81,6 @@ permute-spec =
     μ-loop
     (λ c κs. tt)
     (λ c. record { within = omega arith; table = c .round-constants .ensures; ran = λ cs. loop-start _ _ })
-    (λ c. omega arith)
     (λ c. omega arith)
     (λ c. omega arith)
     (λ c. omega arith)
