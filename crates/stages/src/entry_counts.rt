@@ -1,4 +1,4 @@
-// How many entries the worksheet makes, for a parameter set.
+// How many entries the worksheet makes, for a parameter set. The bounds only keep the sums from overflowing.
 ghost use mathlib.Core.Path.{_≡_};
 ghost use Prim.Native.Nat.{_≤_};
 ghost use Rattle.parameters.specs.Fits.{Within, Fits};

@@ -1,4 +1,5 @@
-// How many masks the stages draw, for a parameter set: where the next stage's part of a strip begins.
+// How many masks the stages draw, for a parameter set: where the next stage's part of a strip begins. The bounds only
+// keep the sums from overflowing; most counts are far below theirs.
 ghost use mathlib.Core.Path.{_≡_};
 ghost use Prim.Native.Nat.{_≤_};
 ghost use Rattle.parameters.specs.Fits.{Within, Fits};
