@@ -25,9 +25,17 @@ static inline void draw_coeffs(uint16_t *to, int n) {
     for (int i = 0; i < n; i++) to[i] = next_word() % Q;
 }
 
-static inline void make_key(void) {
+static inline void make_pair(void) {
     if (tifo_keygen(RANK, d, 32, z, 32, ek, EK_BYTES, dk, DK_BYTES) != 0) exit(2);
+}
+
+static inline void encapsulate(void) {
     if (tifo_encaps(RANK, ek, EK_BYTES, m, 32, ct, CT_BYTES, k, 32) != 0) exit(2);
+}
+
+static inline void make_key(void) {
+    make_pair();
+    encapsulate();
 }
 
 static inline void split(const uint8_t *key) {
