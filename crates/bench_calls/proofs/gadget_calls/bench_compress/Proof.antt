@@ -4,11 +4,11 @@ use native.Mathlib.Omega.{arith}
 use borrow.Author.Tests.{not-false}
 use borrow.Author.Needs.{needs}
 use Rattle.refusals.specs.ReducedLaws.{reduced-below}
-use Rattle.bench_calls.proofs.gadget_calls.compress.Statement.{statement}
-use Rattle.bench_calls.proofs.gadget_calls.compress.Tie as tie
+use Rattle.bench_calls.proofs.gadget_calls.bench_compress.Statement.{statement}
+use Rattle.bench_calls.proofs.gadget_calls.bench_compress.Tie as tie
 
 -- share 0 tested, before share 1
-abbrev first : tie.Else5 → tie.Else4
+abbrev first : tie.Else6 → tie.Else5
 first c = c .before .before
 
 masked-compress-requires : tie.Need-masked-compress-requires
@@ -19,20 +19,21 @@ masked-compress-requires c κs =
       share0 =
           record {
             long = omega arith;
-            below = reduced-below _ (sym (e .before .reduced .ensures) ∙ not-false _ (e .if4 .left));
+            below = reduced-below _ (sym (e .before .reduced .ensures) ∙ not-false _ (e .if5 .left));
           };
       share1 =
           record {
             long = omega arith;
-            below = reduced-below _ (sym (c .before .reduced2 .ensures) ∙ not-false _ (c .if5 .left));
+            below = reduced-below _ (sym (c .before .reduced2 .ensures) ∙ not-false _ (c .if6 .left));
           };
       masks = omega arith;
     }
 
-pub compress-spec : {M : Type 1} → statement M
-compress-spec =
+pub bench-compress-spec : {M : Type 1} → statement M
+bench-compress-spec =
     tie.close
     (tie.spec
+    (λ c. search needs)
     (λ c. search needs)
     (λ c. search needs)
     (λ c. omega arith)
