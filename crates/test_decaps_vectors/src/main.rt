@@ -5,7 +5,7 @@ use test_support::sizes::print_name;
 use text::print;
 
 mod secrets;
-mod stage_edges; // the first and the last step of each stage
+mod stage_edges; // where each stage begins
 mod traces;
 
 fn set(rank: u32) {

@@ -4,7 +4,7 @@ ghost use mathlib.Core.Path.{_≡_};
 ghost use Prim.Native.Nat.{_+_, _*_, _<_, _≤_};
 ghost use lib.ListN.{length};
 ghost use Rattle.test_support.specs.Sizes.{Bounded};
-use crate::stage_edges::edge_steps;
+use crate::stage_edges::stage_starts;
 use refusals::number;
 use test_decaps_support::calls::decaps;
 use test_decaps_support::calls::trace;
@@ -32,10 +32,20 @@ fn print_step(case: Case, step: u64) {
     print(b"\n");
 }
 
+// The last step before one; none comes before step 0.
+fn last_before(step: u64) -> u64 {
+    if step == 0 {
+        return 0;
+    }
+    step - 1
+}
+
+// The first and the last step of each stage.
 fn print_steps(case: Case) {
-    let steps = edge_steps(case.rank);
-    for i in 0..20 {
-        print_step(case, steps[i]);
+    let starts = stage_starts(case.rank);
+    for i in 0..10 {
+        print_step(case, starts[i]);
+        print_step(case, last_before(starts[i + 1]));
     }
 }
 

@@ -1,4 +1,4 @@
--- There are twenty steps, and the loop stops at the twentieth, so that each index is in range.
+-- There are ten stages and eleven numbers, so that a stage and the next are in range.
 use Prim.Native.Nat.{_-_, _≤_}
 use mathlib.Core.Path.{_≡_}
 use borrow.Author.Needs.{needs}
@@ -6,12 +6,12 @@ use lib.ListN.{length}
 use Rattle.test_decaps_vectors.proofs.traces.print_steps.Statement.{statement}
 use Rattle.test_decaps_vectors.proofs.traces.print_steps.Tie as tie
 
--- i steps printed
+-- i stages printed
 abbrev Inv-loop : tie.InvT-loop
-Inv-loop case steps i₀ i = (i ≤ 20) × (length steps ≡ 20)
+Inv-loop case starts i₀ i = (i ≤ 10) × (length starts ≡ 11)
 
 abbrev μ-loop : tie.MeasureT-loop
-μ-loop case steps i₀ i = 20 - i
+μ-loop case starts i₀ i = 10 - i
 
 pub print-steps-spec : {M : Type 1} → statement M
 print-steps-spec =
@@ -23,6 +23,11 @@ print-steps-spec =
     (λ c. search needs)
     (λ c. search needs)
     (λ c. search needs)
+    (λ c κs. search needs)
+    (λ c. search needs)
+    (λ c. search needs)
+    (λ c. search needs)
+    (λ c κs. search needs)
     (λ c κs. search needs)
     (λ c. search needs)
     (λ c. search needs)
