@@ -48,7 +48,7 @@ fn hash_parts(
     out: &mut [u8],
     out1: &mut [u8],
 ) -> Answer
-    requires { ⌜ length (now masks) ≤ 11750 ⌝ }
+    requires { ⌜ length (now masks) ≤ 2425 ⌝ }
 {
     fips202::shake256(b"shares", in1);
     xor_into(in0, message);

@@ -1,4 +1,4 @@
--- Two coefficients share three bytes: i / 2 * 3 and the two places after it lie in 1,152 bytes, which a store keeps.
+-- Two coefficients share three bytes, from i / 2 * 3 on; coefficient i's are among all, and a store keeps the length.
 use borrow.Author.Needs.{needs}
 use lib.ListN.{length-set}
 use Rattle.test_keys.proofs.coefficients.put.Statement.{statement}
