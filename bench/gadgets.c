@@ -1,6 +1,6 @@
-/* One call of one gadget, for callgrind: adder, compress, sampler (of one polynomial) or fold; its depth, width or
-   number of words; the entry to keep (0: none); and whether what is lent is taken or refused by the last test, a
-   coefficient's range or the number of masks. */
+/* One call of one gadget, for callgrind: adder, compress, sampler or fold; its depth, width or number of words; the
+   entry to keep (0: none); and whether what is lent is taken or refused by the last test, a coefficient's range or the
+   number of masks. */
 #include <stdint.h>
 #include <stdlib.h>
 #include <string.h>
@@ -9,12 +9,12 @@ uint64_t bench_adder(size_t d, const uint64_t *x, const uint64_t *y, const uint6
                      uint64_t left);
 uint64_t bench_compress(size_t d, const uint16_t *x0, size_t n0, const uint16_t *x1, size_t n1, const uint64_t *masks,
                         size_t masks_len, uint64_t left);
-uint64_t bench_sampler(size_t eta, size_t n, uint64_t b0, uint64_t b1, const uint16_t *masks, size_t masks_len,
+uint64_t bench_sampler(size_t eta, uint64_t b0, uint64_t b1, const uint16_t *masks, size_t masks_len,
                        uint64_t left);
 uint64_t bench_fold(const uint64_t *w0, size_t n0, const uint64_t *w1, size_t n1, const uint64_t *masks,
                     size_t masks_len, uint64_t left);
 
-enum { WORDS = 196, COEFFS = 261 };
+enum { WORDS = 196, COEFFS = 6 };
 static uint64_t x[WORDS], y[WORDS], masks[WORDS + 5];
 static uint16_t f[64], g[64], coeffs[COEFFS];
 static volatile uint64_t kept;
@@ -32,7 +32,7 @@ int main(int argc, char **argv) {
     if (refused) g[63] = coeffs[COEFFS - 1] = 3329;
     if (strcmp(argv[1], "adder") == 0) kept = bench_adder(size, x, y, masks, 3 * size + 38 - refused, left);
     if (strcmp(argv[1], "compress") == 0) kept = bench_compress(size, f, 64, g, 64, masks, 3 * size + 38, left);
-    if (strcmp(argv[1], "sampler") == 0) kept = bench_sampler(size, 1, x[0], y[0], coeffs, COEFFS, left);
+    if (strcmp(argv[1], "sampler") == 0) kept = bench_sampler(size, x[0], y[0], coeffs, COEFFS, left);
     if (strcmp(argv[1], "fold") == 0) kept = bench_fold(x, size, y, size, masks, size + 5 - refused, left);
     return 0;
 }

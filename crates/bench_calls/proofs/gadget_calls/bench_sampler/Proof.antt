@@ -7,10 +7,10 @@ use Rattle.refusals.specs.ReducedLaws.{reduced-below}
 use Rattle.bench_calls.proofs.gadget_calls.bench_sampler.Statement.{statement}
 use Rattle.bench_calls.proofs.gadget_calls.bench_sampler.Tie as tie
 
-sample-polynomials-requires : tie.Need-sample-polynomials-requires
-sample-polynomials-requires c κs =
+sampler-requires : tie.Need-sampler-requires
+sampler-requires c κs =
     let masks = reduced-below _ (sym (c .before .reduced .ensures) ∙ not-false _ (c .if4 .left)) in
-    (record { positive = omega arith; width = omega arith; masks = omega arith; below = masks }, omega arith)
+    record { positive = omega arith; width = omega arith; masks = omega arith; below = masks }
 
 pub bench-sampler-spec : {M : Type 1} → statement M
 bench-sampler-spec =
@@ -21,5 +21,5 @@ bench-sampler-spec =
     (λ c. search needs)
     (λ c κs. search needs)
     (λ c. search needs)
-    sample-polynomials-requires
+    sampler-requires
     (λ c. search needs))
