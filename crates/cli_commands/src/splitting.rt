@@ -39,18 +39,18 @@ fn write_imported(
     }
 }
 
-fn import_masked(k: usize, dk: &[u8], mask_coeffs: &[u16], mask_words: &[u64])
-    requires { ⌜ k ≤ 4 ⌝ }
+fn import_masked(set: Sizes, dk: &[u8], mask_coeffs: &[u16], mask_words: &[u64])
+    requires { ⌜ Bounded set ⌝ }
 {
     let mut s0 = [0u16; 1024];
     let mut s1 = [0u16; 1024];
     let mut z0 = [0u64; 4];
     let mut z1 = [0u64; 4];
     let mut public = [0u8; 1600];
-    let m = 256 * k;
-    let n = 384 * k + 64;
+    let m = set.coefficients;
+    let n = set.public;
     write_imported(
-        k,
+        set.k,
         dk,
         mask_coeffs,
         mask_words,
@@ -63,15 +63,15 @@ fn import_masked(k: usize, dk: &[u8], mask_coeffs: &[u16], mask_words: &[u64])
 }
 
 // With the files of arguments 3 and 4, a decapsulation key and masks.
-fn import_files(k: usize, dk: &mut [u8], mask_coeffs: &mut [u16])
-    requires { ⌜ (k ≤ 4) × (length (now «mask_coeffs») ≤ 1024) ⌝ }
+fn import_files(set: Sizes, dk: &mut [u8], mask_coeffs: &mut [u16])
+    requires { ⌜ Bounded set × (length (now «mask_coeffs») ≤ 1024) ⌝ }
 {
     let mut mask_words = [0u64; 4];
     if !read_exact(3, dk) {
         return;
     }
     if read_masks(4, mask_coeffs, &mut mask_words) {
-        import_masked(k, dk, mask_coeffs, &mask_words);
+        import_masked(set, dk, mask_coeffs, &mask_words);
     }
 }
 
@@ -82,6 +82,6 @@ pub fn import(set: Sizes)
     let mut dk = [0u8; 3168];
     let mut mask_coeffs = [0u16; 1024];
     let m = set.dk;
-    let n = 256 * set.k;
-    import_files(set.k, &mut dk[0..m], &mut mask_coeffs[0..n]);
+    let n = set.coefficients;
+    import_files(set, &mut dk[0..m], &mut mask_coeffs[0..n]);
 }

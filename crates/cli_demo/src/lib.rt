@@ -229,8 +229,8 @@ fn run_split(
     let mut s0 = [0u16; 1024];
     let mut s1 = [0u16; 1024];
     let mut public = [0u8; 1600];
-    let m = 256 * set.k;
-    let n = 384 * set.k + 64;
+    let m = set.coefficients;
+    let n = set.public;
     run_imported(
         set.k as u32,
         set.steps - 1,
@@ -342,7 +342,7 @@ fn run_strip(set: Sizes, draws: &[u8], words: &mut [u64], coeffs: &mut [u16]) ->
     strip_file::unpack(&draws[n..], words, coeffs);
     reduce(coeffs);
     let mut mask_coeffs = [0u16; 1024];
-    let m = 256 * set.k;
+    let m = set.coefficients;
     run_masks(set, &draws[0..n], &mut mask_coeffs[0..m], words, coeffs)
 }
 

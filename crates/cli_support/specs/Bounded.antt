@@ -1,5 +1,6 @@
 -- A parameter set's lengths and counts lie between those of ML-KEM-512 and those of ML-KEM-1024.
-use Prim.Native.Nat.{ℕ}
+use mathlib.Core.Path.{_≡_}
+use Prim.Native.Nat.{ℕ, _+_, _*_}
 use Rattle.parameters.specs.declared.Parameters.{Parameters}
 use Rattle.parameters.specs.Lengths.{ekBytes, dkBytes, ctBytes}
 use Rattle.parameters.specs.Fits.{Within}
@@ -16,9 +17,12 @@ pub record Between (k ek₀ dk₀ ct₀ words₀ coeffs₀ steps₀ : ℕ) : Typ
   pub coeffs : Within 6400 9472 coeffs₀
   pub steps : Within 155928 242052 steps₀
 
-abbrev pub Bounded : Sizes → Type 0
-Bounded s = Between (s .k) (s .ek) (s .dk) (s .ct) (s .words) (s .coeffs) (s .steps)
+-- so do these; the coefficients of a share and the bytes of the public key with h are what the rank says
+pub record Bounded (s : Sizes) : Type 0 where
+  pub between : Between (s .k) (s .ek) (s .dk) (s .ct) (s .words) (s .coeffs) (s .steps)
+  pub coefficients : s .coefficients ≡ 256 * s .k
+  pub public : s .public ≡ 384 * s .k + 64
 
--- the same of the set, whose sizes these are
+-- the bounds of the set, whose sizes these are
 abbrev pub SetBounded : Parameters → Type 0
 SetBounded p = Between (p .k) (ekBytes p) (dkBytes p) (ctBytes p) (stripWords p) (stripCoeffs p) (steps p)

@@ -39,9 +39,11 @@ pub fn rank_at(i: usize) -> Rank {
 
 pub struct Sizes {
     pub k: usize, // the rank
-    pub ek: usize,
+    pub coefficients: usize, // of a share
+    pub ek: usize, // bytes
     pub dk: usize,
     pub ct: usize,
+    pub public: usize, // the public key and h
     pub words: usize, // masks of a strip
     pub coeffs: usize,
     pub steps: u64,
@@ -53,9 +55,11 @@ fn measured(p: Parameters) -> Sizes
 {
     Sizes {
         k: p.k,
+        coefficients: 256 * p.k,
         ek: ek_bytes(p),
         dk: dk_bytes(p),
         ct: ct_bytes(p),
+        public: ek_bytes(p) + 32,
         words: strip_words(p),
         coeffs: strip_coeffs(p),
         steps: steps(p) as u64,

@@ -177,8 +177,8 @@ fn run(set: Sizes, asked: Asked)
     let mut z0 = [0u64; 4];
     let mut z1 = [0u64; 4];
     let mut public = [0u8; 1600];
-    let m = 256 * set.k;
-    let n = 384 * set.k + 64;
+    let m = set.coefficients;
+    let n = set.public;
     run_split(
         set,
         asked,
