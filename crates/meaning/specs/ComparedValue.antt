@@ -51,7 +51,8 @@ module _ (p : Parameters) (fits : Fits p) (key : SplitKey) (o : InOrder p key) (
   gives-maskedDecrypt : Gives (BytesSharing 4 (message p (joinedDk p key) c)) (maskedDecrypt p (key .s) c)
   unfolding maskedDecrypt
   gives-maskedDecrypt =
-      rw (decrypt-joined o c) (gives-bind (gives-stage1 p c (key .s) (o .long .s0) (o .long .s1)) (λ w a. gives-stage2 a))
+      rw (decrypt-joined o c)
+      (gives-bind (gives-stage1 p c (key .s) (o .long .s0) (o .long .s1)) (λ w a. gives-stage2 a))
 
   pub gives-compared : length c ≡ ctBytes p → Below 256 c
       → Gives (ComparedSharing c (madeAgain p (joinedDk p key) c) (output p (joinedDk p key) c)) (compared p key c)

@@ -48,7 +48,8 @@ module _ {p : Parameters} {key : SplitKey} (o : InOrder p key) where
   length-z : length z ≡ 32
   unfolding joinedList
   length-z =
-      length-wordsToBytes 8 (joinedList (key .z)) ∙ ap (λ (n : ℕ). 8 * n) (length-tab (length (key .z .s0)) _ ∙ o .long .z0)
+      length-wordsToBytes 8 (joinedList (key .z))
+      ∙ ap (λ (n : ℕ). 8 * n) (length-tab (length (key .z .s0)) _ ∙ o .long .z0)
 
   secretPart-joined : secretPart p (joinedDk p key) ≡ secret
   unfolding joinedDk

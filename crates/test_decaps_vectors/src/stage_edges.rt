@@ -2,8 +2,8 @@
 ghost use mathlib.Core.Path.{_≡_};
 ghost use lib.ListN.{length};
 
-// From stage 6 on, where the sets differ: ML-KEM-512's, ML-KEM-768's and ML-KEM-1024's by the rank; for any other number
-// the last.
+// From stage 6 on, where the sets differ: ML-KEM-512's, ML-KEM-768's and ML-KEM-1024's by the rank; for any other
+// number the last.
 fn later_starts(rank: u32) -> [u64; 6]
     ensures { λ r. ⌜ 6 ≡ length r ⌝ }
 {

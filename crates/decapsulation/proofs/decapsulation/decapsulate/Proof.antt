@@ -62,7 +62,8 @@ square : (s : tie.Start) → 256 * s .args .p .k * s .args .p .k ≤ 4096
 square s = omega (arith, matrix-most (s .pre))
 
 row1 : (c : tie.After-exact)
-    → (let a = start c .args in LengthsTested (all (a .p) (lent (start c)) (a .k0 .now) (a .k1 .now)) (c .exact .result))
+    → (let a = start c .args in
+    LengthsTested (all (a .p) (lent (start c)) (a .k0 .now) (a .k1 .now)) (c .exact .result))
 row1 c =
     let a = start c .args in
     let n = counted c in

@@ -34,7 +34,8 @@ start c = begun (exact c .before)
 -- ---- needs
 
 row1 : (c : tie.After-exact)
-    → (let s = begun c .args in LengthsTested (lent (s .stream .now) 840 ∷ lent (s .out .now) 256 ∷ []) (c .exact .result))
+    → (let s = begun c .args in
+    LengthsTested (lent (s .stream .now) 840 ∷ lent (s .out .now) 256 ∷ []) (c .exact .result))
 row1 c = lengths-tested _ (c .exact .ensures) refl
 
 returns : tie.Need-returns

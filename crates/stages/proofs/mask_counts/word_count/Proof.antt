@@ -9,7 +9,10 @@ abbrev start : tie.After-ciphertext-sum → tie.Start
 start c = c .before .before .before
 
 returns : tie.Need-returns
-returns c = let e = c .ciphertext-sum .ensures .0 in (e, omega (arith, e, planes-most (start c .pre), start c .pre .dv .most))
+returns c =
+    let e = c .ciphertext-sum .ensures .0 in
+    let fits = start c .pre in
+    (e, omega (arith, e, planes-most fits, fits .dv .most))
 
 pub word-count-spec : {M : Type 1} → statement M
 word-count-spec =
