@@ -1,7 +1,7 @@
 """OpenSSL's ML-KEM (Python's cryptography). It has no ML-KEM-512: there the model of FIPS 203 takes its place, which tools/model_check holds to
 NIST's values."""
 from cryptography.hazmat.primitives.asymmetric.mlkem import MLKEM768PrivateKey, MLKEM1024PrivateKey
-from models import fips203
+from models import kem
 from models.parameters import ML_KEM_768, ML_KEM_1024
 
 PRIVATE_KEYS = {ML_KEM_768: MLKEM768PrivateKey, ML_KEM_1024: MLKEM1024PrivateKey}
@@ -12,5 +12,5 @@ def key_pair(p, seed):
     if p in PRIVATE_KEYS:
         key = PRIVATE_KEYS[p].from_seed_bytes(seed)
         return key.public_key().public_bytes_raw(), key.decapsulate
-    ek, dk = fips203.keygen(p, seed[:32], seed[32:])
-    return ek, lambda ct: fips203.decaps(p, dk, ct)
+    ek, dk = kem.keygen(p, seed[:32], seed[32:])
+    return ek, lambda ct: kem.decaps(p, dk, ct)

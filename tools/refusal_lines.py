@@ -1,5 +1,5 @@
 """Lines of the test programs on refusals that depend on the rank and on lengths alone."""
-from models.parameters import SETS
+from models.parameters import sisters
 
 EDGES = "empty", "short", "long"
 NO_RANKS = 0, 1, 5, 2**32 - 1
@@ -15,9 +15,7 @@ def print_lengths(calls):
 
 def print_sisters(p, calls):
     """Each buffer with the length that it has in another set, where that is another length; then all buffers."""
-    for sister in SETS:
-        if sister == p:
-            continue
+    for sister in sisters(p):
         for call in calls:
             for at, (ours, theirs) in enumerate(zip(p.lent[call], sister.lent[call])):
                 if ours != theirs:

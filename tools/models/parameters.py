@@ -1,8 +1,16 @@
-"""The parameter sets of FIPS 203, and what follows from one by formula: lengths of keys, ciphertexts and split keys, what each call is lent, and, by
-document 01's gadgets, the entries and masks of each stage of the worksheet."""
-from dataclasses import dataclass
+"""The parameter sets of FIPS 203 and of Kyber round 3, and what follows from one by formula: lengths of keys, ciphertexts and split keys, what each
+call is lent, and, by document 01's gadgets, the entries and masks of each stage of the worksheet."""
+from dataclasses import dataclass, replace
+from enum import Enum
 
 Q, N = 3329, 256
+
+
+class Edition(Enum):
+    """By what the names of its calls begin with in C."""
+
+    ML_KEM = "tifo_"
+    KYBER = "tifo_kyber_"
 
 
 @dataclass(frozen=True)
@@ -47,6 +55,12 @@ def hashed(rate, length, words):
     return Use(0, 25) + (length // rate + 1) * (rate // 8 * XOR + PERMUTATION) + (words - 1) // (rate // 8) * PERMUTATION
 
 
+def last_steps(start, gadget):
+    """The last two steps of a gadget for each of four words, which run one after the other."""
+    ends = [start + gadget.entries * (word + 1) for word in range(4)]
+    return [(end - 2, end - 1) for end in ends]
+
+
 @dataclass(frozen=True)
 class Parameters:
     name: str
@@ -55,6 +69,7 @@ class Parameters:
     eta2: int
     du: int
     dv: int
+    edition: Edition = Edition.ML_KEM
 
     @property
     def coefficients(self):
@@ -112,6 +127,10 @@ class Parameters:
             "trace": run,
         }
 
+    def c_name(self, call):
+        """The call's in C. Import is one for both editions."""
+        return (Edition.ML_KEM if call == "import" else self.edition).value + call
+
     @property
     def defines(self):
         """For the compiler, where a C program uses tools/evidence/masked_run.h."""
@@ -145,7 +164,7 @@ class Parameters:
 
     @property
     def stages(self):
-        """What each of the ten stages uses."""
+        """What each stage uses: 1 to 8, which are alike in both editions, and those of the ending."""
         noise = {eta: hashed(136, 33, 8 * eta) + sampled(eta) for eta in (self.eta1, self.eta2)}
         return [
             POLYNOMIAL,
@@ -156,9 +175,15 @@ class Parameters:
             (self.k + 1) * POLYNOMIAL,
             self.k * compressed(self.du) + compressed(self.dv),
             self.plane_words * ENTRY + (self.plane_words - 1 + 6) * OR + ENTRY,
-            hashed(136, 32 + self.ct_bytes, 4),
-            4 * SELECTION,
+            *self.ending,
         ]
+
+    @property
+    def ending(self):
+        """Stages 9 and 10, a hash and selection; in round 3 selection, and then the last hash."""
+        if self.edition == Edition.ML_KEM:
+            return hashed(136, 32 + self.ct_bytes, 4), 4 * SELECTION
+        return 4 * SELECTION, hashed(136, 32 + 32, 4)
 
     @property
     def use(self):
@@ -174,6 +199,15 @@ class Parameters:
         return self.use.entries
 
     @property
+    def secret_steps(self):
+        """For each word of the secret the steps that enter its two shares: selection's, and in round 3 those of the last hash's last round, which
+        enters share 0 of the first word anew with the round constant."""
+        if self.edition == Edition.ML_KEM:
+            return last_steps(self.starts[9], SELECTION)
+        (_, share1), *others = last_steps(self.steps - (25 * CHI + ENTRY).entries, CHI)
+        return [(self.steps - 1, share1), *others]
+
+    @property
     def strip_words(self):
         return self.use.words
 
@@ -186,4 +220,11 @@ ML_KEM_512 = Parameters("ML-KEM-512", k=2, eta1=3, eta2=2, du=10, dv=4)
 ML_KEM_768 = Parameters("ML-KEM-768", k=3, eta1=2, eta2=2, du=10, dv=4)
 ML_KEM_1024 = Parameters("ML-KEM-1024", k=4, eta1=2, eta2=2, du=11, dv=5)
 SETS = ML_KEM_512, ML_KEM_768, ML_KEM_1024
+KYBER_SETS = tuple(replace(p, name=f"Kyber{p.coefficients}", edition=Edition.KYBER) for p in SETS)
+ALL_SETS = SETS + KYBER_SETS
 NAMED = {p.name.lower(): p for p in SETS}  # as the program mlkem names them
+
+
+def sisters(p):
+    """The edition's other sets."""
+    return [sister for sister in ALL_SETS if sister.edition == p.edition and sister != p]

@@ -1,9 +1,10 @@
-"""A plain model of masked decapsulation, written down from the gadgets and the ten stages: every entry of the worksheet, in order.
+"""A plain model of masked decapsulation, written down from the gadgets and the stages: every entry of the worksheet, in order.
 
 A value on two shares is a pair. Slow, and for comparison only.
 """
-from .fips203 import add, decode, decompress, dot, inverse_ntt, matrix, ntt, subtract, vector
-from .parameters import N, Q
+from hashlib import sha3_256
+from .kpke import add, decode, decompress, dot, inverse_ntt, matrix, ntt, subtract, vector
+from .parameters import Edition, N, Q
 
 ALL = 2**64 - 1
 COLUMNS = [(x, y) for y in range(5) for x in range(5)]
@@ -151,6 +152,10 @@ class Worksheet:
             word = self.or_((word[0] & ones, word[1] & ones), (word[0] >> n, word[1] >> n), ones)
         return self.complement(word, 1)
 
+    def select(self, copies, words, others):
+        """The words where all copies of the bit are 1, else the others."""
+        return [self.xor(r, self.and_(copies, self.xor(v, r))) for v, r in zip(words, others)]
+
 
 def bits(words):
     return [(v[0] >> j & 1, v[1] >> j & 1) for v in words for j in range(64)]
@@ -192,20 +197,36 @@ def encrypt(p, sheet, ek, m, coins):
     return u + [polynomial(sheet, *(add(add(inverse_ntt(dot(t, y[i])), e2[i]), mu[i]) for i in (0, 1)))]
 
 
-def worksheet(p, key, ct, strip):
-    """Entries, and the shares of K."""
-    s0, s1, z0, z1, public = key
-    public, ct, sheet = bytes(public), bytes(ct), Worksheet(*strip)
-    m = sheet.compress(1, noisy_message(p, sheet, (s0, s1), ct))
+def compared(p, sheet, s, public, ct):
+    """Stages 1 to 8: K', and copies of the equal bit."""
+    m = sheet.compress(1, noisy_message(p, sheet, s, ct))
     g = sheet.hash(72, 6, m, public[p.ek_bytes:], 8)
-    coins = g[4:]
-    uv = encrypt(p, sheet, public[:p.ek_bytes], m, coins)
+    uv = encrypt(p, sheet, public[:p.ek_bytes], m, g[4:])
     words = [v for d, f in zip(p.k * [p.du] + [p.dv], uv) for v in sheet.compress(d, f)]
     size = 32 * p.du
     theirs = [plane for i in range(p.k) for plane in planes(p.du, ct[size * i:size * (i + 1)])] + planes(p.dv, ct[p.u_bytes:])
     equal = sheet.all_zero([(sheet.enter(v[0] ^ c), v[1]) for v, c in zip(words, theirs)])
-    copies = tuple(ALL * b for b in equal)
-    rejected = sheet.hash(136, 0x1f, list(zip(z0, z1)), ct, 4)
-    k = [sheet.xor(r, sheet.and_(copies, sheet.xor(v, r))) for v, r in zip(g, rejected)]
+    return g[:4], tuple(ALL * b for b in equal)
+
+
+# ---- what follows stage 8
+def mlkem_ending(sheet, k, copies, z, ct):
+    """Stages 9 and 10."""
+    return sheet.select(copies, k, sheet.hash(136, 0x1f, z, ct, 4))
+
+
+def kyber_ending(sheet, k, copies, z, ct):
+    """Selection, and the last hash."""
+    return sheet.hash(136, 0x1f, sheet.select(copies, k, z), sha3_256(ct).digest(), 4)
+
+
+ENDINGS = {Edition.ML_KEM: mlkem_ending, Edition.KYBER: kyber_ending}
+
+
+def worksheet(p, key, ct, strip):
+    """Entries, and the shares of K."""
+    s0, s1, z0, z1, public = key
+    ct, sheet = bytes(ct), Worksheet(*strip)
+    k = ENDINGS[p.edition](sheet, *compared(p, sheet, (s0, s1), bytes(public), ct), list(zip(z0, z1)), ct)
     assert next(sheet.words, None) is None and next(sheet.coeffs, None) is None
     return sheet.entries, k
