@@ -1,8 +1,10 @@
 // Sampling, key making, encapsulation and import for C.
+ghost use Rattle.parameters.specs.declared.Edition.the-variants.{MlKem};
 ghost use Rattle.split_key.specs.SplitKey.{splitKey};
 ghost use Rattle.mlkem.specs.Calls.{StreamSampled, KeysMadeBy, EncapsulatedBy};
 ghost use Rattle.split_key.specs.Import.{ImportedBy};
 use crate::refusal;
+use parameters::Edition;
 
 // SampleNTT (FIPS 203, algorithm 7).
 #[no_mangle]
@@ -17,6 +19,7 @@ pub extern "C" fn tifo_sample(stream: &[u8], out: &mut [u16]) -> u32
 pub extern "C" fn tifo_keygen(rank: u32, d: &[u8], z: &[u8], ek: &mut [u8], dk: &mut [u8]) -> u32
     ensures { λ r. ⌜
         KeysMadeBy
+        MlKem
         rank
         (now (d .entry))
         (now (z .entry))
@@ -27,7 +30,7 @@ pub extern "C" fn tifo_keygen(rank: u32, d: &[u8], z: &[u8], ek: &mut [u8], dk: 
         (now (dk .exit))
         ⌝ }
 {
-    refusal(mlkem::keygen(rank, d, z, ek, dk))
+    refusal(mlkem::keygen(Edition::MlKem, rank, d, z, ek, dk))
 }
 
 // Algorithm 17.
@@ -35,6 +38,7 @@ pub extern "C" fn tifo_keygen(rank: u32, d: &[u8], z: &[u8], ek: &mut [u8], dk: 
 pub extern "C" fn tifo_encaps(rank: u32, ek: &[u8], m: &[u8], ct: &mut [u8], k: &mut [u8]) -> u32
     ensures { λ r. ⌜
         EncapsulatedBy
+        MlKem
         rank
         (now (ek .entry))
         (now (m .entry))
@@ -45,7 +49,7 @@ pub extern "C" fn tifo_encaps(rank: u32, ek: &[u8], m: &[u8], ct: &mut [u8], k: 
         (now (k .exit))
         ⌝ }
 {
-    refusal(mlkem::encaps(rank, ek, m, ct, k))
+    refusal(mlkem::encaps(Edition::MlKem, rank, ek, m, ct, k))
 }
 
 // A key in two shares.

@@ -4,9 +4,10 @@ use cli_support::answers::is_refused;
 use cli_support::inputs::read_exact;
 use cli_support::outputs::write_pair;
 use cli_support::sets::Sizes;
+use parameters::Edition;
 
 fn write_keys(rank: u32, d: &[u8], z: &[u8], ek: &mut [u8], dk: &mut [u8]) {
-    if is_refused(mlkem::keygen(rank, d, z, ek, dk)) {
+    if is_refused(mlkem::keygen(Edition::MlKem, rank, d, z, ek, dk)) {
         return;
     }
     write_pair(5, ek, 6, dk);
@@ -33,7 +34,7 @@ pub fn keygen(set: Sizes)
 
 fn write_encapsulated(rank: u32, ek: &[u8], m: &[u8], ct: &mut [u8]) {
     let mut k = [0u8; 32];
-    if is_refused(mlkem::encaps(rank, ek, m, ct, &mut k)) {
+    if is_refused(mlkem::encaps(Edition::MlKem, rank, ek, m, ct, &mut k)) {
         return;
     }
     write_pair(5, ct, 6, &k);

@@ -17,6 +17,7 @@ use cli_support::messages;
 use cli_support::sets::Sizes;
 use cli_support::strip_file;
 use libc::STDOUT_FILENO;
+use parameters::Edition;
 use text::print;
 
 mod lines; // lines on standard output
@@ -258,10 +259,10 @@ fn encapsulate(
 ) -> bool
     requires { ⌜ KeyLent (now seeds) (now ek) (now dk) (now ct) ⌝ }
 {
-    if is_refused(mlkem::keygen(rank, &seeds[0..32], &seeds[32..64], ek, dk)) {
+    if is_refused(mlkem::keygen(Edition::MlKem, rank, &seeds[0..32], &seeds[32..64], ek, dk)) {
         return false;
     }
-    if is_refused(mlkem::encaps(rank, ek, &seeds[64..96], ct, secret)) {
+    if is_refused(mlkem::encaps(Edition::MlKem, rank, ek, &seeds[64..96], ct, secret)) {
         return false;
     }
     print_encapsulated(ek, dk, ct, secret);

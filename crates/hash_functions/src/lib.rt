@@ -3,7 +3,7 @@ ghost use mathlib.Core.List.{[], _∷_, _++_};
 ghost use mathlib.Core.Path.{_≡_};
 ghost use lib.ListN.{length};
 ghost use Rattle.fips202.specs.Sponge.{sha3-256, sha3-512, shake256};
-ghost use Rattle.hash_functions.specs.Functions.{XOF};
+ghost use Rattle.hash_functions.specs.Functions.{J, XOF};
 use slices::concat_bytes;
 
 // H (4.4).
@@ -25,6 +25,14 @@ pub fn hash_g_seed(d: &[u8], k: u8, out: &mut [u8])
     fips202::sha3_512(&t, out);
 }
 
+// G (4.5) of the seed d alone, as Kyber's algorithm 4 calls it on line 2.
+pub fn hash_g_alone(d: &[u8], out: &mut [u8])
+    requires { ⌜ length (now out) ≡ 64 ⌝ }
+    ensures { λ _. ⌜ now (out .exit) ≡ sha3-512 (now (d .entry)) ⌝ }
+{
+    fips202::sha3_512(d, out);
+}
+
 // G (4.5) of the message m and the hash h, as algorithm 17 calls it on line 1.
 pub fn hash_g(m: &[u8], h: &[u8], out: &mut [u8])
     requires { ⌜ (length (now m) ≡ 32) × (length (now h) ≡ 32) × (length (now out) ≡ 64) ⌝ }
@@ -33,6 +41,18 @@ pub fn hash_g(m: &[u8], h: &[u8], out: &mut [u8])
     let mut t = [0u8; 64];
     concat_bytes(m, h, &mut t);
     fips202::sha3_512(&t, out);
+}
+
+// J (4.4), which is Kyber's KDF, of k and H(c), as Kyber's algorithms 8 and 9 call it on their last lines.
+pub fn hash_j(k: &[u8], c: &[u8], out: &mut [u8])
+    requires { ⌜ (length (now k) ≡ 32) × (length (now out) ≡ 32) ⌝ }
+    ensures { λ _. ⌜ now (out .exit) ≡ J (now (k .entry) ++ sha3-256 (now (c .entry))) ⌝ }
+{
+    let mut h = [0u8; 32];
+    let mut t = [0u8; 64];
+    hash_h(c, &mut h);
+    concat_bytes(k, &h, &mut t);
+    fips202::shake256(&t, out);
 }
 
 // PRF (4.3), for an output of 64 eta bytes.

@@ -4,17 +4,25 @@ use mathlib.Core.Path.{_≡_}
 use mathlib.Core.List.{List}
 use Prim.Native.Nat.{ℕ, _*_}
 use lib.ListN.{length, take, drop}
+use Rattle.parameters.specs.declared.Edition.{Edition}
 use Rattle.parameters.specs.declared.Parameters.{Parameters}
 use Rattle.parameters.specs.Lengths.{ekBytes, dkBytes}
 use Rattle.parameters.specs.Fits.{Fits}
 use Rattle.kpke.specs.KPke.{ekFrom, dkFrom}
 use Rattle.kpke.specs.Expanded.{Expanded}
-use Rattle.mlkem.specs.MlKem.{wholeDk, encapsKey, encapsCt}
+use Rattle.mlkem.specs.MlKem.{wholeDk}
+use Rattle.mlkem.specs.Editions.{encapsKey, encapsCt}
 use Rattle.mlkem.specs.Calls.{rhoOf}
 use Rattle.mlkem.specs.Sized.{KeyGenSized, EncapsSized}
 
 module _ (p : Parameters) where
   -- ---- key making
+
+  -- the seed d₀, with room for rho || sigma in g₀
+  pub record SeedsInput (d₀ g₀ : List ℕ) : Type 0 where
+    pub fits : Fits p
+    pub d : length d₀ ≡ 32
+    pub room : length g₀ ≡ 64
 
   -- with room for the matrix in a₀
   pub record KeyGenInput (d z a₀ ek dk : List ℕ) : Type 0 where
@@ -49,6 +57,7 @@ module _ (p : Parameters) where
     pub matrix : Expanded (p .k) (rhoOf p ek) a
     pub sized : EncapsSized p ek m ct k
 
-  pub record SecretWritten (ek m ct₁ k₁ : List ℕ) : Type 0 where
-    pub ct : ct₁ ≡ encapsCt p ek m
-    pub k : k₁ ≡ encapsKey p ek m
+  -- by an edition
+  pub record SecretWritten (e : Edition) (ek m ct₁ k₁ : List ℕ) : Type 0 where
+    pub ct : ct₁ ≡ encapsCt e p ek m
+    pub k : k₁ ≡ encapsKey e p ek m

@@ -1,7 +1,8 @@
-// ML-KEM.Encaps_internal (FIPS 203, algorithm 17).
+// Encapsulation: ML-KEM.Encaps_internal (FIPS 203, algorithm 17), or Kyber's CCAKEM.Enc (algorithm 8).
 ghost use mathlib.Core.Path.{_≡_};
 ghost use Prim.Native.Nat.{_*_, _≤_};
 ghost use lib.ListN.{length};
+ghost use Rattle.parameters.specs.declared.Edition.the-variants.{MlKem, Kyber};
 ghost use Rattle.parameters.specs.Fits.{Fits};
 ghost use Rattle.vectors.specs.Vector.{coefficients};
 ghost use Rattle.mlkem.specs.Calls.{Encapsulated, EncapsulatedBy};
@@ -11,8 +12,10 @@ ghost use Rattle.refusals.specs.Reduced.{reduced as reducedOf};
 ghost use Rattle.refusals.specs.Refusals.{number};
 use hash_functions::hash_g;
 use hash_functions::hash_h;
+use hash_functions::hash_j;
 use kpke::encrypt::encrypt;
 use kpke::matrix::expand;
+use parameters::Edition;
 use parameters::Parameters;
 use parameters::ct_bytes;
 use parameters::ek_bytes;
@@ -25,7 +28,7 @@ use refusals::exact;
 use slices::copy_bytes;
 use vectors::decode_all;
 
-// Section 7.2, the modulus check: each coefficient of an encoded vector is below q. They go to t.
+// FIPS 203, section 7.2, the modulus check: each coefficient of an encoded vector is below q. They go to t.
 fn vector_reduced_in(b: &[u8], k: usize, t: &mut [u16]) -> bool
     requires { ⌜ (length (now b) ≡ 384 * k) × (length (now t) ≡ 256 * k) ⌝ }
     ensures { λ r. ⌜ r ≡ reducedOf (coefficients k (now (b .entry))) ⌝ }
@@ -44,10 +47,12 @@ fn vector_reduced(b: &[u8], k: usize) -> bool
     vector_reduced_in(b, k, &mut t[0..n])
 }
 
-// Lines 1 and 2, for the matrix A-hat in a: K and the coins r are the halves of g.
-fn write_secret(p: Parameters, a: &[u16], ek: &[u8], m: &[u8], ct: &mut [u8], k: &mut [u8])
+// FIPS 203, algorithm 17, lines 1 and 2, for the matrix A-hat in a: K and the coins r are the halves of g.
+fn write_mlkem(p: Parameters, a: &[u16], ek: &[u8], m: &[u8], ct: &mut [u8], k: &mut [u8])
     requires { ⌜ SecretInput p (now a) (now ek) (now m) (now ct) (now k) ⌝ }
-    ensures { λ _. ⌜ SecretWritten p (now (ek .entry)) (now (m .entry)) (now (ct .exit)) (now (k .exit)) ⌝ }
+    ensures { λ _. ⌜
+        SecretWritten p MlKem (now (ek .entry)) (now (m .entry)) (now (ct .exit)) (now (k .exit))
+        ⌝ }
 {
     let mut h = [0u8; 32];
     let mut g = [0u8; 64];
@@ -57,8 +62,41 @@ fn write_secret(p: Parameters, a: &[u16], ek: &[u8], m: &[u8], ct: &mut [u8], k:
     encrypt(p, a, ek, m, &g[32..], ct);
 }
 
-// Algorithm 17, row 1 passed; a becomes the matrix A-hat.
+// Kyber, algorithm 8, lines 2 to 5: FIPS 203's lines for the hashed m, whose K is hashed with the ciphertext's hash.
+fn write_kyber(p: Parameters, a: &[u16], ek: &[u8], m: &[u8], ct: &mut [u8], k: &mut [u8])
+    requires { ⌜ SecretInput p (now a) (now ek) (now m) (now ct) (now k) ⌝ }
+    ensures { λ _. ⌜
+        SecretWritten p Kyber (now (ek .entry)) (now (m .entry)) (now (ct .exit)) (now (k .exit))
+        ⌝ }
+{
+    let mut hashed = [0u8; 32];
+    let mut first = [0u8; 32];
+    hash_h(m, &mut hashed);
+    write_mlkem(p, a, ek, &hashed, ct, &mut first);
+    hash_j(&first, ct, k);
+}
+
+fn write_secret(
+    e: Edition,
+    p: Parameters,
+    a: &[u16],
+    ek: &[u8],
+    m: &[u8],
+    ct: &mut [u8],
+    k: &mut [u8],
+)
+    requires { ⌜ SecretInput p (now a) (now ek) (now m) (now ct) (now k) ⌝ }
+    ensures { λ _. ⌜ SecretWritten p e (now (ek .entry)) (now (m .entry)) (now (ct .exit)) (now (k .exit)) ⌝ }
+{
+    match e {
+        Edition::MlKem => write_mlkem(p, a, ek, m, ct, k),
+        Edition::Kyber => write_kyber(p, a, ek, m, ct, k),
+    }
+}
+
+// Row 1 passed; a becomes the matrix A-hat.
 fn encaps_in(
+    e: Edition,
     p: Parameters,
     ek: &[u8],
     m: &[u8],
@@ -69,6 +107,7 @@ fn encaps_in(
     requires { ⌜ EncapsInput p (now ek) (now m) (now a) (now ct) (now k) ⌝ }
     ensures { λ r. ⌜
         Encapsulated
+        e
         p
         (now (ek .entry))
         (now (m .entry))
@@ -86,15 +125,23 @@ fn encaps_in(
     if !expand(&ek[n..], p.k, a) {
         return Answer::ShortStream;
     }
-    write_secret(p, a, ek, m, ct, k);
+    write_secret(e, p, a, ek, m, ct, k);
     Answer::Done
 }
 
-// Algorithm 17, row 1 passed.
-fn encaps_sized(p: Parameters, ek: &[u8], m: &[u8], ct: &mut [u8], k: &mut [u8]) -> Answer
+// Row 1 passed.
+fn encaps_sized(
+    e: Edition,
+    p: Parameters,
+    ek: &[u8],
+    m: &[u8],
+    ct: &mut [u8],
+    k: &mut [u8],
+) -> Answer
     requires { ⌜ Fits p × EncapsSized p (now ek) (now m) (now ct) (now k) ⌝ }
     ensures { λ r. ⌜
         Encapsulated
+        e
         p
         (now (ek .entry))
         (now (m .entry))
@@ -107,14 +154,15 @@ fn encaps_sized(p: Parameters, ek: &[u8], m: &[u8], ct: &mut [u8], k: &mut [u8])
 {
     let mut a = [0u16; 4096];
     let n = 256 * p.k * p.k;
-    encaps_in(p, ek, m, &mut a[0..n], ct, k)
+    encaps_in(e, p, ek, m, &mut a[0..n], ct, k)
 }
 
-// Algorithm 17, with the modulus check of section 7.2.
-fn encaps_at(p: Parameters, ek: &[u8], m: &[u8], ct: &mut [u8], k: &mut [u8]) -> Answer
+// For a parameter set, with the modulus check of FIPS 203's section 7.2.
+fn encaps_at(e: Edition, p: Parameters, ek: &[u8], m: &[u8], ct: &mut [u8], k: &mut [u8]) -> Answer
     requires { ⌜ Fits p ⌝ }
     ensures { λ r. ⌜
         Encapsulated
+        e
         p
         (now (ek .entry))
         (now (m .entry))
@@ -130,13 +178,14 @@ fn encaps_at(p: Parameters, ek: &[u8], m: &[u8], ct: &mut [u8], k: &mut [u8]) ->
     if !exact(&has, &wants) {
         return Answer::WrongLength;
     }
-    encaps_sized(p, ek, m, ct, k)
+    encaps_sized(e, p, ek, m, ct, k)
 }
 
-// Algorithm 17 for the parameter set of a rank, with the modulus check of section 7.2.
-pub fn encaps(rank: u32, ek: &[u8], m: &[u8], ct: &mut [u8], k: &mut [u8]) -> Answer
+// For the parameter set of a rank.
+pub fn encaps(e: Edition, rank: u32, ek: &[u8], m: &[u8], ct: &mut [u8], k: &mut [u8]) -> Answer
     ensures { λ r. ⌜
         EncapsulatedBy
+        e
         rank
         (now (ek .entry))
         (now (m .entry))
@@ -150,5 +199,5 @@ pub fn encaps(rank: u32, ek: &[u8], m: &[u8], ct: &mut [u8], k: &mut [u8]) -> An
     if !is_rank(rank) {
         return Answer::NoSuchRank;
     }
-    encaps_at(of_rank(rank), ek, m, ct, k)
+    encaps_at(e, of_rank(rank), ek, m, ct, k)
 }

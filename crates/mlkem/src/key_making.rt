@@ -1,17 +1,20 @@
-// ML-KEM.KeyGen_internal (FIPS 203, algorithm 16).
+// Key making: ML-KEM.KeyGen_internal (FIPS 203, algorithm 16), or Kyber's CCAKEM.KeyGen (algorithm 7).
 ghost use mathlib.Core.List.{_++_};
 ghost use mathlib.Core.Path.{_≡_};
 ghost use Prim.Native.Nat.{_+_};
 ghost use lib.ListN.{length};
 ghost use Rattle.fips202.specs.Sponge.{sha3-256};
 ghost use Rattle.parameters.specs.Fits.{Fits};
+ghost use Rattle.mlkem.specs.Editions.{seeds as seedsOf};
 ghost use Rattle.mlkem.specs.Calls.{KeysMade, KeysMadeBy};
 ghost use Rattle.mlkem.specs.Sized.{KeyGenSized};
-ghost use Rattle.mlkem.specs.Written.{KeyGenInput, KeysInput, KeysWritten};
+ghost use Rattle.mlkem.specs.Written.{SeedsInput, KeyGenInput, KeysInput, KeysWritten};
 ghost use Rattle.refusals.specs.Refusals.{number};
+use hash_functions::hash_g_alone;
 use hash_functions::hash_g_seed;
 use hash_functions::hash_h;
 use kpke::matrix::expand;
+use parameters::Edition;
 use parameters::Parameters;
 use parameters::dk_bytes;
 use parameters::ek_bytes;
@@ -22,7 +25,18 @@ use refusals::Answer;
 use refusals::exact;
 use slices::copy_bytes;
 
-// Line 3, what follows K-PKE's key: ek || H(ek) || z.
+// rho || sigma, of the seed d (FIPS 203, algorithm 13, line 1; Kyber, algorithm 4, line 2).
+fn seeds(e: Edition, p: Parameters, d: &[u8], g: &mut [u8])
+    requires { ⌜ SeedsInput p (now d) (now g) ⌝ }
+    ensures { λ _. ⌜ now (g .exit) ≡ seedsOf e p (now (d .entry)) ⌝ }
+{
+    match e {
+        Edition::MlKem => hash_g_seed(d, p.k as u8, g),
+        Edition::Kyber => hash_g_alone(d, g),
+    }
+}
+
+// Algorithm 16, line 3, what follows K-PKE's key: ek || H(ek) || z.
 fn write_rest(ek: &[u8], z: &[u8], rest: &mut [u8])
     requires { ⌜ (length (now z) ≡ 32) × (length (now rest) ≡ length (now ek) + 64) ⌝ }
     ensures { λ _. ⌜ now (rest .exit) ≡ now (ek .entry) ++ (sha3-256 (now (ek .entry)) ++ now (z .entry)) ⌝ }
@@ -34,7 +48,7 @@ fn write_rest(ek: &[u8], z: &[u8], rest: &mut [u8])
     copy_bytes(z, &mut rest[e..]);
 }
 
-// Lines 1 to 3, for the matrix A-hat in a and the seeds rho || sigma in g that K-PKE's keys are made from.
+// Algorithm 16, lines 1 to 3, for the matrix A-hat in a and the seeds rho || sigma in g that K-PKE's keys come from.
 fn write_keys(p: Parameters, a: &[u16], g: &[u8], z: &[u8], ek: &mut [u8], dk: &mut [u8])
     requires { ⌜ KeysInput p (now a) (now g) (now z) (now ek) (now dk) ⌝ }
     ensures { λ _. ⌜ KeysWritten p (now (g .entry)) (now (z .entry)) (now (ek .exit)) (now (dk .exit)) ⌝ }
@@ -44,8 +58,9 @@ fn write_keys(p: Parameters, a: &[u16], g: &[u8], z: &[u8], ek: &mut [u8], dk: &
     write_rest(ek, z, &mut dk[n..]);
 }
 
-// Algorithm 16, row 1 passed; a becomes the matrix A-hat.
+// Row 1 passed; a becomes the matrix A-hat.
 fn keygen_in(
+    e: Edition,
     p: Parameters,
     d: &[u8],
     z: &[u8],
@@ -56,6 +71,7 @@ fn keygen_in(
     requires { ⌜ KeyGenInput p (now d) (now z) (now a) (now ek) (now dk) ⌝ }
     ensures { λ r. ⌜
         KeysMade
+        e
         p
         (now (d .entry))
         (now (z .entry))
@@ -67,7 +83,7 @@ fn keygen_in(
         ⌝ }
 {
     let mut g = [0u8; 64];
-    hash_g_seed(d, p.k as u8, &mut g);
+    seeds(e, p, d, &mut g);
     if !expand(&g[0..32], p.k, a) {
         return Answer::ShortStream;
     }
@@ -75,11 +91,19 @@ fn keygen_in(
     Answer::Done
 }
 
-// Algorithm 16, row 1 passed.
-fn keygen_sized(p: Parameters, d: &[u8], z: &[u8], ek: &mut [u8], dk: &mut [u8]) -> Answer
+// Row 1 passed.
+fn keygen_sized(
+    e: Edition,
+    p: Parameters,
+    d: &[u8],
+    z: &[u8],
+    ek: &mut [u8],
+    dk: &mut [u8],
+) -> Answer
     requires { ⌜ Fits p × KeyGenSized p (now d) (now z) (now ek) (now dk) ⌝ }
     ensures { λ r. ⌜
         KeysMade
+        e
         p
         (now (d .entry))
         (now (z .entry))
@@ -92,14 +116,15 @@ fn keygen_sized(p: Parameters, d: &[u8], z: &[u8], ek: &mut [u8], dk: &mut [u8])
 {
     let mut a = [0u16; 4096];
     let n = 256 * p.k * p.k;
-    keygen_in(p, d, z, &mut a[0..n], ek, dk)
+    keygen_in(e, p, d, z, &mut a[0..n], ek, dk)
 }
 
-// Algorithm 16.
-fn keygen_at(p: Parameters, d: &[u8], z: &[u8], ek: &mut [u8], dk: &mut [u8]) -> Answer
+// For a parameter set.
+fn keygen_at(e: Edition, p: Parameters, d: &[u8], z: &[u8], ek: &mut [u8], dk: &mut [u8]) -> Answer
     requires { ⌜ Fits p ⌝ }
     ensures { λ r. ⌜
         KeysMade
+        e
         p
         (now (d .entry))
         (now (z .entry))
@@ -115,13 +140,14 @@ fn keygen_at(p: Parameters, d: &[u8], z: &[u8], ek: &mut [u8], dk: &mut [u8]) ->
     if !exact(&has, &wants) {
         return Answer::WrongLength;
     }
-    keygen_sized(p, d, z, ek, dk)
+    keygen_sized(e, p, d, z, ek, dk)
 }
 
-// Algorithm 16 for the parameter set of a rank.
-pub fn keygen(rank: u32, d: &[u8], z: &[u8], ek: &mut [u8], dk: &mut [u8]) -> Answer
+// For the parameter set of a rank.
+pub fn keygen(e: Edition, rank: u32, d: &[u8], z: &[u8], ek: &mut [u8], dk: &mut [u8]) -> Answer
     ensures { λ r. ⌜
         KeysMadeBy
+        e
         rank
         (now (d .entry))
         (now (z .entry))
@@ -135,5 +161,5 @@ pub fn keygen(rank: u32, d: &[u8], z: &[u8], ek: &mut [u8], dk: &mut [u8]) -> An
     if !is_rank(rank) {
         return Answer::NoSuchRank;
     }
-    keygen_at(of_rank(rank), d, z, ek, dk)
+    keygen_at(e, of_rank(rank), d, z, ek, dk)
 }

@@ -1,8 +1,15 @@
-// FIPS 203, section 8: the parameter sets, and the lengths in bytes that follow from one.
+// What a call on keys is told: the edition, and the parameter set (FIPS 203, section 8) by its rank; and the lengths in
+// bytes that follow from a set.
 ghost use mathlib.Core.Path.{_≡_};
 ghost use Rattle.parameters.specs.Ranks.{isRank, ofRank};
 ghost use Rattle.parameters.specs.Lengths.{vectorBytes, ekBytes, dkBytes, ctBytes};
 ghost use Rattle.parameters.specs.Fits.{Fits};
+
+// FIPS 203's ML-KEM, or Kyber as submitted to the third round (version 3.02). Both have the same parameter sets.
+pub enum Edition {
+    MlKem,
+    Kyber,
+}
 
 // Table 2: the rank, the noise's two widths, the depths of the ciphertext's two parts.
 pub struct Parameters {

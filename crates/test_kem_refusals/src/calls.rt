@@ -1,6 +1,7 @@
 // Calls for a rank, with buffers that have their lengths in a parameter set or others. Keys and masks hold values that
 // are out of range: a rank that no set has and a wrong length are refused before them.
 ghost use Rattle.test_support.specs.Sizes.{Bounded};
+use parameters::Edition;
 use test_support::answers::print_refusal;
 use test_support::bytes::unchanged;
 use test_support::bytes::unchanged_coefficients;
@@ -19,7 +20,7 @@ pub enum Call {
 }
 
 fn keygen(rank: u32, d: &[u8], z: &[u8], ek: &mut [u8], dk: &mut [u8]) {
-    let answer = mlkem::keygen(rank, d, z, ek, dk);
+    let answer = mlkem::keygen(Edition::MlKem, rank, d, z, ek, dk);
     print_refusal(answer, unchanged(ek) & unchanged(dk));
 }
 
@@ -45,7 +46,7 @@ fn keygen_edge(s: Sizes, rank: u32, lengths: Lengths)
 }
 
 fn encaps(rank: u32, ek: &[u8], m: &[u8], ct: &mut [u8], k: &mut [u8]) {
-    let answer = mlkem::encaps(rank, ek, m, ct, k);
+    let answer = mlkem::encaps(Edition::MlKem, rank, ek, m, ct, k);
     print_refusal(answer, unchanged(ct) & unchanged(k));
 }
 

@@ -4,6 +4,7 @@
 ghost use mathlib.Core.Path.{_≡_};
 ghost use lib.ListN.{length};
 ghost use Rattle.test_support.specs.Sizes.{Bounded};
+use parameters::Edition;
 use test_support::sizes::Sizes;
 use test_support::sizes::of_rank;
 use test_support::sizes::print_name;
@@ -19,7 +20,7 @@ mod samples;
 fn make_keys(rank: u32, ek: &mut [u8], dk: &mut [u8]) {
     let d = [0u8; 32];
     let z = [1u8; 32];
-    mlkem::keygen(rank, &d, &z, ek, dk);
+    mlkem::keygen(Edition::MlKem, rank, &d, &z, ek, dk);
 }
 
 fn set_in(s: Sizes, ek: &mut [u8], dk: &mut [u8])

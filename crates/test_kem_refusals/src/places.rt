@@ -3,6 +3,7 @@ ghost use mathlib.Core.Path.{_≡_};
 ghost use Prim.Native.Nat.{_*_, _<_, _≤_};
 ghost use lib.ListN.{length};
 ghost use Rattle.test_support.specs.Sizes.{Bounded};
+use parameters::Edition;
 use refusals::number;
 use slices::copy_bytes;
 use test_keys::coefficients::put_at;
@@ -65,7 +66,7 @@ fn change(s: Sizes, part: Part, i: usize, v: u16, key: &mut [u8], mask_coeffs: &
 // secret.
 fn encaps_into(rank: u32, ek: &[u8], ct: &mut [u8], out: &mut [u8]) -> u64 {
     let m = [7u8; 32];
-    let n = number(mlkem::encaps(rank, ek, &m, ct, out));
+    let n = number(mlkem::encaps(Edition::MlKem, rank, ek, &m, ct, out));
     if n == 0 {
         return 0;
     }

@@ -4,6 +4,7 @@ ghost use mathlib.Core.Path.{_≡_};
 ghost use Prim.Native.Nat.{_+_, _≤_};
 ghost use lib.ListN.{length};
 ghost use Rattle.test_support.specs.Sizes.{Bounded};
+use parameters::Edition;
 use slices::copy_bytes;
 use test_support::sizes::Sizes;
 
@@ -46,8 +47,8 @@ fn take(s: Sizes, turn: usize, at: usize, out: &mut [u8])
 fn make_from(rank: u32, seeds: &[u8], ek: &mut [u8], dk: &mut [u8], ct: &mut [u8], k: &mut [u8])
     requires { ⌜ length (now seeds) ≡ 96 ⌝ }
 {
-    mlkem::keygen(rank, &seeds[0..32], &seeds[32..64], ek, dk);
-    mlkem::encaps(rank, ek, &seeds[64..96], ct, k);
+    mlkem::keygen(Edition::MlKem, rank, &seeds[0..32], &seeds[32..64], ek, dk);
+    mlkem::encaps(Edition::MlKem, rank, ek, &seeds[64..96], ct, k);
 }
 
 // The turn's keys, ciphertext and secret.

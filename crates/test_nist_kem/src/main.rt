@@ -5,6 +5,7 @@ ghost use Prim.Native.Nat.{_+_, _≤_};
 ghost use lib.ListN.{length};
 ghost use Rattle.test_support.specs.Sizes.{Bounded};
 use masked::decaps;
+use parameters::Edition;
 use refusals::conditions::same;
 use refusals::number;
 use test_records::Found;
@@ -40,7 +41,14 @@ fn keygen_gives(
     requires { ⌜ (length (now seeds) ≡ 64)
         × (length (now «made_ek») ≡ length (now ek)) × (length (now «made_dk») ≡ length (now dk)) ⌝ }
 {
-    let answer = mlkem::keygen(rank, &seeds[0..32], &seeds[32..64], made_ek, made_dk);
+    let answer = mlkem::keygen(
+        Edition::MlKem,
+        rank,
+        &seeds[0..32],
+        &seeds[32..64],
+        made_ek,
+        made_dk,
+    );
     (number(answer) == 0) & same(made_ek, ek) & same(made_dk, dk)
 }
 
@@ -48,7 +56,7 @@ fn encaps_gives(rank: u32, ek: &[u8], m: &[u8], ct: &[u8], k: &[u8], made_ct: &m
     requires { ⌜ (length (now «made_ct») ≡ length (now ct)) × (length (now k) ≡ 32) ⌝ }
 {
     let mut made_k = [0u8; 32];
-    let answer = mlkem::encaps(rank, ek, m, made_ct, &mut made_k);
+    let answer = mlkem::encaps(Edition::MlKem, rank, ek, m, made_ct, &mut made_k);
     (number(answer) == 0) & same(made_ct, ct) & same(&made_k, k)
 }
 

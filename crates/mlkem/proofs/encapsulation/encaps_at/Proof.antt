@@ -41,8 +41,9 @@ row1 c =
 returns : tie.Need-returns
 unfolding encapsAnswer
 returns c =
-    let p = start (c .before) .args .p in
-    encaps-refused p WrongLength (omega arith) _ _ _ _ (row1-refused (row1 (c .before)) _ (c .if1 .taken))
+    let s = start (c .before) .args in
+    encaps-refused (s .e) (s .p) WrongLength (omega arith) _ _ _ _
+    (row1-refused (row1 (c .before)) _ (c .if1 .taken))
 
 encaps-sized-requires : tie.Need-encaps-sized-requires
 encaps-sized-requires c κs =

@@ -79,7 +79,7 @@ returns : tie.Need-returns
 returns c =
     let s = start (c .before) in
     let row2 = refused PublicKeyRange _ (reduced-by (c .before) ∙ not-true _ (c .if1 .taken)) in
-    encaps-refused (s .args .p) PublicKeyRange (omega arith) _ _ _ _
+    encaps-refused (s .args .e) (s .args .p) PublicKeyRange (omega arith) _ _ _ _
     (encaps-answer (s .args .p) PublicKeyRange (s .pre .sized) row2)
 
 returns-2 : tie.Need-returns-2
@@ -89,7 +89,7 @@ returns-2 c =
     let s = start v in
     let row7 = refused ShortStream _ (full-by x ∙ not-true _ (c .if2 .taken)) in
     let row2 = passed PublicKeyRange _ (reduced-by v ∙ not-false _ (in-range x .if1 .left)) row7 in
-    encaps-refused (s .args .p) ShortStream (omega arith) _ _ _ _
+    encaps-refused (s .args .e) (s .args .p) ShortStream (omega arith) _ _ _ _
     (encaps-answer (s .args .p) ShortStream (s .pre .sized) row2)
 
 write-secret-requires : tie.Need-write-secret-requires

@@ -41,8 +41,9 @@ row1 c =
 returns : tie.Need-returns
 unfolding keyGenAnswer
 returns c =
-    let p = start (c .before) .args .p in
-    keygen-refused p WrongLength (omega arith) _ _ _ _ (row1-refused (row1 (c .before)) _ (c .if1 .taken))
+    let s = start (c .before) .args in
+    keygen-refused (s .e) (s .p) WrongLength (omega arith) _ _ _ _
+    (row1-refused (row1 (c .before)) _ (c .if1 .taken))
 
 keygen-sized-requires : tie.Need-keygen-sized-requires
 keygen-sized-requires c κs =

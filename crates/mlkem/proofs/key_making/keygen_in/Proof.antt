@@ -1,19 +1,20 @@
--- The hash decides row 7, the only row left: a stream that is too short is refused, and else a holds A-hat, from
+-- The seeds decide row 7, the only row left: a stream that is too short is refused, and else a holds A-hat, from
 -- which the keys are made.
 use mathlib.Core.Path.{_≡_, sym, ap, ap₂, _∙_}
-use mathlib.Core.List.{List, [], _∷_, _++_}
+use mathlib.Core.List.{List}
 use Prim.Native.Nat.{ℕ}
 use borrow.Author.Needs.{needs}
 use borrow.Author.Tests.{not-true, not-false}
 use native.Mathlib.Omega.{arith}
 use lib.ListN.{take, drop}
-use Rattle.hash_functions.specs.Functions.{G₁}
-use Rattle.kpke.specs.KPke.{matrixFull, ekFrom, dkFrom, ekPke, dkPke}
+use Rattle.kpke.specs.KPke.{matrixFull, ekFrom, dkFrom}
 use Rattle.kpke.specs.Expanded.{expanded-concat}
 use Rattle.refusals.specs.declared.Answer.the-variants.{Done, ShortStream}
 use Rattle.refusals.specs.Refusals.{number}
 use Rattle.refusals.specs.RefusalLaws.{refused, passed, no-row}
-use Rattle.mlkem.specs.MlKem.{wholeDk, keyGenEk, keyGenDk}
+use Rattle.mlkem.specs.MlKem.{wholeDk}
+use Rattle.mlkem.specs.Editions.{seeds}
+use Rattle.mlkem.specs.EditionLaws.{keyGenEk-seeds, keyGenDk-seeds}
 use Rattle.mlkem.specs.CallLaws.{keygen-answer, keygen-refused}
 use Rattle.mlkem.proofs.key_making.keygen_in.Statement.{statement}
 use Rattle.mlkem.proofs.key_making.keygen_in.Tie as tie
@@ -23,17 +24,17 @@ use Rattle.mlkem.proofs.key_making.keygen_in.Tie as tie
 abbrev lent-g : tie.After-expand → tie.After-g3
 lent-g c = c .before .before .before
 
-abbrev hashed : tie.After-expand → tie.After-hash-g-seed
-hashed c = lent-g c .before .before
+abbrev seeded : tie.After-expand → tie.After-seeds
+seeded c = lent-g c .before .before
 
-abbrev known : tie.After-hash-g-seed → tie.After-slice-known3
-known c = c .before .before .before
+abbrev known : tie.After-seeds → tie.After-slice-known3
+known c = c .before .before
 
 abbrev shared : tie.After-slice-known3 → tie.After-shared-slice-known2
 shared c = c .before .before .before
 
 abbrev start : tie.After-expand → tie.Start
-start c = shared (known (hashed c)) .before .before
+start c = shared (known (seeded c)) .before .before
 
 abbrev lent : tie.After-write-keys-arg3 → tie.After-write-keys-arg
 lent c = c .before .before .before
@@ -51,9 +52,9 @@ made c = c .before .before .before
 
 full-by : (c : tie.After-expand)
     → (let s = start c .args in
-    matrixFull (s .p .k) (G₁ (s .d .now ++ s .p .k ∷ [])) ≡ c .expand .result)
+    matrixFull (s .p .k) (take 32 (seeds (s .e) (s .p) (s .d .now))) ≡ c .expand .result)
 full-by c =
-    sym (ap (λ (l : List ℕ). matrixFull (start c .args .p .k) (take 32 l)) (hashed c .hash-g-seed .ensures))
+    sym (ap (λ (l : List ℕ). matrixFull (start c .args .p .k) (take 32 l)) (seeded c .seeds .ensures))
     ∙ sym (c .expand .ensures .answer)
 
 returns : tie.Need-returns
@@ -61,8 +62,8 @@ returns c =
     let x = c .before .before .before in
     let s = start x in
     let row7 = refused ShortStream _ (full-by x ∙ not-true _ (c .if1 .taken)) in
-    keygen-refused (s .args .p) ShortStream (omega arith) _ _ _ _
-    (keygen-answer (s .args .p) ShortStream (s .pre .sized) row7)
+    keygen-refused (s .args .e) (s .args .p) ShortStream (omega arith) _ _ _ _
+    (keygen-answer (s .args .e) (s .args .p) ShortStream (s .pre .sized) row7)
 
 write-keys-requires : tie.Need-write-keys-requires
 write-keys-requires c κs =
@@ -81,29 +82,30 @@ write-keys-requires c κs =
     }
 
 returns-2 : tie.Need-returns-2
-unfolding keyGenEk keyGenDk ekPke dkPke
 returns-2 c =
     let keys = made c .before in
     let row7 = full (keys .before) in
     let x = expanded row7 in
     let s = start x in
+    let e = s .args .e in
     let p = s .args .p in
-    let g = hashed x .hash-g-seed .ensures in
+    let d = s .args .d .now in
+    let z = s .args .z .now in
+    let g = seeded x .seeds .ensures in
     let ek = ap (λ (l : List ℕ). ekFrom p (take 32 l) (drop 32 l)) g in
     let dk = ap (λ (l : List ℕ). dkFrom p (drop 32 l)) g in
     let w = keys .write-keys .ensures in
     let rows = passed ShortStream _ (full-by x ∙ not-false _ (row7 .if1 .left)) no-row in
     record {
-      answer = ap number (sym (keygen-answer p Done (s .pre .sized) rows));
-      ek = w .ek ∙ ek;
-      dk = w .dk ∙ ap₂ (λ (dk ek : List ℕ). wholeDk dk ek (s .args .z .now)) dk ek;
+      answer = ap number (sym (keygen-answer e p Done (s .pre .sized) rows));
+      ek = w .ek ∙ ek ∙ sym (keyGenEk-seeds p d e);
+      dk = w .dk ∙ ap₂ (λ (dk ek : List ℕ). wholeDk dk ek z) dk ek ∙ sym (keyGenDk-seeds p d e z);
     }
 
 pub keygen-in-spec : {M : Type 1} → statement M
 keygen-in-spec =
     tie.close
     (tie.spec
-    (λ c. omega arith)
     (λ c. omega arith)
     (λ c κs. search needs)
     (λ c. omega arith)
