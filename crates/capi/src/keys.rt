@@ -1,5 +1,5 @@
 // Sampling, key making, encapsulation and import for C.
-ghost use Rattle.parameters.specs.declared.Edition.the-variants.{MlKem};
+ghost use Rattle.parameters.specs.declared.Edition.the-variants.{MlKem, Kyber};
 ghost use Rattle.split_key.specs.SplitKey.{splitKey};
 ghost use Rattle.mlkem.specs.Calls.{StreamSampled, KeysMadeBy, EncapsulatedBy};
 ghost use Rattle.split_key.specs.Import.{ImportedBy};
@@ -14,7 +14,7 @@ pub extern "C" fn tifo_sample(stream: &[u8], out: &mut [u16]) -> u32
     refusal(mlkem::sample(stream, out))
 }
 
-// Algorithm 16.
+// FIPS 203, algorithm 16.
 #[no_mangle]
 pub extern "C" fn tifo_keygen(rank: u32, d: &[u8], z: &[u8], ek: &mut [u8], dk: &mut [u8]) -> u32
     ensures { λ r. ⌜
@@ -33,7 +33,32 @@ pub extern "C" fn tifo_keygen(rank: u32, d: &[u8], z: &[u8], ek: &mut [u8], dk: 
     refusal(mlkem::keygen(Edition::MlKem, rank, d, z, ek, dk))
 }
 
-// Algorithm 17.
+// Kyber, algorithm 7.
+#[no_mangle]
+pub extern "C" fn tifo_kyber_keygen(
+    rank: u32,
+    d: &[u8],
+    z: &[u8],
+    ek: &mut [u8],
+    dk: &mut [u8],
+) -> u32
+    ensures { λ r. ⌜
+        KeysMadeBy
+        Kyber
+        rank
+        (now (d .entry))
+        (now (z .entry))
+        (now (ek .entry))
+        (now (dk .entry))
+        r
+        (now (ek .exit))
+        (now (dk .exit))
+        ⌝ }
+{
+    refusal(mlkem::keygen(Edition::Kyber, rank, d, z, ek, dk))
+}
+
+// FIPS 203, algorithm 17.
 #[no_mangle]
 pub extern "C" fn tifo_encaps(rank: u32, ek: &[u8], m: &[u8], ct: &mut [u8], k: &mut [u8]) -> u32
     ensures { λ r. ⌜
@@ -50,6 +75,31 @@ pub extern "C" fn tifo_encaps(rank: u32, ek: &[u8], m: &[u8], ct: &mut [u8], k: 
         ⌝ }
 {
     refusal(mlkem::encaps(Edition::MlKem, rank, ek, m, ct, k))
+}
+
+// Kyber, algorithm 8.
+#[no_mangle]
+pub extern "C" fn tifo_kyber_encaps(
+    rank: u32,
+    ek: &[u8],
+    m: &[u8],
+    ct: &mut [u8],
+    k: &mut [u8],
+) -> u32
+    ensures { λ r. ⌜
+        EncapsulatedBy
+        Kyber
+        rank
+        (now (ek .entry))
+        (now (m .entry))
+        (now (ct .entry))
+        (now (k .entry))
+        r
+        (now (ct .exit))
+        (now (k .exit))
+        ⌝ }
+{
+    refusal(mlkem::encaps(Edition::Kyber, rank, ek, m, ct, k))
 }
 
 // A key in two shares.

@@ -1,0 +1,14 @@
+-- The number returned is that of mlkem::encaps's answer, so that what encaps leaves is what this call leaves.
+use borrow.Author.Needs.{needs}
+use Rattle.capi.proofs.keys.tifo_kyber_encaps.Statement.{statement}
+use Rattle.capi.proofs.keys.tifo_kyber_encaps.Tie as tie
+
+pub tifo-kyber-encaps-spec : {M : Type 1} → statement M
+tifo-kyber-encaps-spec =
+    tie.close
+    (tie.spec
+    (λ c κs. search needs)
+    (λ c κs. search needs)
+    (λ c. search needs)
+    (λ c. search needs)
+    (λ c. rw (c .refusal .ensures) (search needs)))
