@@ -40,31 +40,43 @@ uint32_t tifo_masked_shake256(const uint8_t *in0, size_t in0_len, const uint8_t 
 uint32_t tifo_sample(const uint8_t *stream, size_t stream_len, uint16_t *out, size_t out_len);
 
 /* The calls on keys, ciphertexts and split keys take the parameter set's rank first. Lengths are counts of elements and exact for the rank, else 1.
+ * There are two editions: ML-KEM of FIPS 203, and Kyber as submitted to the third round (version 3.02), whose calls have kyber in their names. Keys,
+ * ciphertexts and split keys of both look alike; strips and steps are the edition's own.
  *                                        ML-KEM-512   ML-KEM-768   ML-KEM-1024
+ *                                          Kyber512     Kyber768     Kyber1024
  *   rank                                           2            3             4
  *   public key, bytes                            800        1,184         1,568
  *   decapsulation key, bytes                   1,632        2,400         3,168
  *   ciphertext, bytes                            768        1,088         1,568
  *   s0, s1, mask_coeffs, coefficients            512          768         1,024
  *   pub, bytes                                   832        1,216         1,600
- *   strip, words                               9,588       11,750        15,192
  *   strip, coefficients                        6,400        7,424         9,472
- *   steps of the worksheet                   155,928      187,794       242,052
+ *   strip, words, of ML-KEM                    9,588       11,750        15,192
+ *   strip, words, of Kyber                     6,588        6,950         8,592
+ *   steps of ML-KEM's worksheet              155,928      187,794       242,052
+ *   steps of Kyber's worksheet               116,638      124,930       155,614
  * The ranks have names: */
 #define TIFO_ML_KEM_512 2
 #define TIFO_ML_KEM_768 3
 #define TIFO_ML_KEM_1024 4
+#define TIFO_KYBER512 2
+#define TIFO_KYBER768 3
+#define TIFO_KYBER1024 4
 
-/* Key making from the seeds d and z, 32 bytes each: the public key and the decapsulation key (9, 1, 7). */
+/* Key making from the seeds d and z, 32 bytes each: the public key and the decapsulation key (9, 1, 7). The editions make other keys of one d. */
 uint32_t tifo_keygen(uint32_t rank, const uint8_t *d, size_t d_len, const uint8_t *z, size_t z_len, uint8_t *ek, size_t ek_len,
                      uint8_t *dk, size_t dk_len);
+uint32_t tifo_kyber_keygen(uint32_t rank, const uint8_t *d, size_t d_len, const uint8_t *z, size_t z_len, uint8_t *ek, size_t ek_len,
+                           uint8_t *dk, size_t dk_len);
 
 /* Encapsulation from the 32 bytes m: the ciphertext, and the secret of 32 bytes (9, 1, 2, 7). FIPS 203 asks of a public key
- * that each coefficient be below 3329, and of a decapsulation key not: import takes some whose public key is refused here. */
+ * that each coefficient be below 3329, and of a decapsulation key not: import takes some whose public key is refused here. Kyber hashes m first. */
 uint32_t tifo_encaps(uint32_t rank, const uint8_t *ek, size_t ek_len, const uint8_t *m, size_t m_len, uint8_t *ct, size_t ct_len,
                      uint8_t *k, size_t k_len);
+uint32_t tifo_kyber_encaps(uint32_t rank, const uint8_t *ek, size_t ek_len, const uint8_t *m, size_t m_len, uint8_t *ct, size_t ct_len,
+                           uint8_t *k, size_t k_len);
 
-/* Import splits a decapsulation key whose h is the public key part's hash, as FIPS 203 asks. Coefficients from 3329 to 4095 are read
+/* Import, which is one for both editions, splits a decapsulation key whose h is the public key part's hash, as FIPS 203 asks. Coefficients from 3329 to 4095 are read
  * modulo 3329, as the standard reads them: the split stands for the key with its secret coefficients reduced. The first shares are the lent masks,
  * coefficients below 3329 and four words; the second shares are what is left of the key; pub is the public key and its hash, as they stand in the
  * key (9, 1, 3, 5). */
@@ -75,18 +87,25 @@ uint32_t tifo_import(uint32_t rank, const uint8_t *dk, size_t dk_len, const uint
 
 /* Masked decapsulation of a split key, as import made it for the same rank, and a ciphertext (9, 1, 5, 6, 7). The strip is words and
  * coefficients below 3329. k0 and k1, four words each, are the shares of the secret: it is k0 xor k1, and a word takes eight bytes, the low one
- * first. A ciphertext that doesn't come from encapsulation isn't refused: its secret is FIPS 203's rejection secret.
+ * first. A ciphertext that doesn't come from encapsulation isn't refused: its secret is the edition's rejection secret.
  * Strips are the caller's to make, as import's masks are: uniform, independent of all else, and fresh for each call. */
 uint32_t tifo_decaps(uint32_t rank, const uint16_t *s0, size_t s0_len, const uint16_t *s1, size_t s1_len, const uint64_t *z0, size_t z0_len,
                      const uint64_t *z1, size_t z1_len, const uint8_t *pub, size_t pub_len, const uint8_t *ct, size_t ct_len,
                      const uint64_t *words, size_t words_len, const uint16_t *coeffs, size_t coeffs_len,
                      uint64_t *k0, size_t k0_len, uint64_t *k1, size_t k1_len);
+uint32_t tifo_kyber_decaps(uint32_t rank, const uint16_t *s0, size_t s0_len, const uint16_t *s1, size_t s1_len, const uint64_t *z0, size_t z0_len,
+                           const uint64_t *z1, size_t z1_len, const uint8_t *pub, size_t pub_len, const uint8_t *ct, size_t ct_len,
+                           const uint64_t *words, size_t words_len, const uint16_t *coeffs, size_t coeffs_len,
+                           uint64_t *k0, size_t k0_len, uint64_t *k1, size_t k1_len);
 
 /* The same run, told a step, from 0 on as docs/worksheet.md counts: *value takes that step's value, and nothing else is handed back
  * (9, 1, 5, 6, 7, 8). value points to one word, and is written only where the call returns 0. */
 uint32_t tifo_trace(uint32_t rank, const uint16_t *s0, size_t s0_len, const uint16_t *s1, size_t s1_len, const uint64_t *z0, size_t z0_len,
                     const uint64_t *z1, size_t z1_len, const uint8_t *pub, size_t pub_len, const uint8_t *ct, size_t ct_len,
                     const uint64_t *words, size_t words_len, const uint16_t *coeffs, size_t coeffs_len, uint64_t step, uint64_t *value);
+uint32_t tifo_kyber_trace(uint32_t rank, const uint16_t *s0, size_t s0_len, const uint16_t *s1, size_t s1_len, const uint64_t *z0, size_t z0_len,
+                          const uint64_t *z1, size_t z1_len, const uint8_t *pub, size_t pub_len, const uint8_t *ct, size_t ct_len,
+                          const uint64_t *words, size_t words_len, const uint16_t *coeffs, size_t coeffs_len, uint64_t step, uint64_t *value);
 
 #ifdef __cplusplus
 }

@@ -68,6 +68,7 @@ fn decapsulate(
     let mut k0 = [0u64; 4];
     let mut k1 = [0u64; 4];
     let answer = decapsulation::decaps(
+        Edition::MlKem,
         rank,
         s0,
         s1,
@@ -122,6 +123,7 @@ fn trace(
 ) -> bool {
     let mut value: u64 = 0;
     let answer = decapsulation::trace(
+        Edition::MlKem,
         rank,
         s0,
         s1,

@@ -2,6 +2,7 @@
 use mathlib.Core.Path.{_≡_}
 use Prim.Native.Nat.{ℕ}
 use borrow.Author.Needs.{needs}
+use Rattle.parameters.specs.declared.Edition.the-variants.{MlKem}
 use Rattle.parameters.specs.declared.Parameters.{Parameters}
 use Rattle.parameters.specs.Sets.{mlKem512, mlKem768, mlKem1024}
 use Rattle.parameters.specs.Ranks.{ofRank}
@@ -15,9 +16,9 @@ use Rattle.cli_support.specs.Bounded.{Between, SetBounded}
 -- a set whose counts are known lies within the bounds if its numbers do
 listed :
     (p : Parameters) {w c s : ℕ}
-    → stripWords p ≡ w
+    → stripWords MlKem p ≡ w
     → stripCoeffs p ≡ c
-    → steps p ≡ s
+    → steps MlKem p ≡ s
     → Between (p .k) (ekBytes p) (dkBytes p) (ctBytes p) w c s
     → SetBounded p
 listed p ew ec es b = rw (ew, ec, es) b

@@ -1,6 +1,7 @@
 -- A parameter set's lengths and counts lie between those of ML-KEM-512 and those of ML-KEM-1024.
 use mathlib.Core.Path.{_≡_}
 use Prim.Native.Nat.{ℕ, _+_, _*_}
+use Rattle.parameters.specs.declared.Edition.the-variants.{MlKem}
 use Rattle.parameters.specs.declared.Parameters.{Parameters}
 use Rattle.parameters.specs.Lengths.{ekBytes, dkBytes, ctBytes}
 use Rattle.parameters.specs.Fits.{Within}
@@ -25,4 +26,4 @@ pub record Bounded (s : Sizes) : Type 0 where
 
 -- the bounds of the set, whose sizes these are
 abbrev pub SetBounded : Parameters → Type 0
-SetBounded p = Between (p .k) (ekBytes p) (dkBytes p) (ctBytes p) (stripWords p) (stripCoeffs p) (steps p)
+SetBounded p = Between (p .k) (ekBytes p) (dkBytes p) (ctBytes p) (stripWords MlKem p) (stripCoeffs p) (steps MlKem p)

@@ -2,6 +2,7 @@
 ghost use Rattle.parameters.specs.Fits.{Fits};
 ghost use Rattle.cli_support.specs.Bounded.{Bounded, SetBounded};
 use crate::arguments::same;
+use parameters::Edition;
 use parameters::Parameters;
 use parameters::ct_bytes;
 use parameters::dk_bytes;
@@ -60,9 +61,9 @@ fn measured(p: Parameters) -> Sizes
         dk: dk_bytes(p),
         ct: ct_bytes(p),
         public: ek_bytes(p) + 32,
-        words: strip_words(p),
+        words: strip_words(Edition::MlKem, p),
         coeffs: strip_coeffs(p),
-        steps: steps(p) as u64,
+        steps: steps(Edition::MlKem, p) as u64,
     }
 }
 

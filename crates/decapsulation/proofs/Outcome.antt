@@ -21,6 +21,7 @@ use Rattle.refusals.specs.RefusalLaws.{sized-exact, sized-more, sized-first}
 use Rattle.tracing.specs.Told.{toldAnswer, toldValue, leftOf}
 use Rattle.tracing.specs.Trace as trace
 use Rattle.tracing.specs.ToldLaws.{told-none, told-refused, told-over, told-done, ran-value, left-answer, left-value}
+use Rattle.parameters.specs.declared.Edition.{Edition}
 use Rattle.parameters.specs.declared.Parameters.{Parameters}
 use Rattle.parameters.specs.Lengths.{ekBytes, ctBytes}
 use Rattle.vectors.specs.Vector.{concat}
@@ -43,90 +44,92 @@ use Rattle.decapsulation.specs.AnswerLaws.{rows-passed, rows-refusing, r
 
 -- ---- row 1 as the code tests it
 
-module _ (p : Parameters) (g : Input) (k0 k1 : List ℕ) where
+module _ (e : Edition) (p : Parameters) (g : Input) (k0 k1 : List ℕ) where
   -- all that is lent to decapsulation
   abbrev pub all : List Lent
-  all = lengths p g ++ lent k0 4 ∷ lent k1 4 ∷ []
+  all = lengths e p g ++ lent k0 4 ∷ lent k1 4 ∷ []
 
   -- with the lengths as the code counts them
-  pub wanted : {h ct w c : ℕ} → h ≡ ekBytes p → ct ≡ ctBytes p → w ≡ stripWords p → c ≡ stripCoeffs p
+  pub wanted : {h ct w c : ℕ} → h ≡ ekBytes p → ct ≡ ctBytes p → w ≡ stripWords e p → c ≡ stripCoeffs p
       → (256 * p .k) ∷ (256 * p .k) ∷ 4 ∷ 4 ∷ (h + 32) ∷ ct ∷ w ∷ c ∷ 4 ∷ 4 ∷ [] ≡ wants all
-  wanted e f g k = rw (e, f, g, k) refl
+  wanted a b c d = rw (a, b, c, d) refl
 
 sized-last : (bs cs : List Lent) → sized (bs ++ cs) ≡ true → sized cs ≡ true
 unfolding sized
 sized-last [] cs e = e
 sized-last (b ∷ bs) cs e = sized-last bs cs (and-right (eqb (length (b .list)) (b .size)) (sized (bs ++ cs)) e)
 
-module _ (p : Parameters) (g : Input) (k0 k1 : List ℕ) (e : sized (all p g k0 k1) ≡ true) where
-  pub all-sized : Sized p g
-  all-sized = sized-lengths p g (sized-first (lengths p g) _ e)
+module _ (e : Edition) (p : Parameters) (g : Input) (k0 k1 : List ℕ) (h : sized (all e p g k0 k1) ≡ true) where
+  pub all-sized : Sized e p g
+  all-sized = sized-lengths e p g (sized-first (lengths e p g) _ h)
 
   pub shares-long : Long 4 (sharedList k0 k1)
   shares-long =
-      let x = sized-exact (lent k0 4 ∷ lent k1 4 ∷ []) (sized-last (lengths p g) _ e) in
+      let x = sized-exact (lent k0 4 ∷ lent k1 4 ∷ []) (sized-last (lengths e p g) _ h) in
       record { long0 = x .0; long1 = x .1 .0 }
 
 -- ---- where row 1 is passed, by the outcomes of the other tests
 
-module _ {p : Parameters} {g : Input} {k0 k1 : List ℕ} (l : Sized p g) (k : Long 4 (sharedList k0 k1)) where
-  sized-all : sized (all p g k0 k1) ≡ true
-  sized-all = sized-more (lengths p g) _ (k .long0, (k .long1, tt)) ∙ lengths-sized p g l
+module _ {e : Edition} {p : Parameters} {g : Input} {k0 k1 : List ℕ} (l : Sized e p g)
+    (k : Long 4 (sharedList k0 k1)) where
+  sized-all : sized (all e p g k0 k1) ≡ true
+  sized-all = sized-more (lengths e p g) _ (k .long0, (k .long1, tt)) ∙ lengths-sized e p g l
 
-  pub masks-refused : reduced (g .coeffs) ≡ false → answer (decapsRows p g k0 k1) ≡ MaskRange
-  masks-refused e = passed WrongLength _ sized-all (refused MaskRange _ e)
+  pub masks-refused : reduced (g .coeffs) ≡ false → answer (decapsRows e p g k0 k1) ≡ MaskRange
+  masks-refused h = passed WrongLength _ sized-all (refused MaskRange _ h)
 
   module _ (masks : reduced (g .coeffs) ≡ true) where
     pub shares-refused : (reduced (g .key .s .s0) && reduced (g .key .s .s1)) ≡ false
-        → answer (decapsRows p g k0 k1) ≡ ShareRange
-    shares-refused e = passed WrongLength _ sized-all (passed MaskRange _ masks (refused ShareRange _ e))
+        → answer (decapsRows e p g k0 k1) ≡ ShareRange
+    shares-refused h = passed WrongLength _ sized-all (passed MaskRange _ masks (refused ShareRange _ h))
 
     module _ (shares : (reduced (g .key .s .s0) && reduced (g .key .s .s1)) ≡ true) where
       pub stream-refused : matrixFull (p .k) (rhoOf p (ekOf p (g .key))) ≡ false
-          → answer (decapsRows p g k0 k1) ≡ ShortStream
-      stream-refused e = rows-passed p g (all p g k0 k1) sized-all masks shares (refused ShortStream _ e)
+          → answer (decapsRows e p g k0 k1) ≡ ShortStream
+      stream-refused h = rows-passed p g (all e p g k0 k1) sized-all masks shares (refused ShortStream _ h)
 
-      pub all-passed : matrixFull (p .k) (rhoOf p (ekOf p (g .key))) ≡ true → answer (decapsRows p g k0 k1) ≡ Done
-      all-passed e = rows-passed p g (all p g k0 k1) sized-all masks shares (passed ShortStream _ e no-row)
+      pub all-passed : matrixFull (p .k) (rhoOf p (ekOf p (g .key))) ≡ true → answer (decapsRows e p g k0 k1) ≡ Done
+      all-passed h = rows-passed p g (all e p g k0 k1) sized-all masks shares (passed ShortStream _ h no-row)
 
 -- ---- the one function
 
-module _ {p : Parameters} {left : ℕ} {g : Input} {k0 k1 : List ℕ} {v : ℕ} where
+module _ {e : Edition} {p : Parameters} {left : ℕ} {g : Input} {k0 k1 : List ℕ} {v : ℕ} where
   -- a refusal leaves everything
-  kept : (a : Answer) → 0 < number a → toldAnswer (decapsRows p g k0 k1) (length (sheet p g .entries)) left ≡ a
-      → Told p left g k0 k1 v (number a) k0 k1 v
-  kept a h e =
+  kept : (a : Answer) → 0 < number a → toldAnswer (decapsRows e p g k0 k1) (length (sheet e p g .entries)) left ≡ a
+      → Told e p left g k0 k1 v (number a) k0 k1 v
+  kept a h f =
       let r : number a ≡ 0 → ⊥ = λ z. omega arith in
       record {
-        answer = ap number (sym e);
+        answer = ap number (sym f);
         share0 = sym (after-refused (number a) _ k0 r);
         share1 = sym (after-refused (number a) _ k1 r);
         value = sym (after-refused (number a) _ v r);
       }
 
   -- by a row
-  pub told-row : (a : Answer) → 0 < number a → answer (decapsRows p g k0 k1) ≡ a
-      → Told p left g k0 k1 v (number a) k0 k1 v
-  told-row a h e = kept a h (told-refused (decapsRows p g k0 k1) (length (sheet p g .entries)) left e h)
+  pub told-row : (a : Answer) → 0 < number a → answer (decapsRows e p g k0 k1) ≡ a
+      → Told e p left g k0 k1 v (number a) k0 k1 v
+  told-row a h f = kept a h (told-refused (decapsRows e p g k0 k1) (length (sheet e p g .entries)) left f h)
 
   -- no row refuses, and the step is past the end
-  pub told-past : answer (decapsRows p g k0 k1) ≡ Done → length (sheet p g .entries) < left
-      → Told p left g k0 k1 v (number NoSuchStep) k0 k1 v
+  pub told-past : answer (decapsRows e p g k0 k1) ≡ Done → length (sheet e p g .entries) < left
+      → Told e p left g k0 k1 v (number NoSuchStep) k0 k1 v
   told-past d h =
       kept NoSuchStep (omega arith)
-      (told-over (decapsRows p g k0 k1) (length (sheet p g .entries)) (rows-refusing p g (all p g k0 k1)) d left h)
+      (told-over (decapsRows e p g k0 k1) (length (sheet e p g .entries)) (rows-refusing p g (all e p g k0 k1)) d left
+      h)
 
   -- or not
-  pub told-ran : {x y ws cs : List ℕ} {rec : Recorder} → answer (decapsRows p g k0 k1) ≡ Done
-      → left ≤ length (sheet p g .entries)
-      → Ran (worksheet p (g .key) (g .ct)) (record { left = left; value = 0 }) (g .words) (g .coeffs) (sharedList x y)
+  pub told-ran : {x y ws cs : List ℕ} {rec : Recorder} → answer (decapsRows e p g k0 k1) ≡ Done
+      → left ≤ length (sheet e p g .entries)
+      → Ran (worksheet e p (g .key) (g .ct)) (record { left = left; value = 0 }) (g .words) (g .coeffs) (sharedList x y)
       rec ws cs
-      → Told p left g k0 k1 v (number Done) x y (rec .value)
+      → Told e p left g k0 k1 v (number Done) x y (rec .value)
   unfolding decapsShares
   told-ran d h r =
-      let f = rows-refusing p g (all p g k0 k1) in
+      let f = rows-refusing p g (all e p g k0 k1) in
       record {
-        answer = ap number (sym (told-done (decapsRows p g k0 k1) (length (sheet p g .entries)) f d left h));
+        answer = ap number (sym (told-done (decapsRows e p g k0 k1) (length (sheet e p g .entries)) f d left h));
         share0 = sym (ap (λ (z : SharedList). z .s0) (r .value));
         share1 = sym (ap (λ (z : SharedList). z .s1) (r .value));
         value = ran-value r;
@@ -134,30 +137,31 @@ module _ {p : Parameters} {left : ℕ} {g : Input} {k0 k1 : List ℕ} {v : ℕ} 
 
 -- ---- the two calls
 
-module _ {p : Parameters} {g : Input} {k0 k1 : List ℕ} {v n : ℕ} {k0′ k1′ : List ℕ} {v′ : ℕ} where
-  pub told-decapsulated : Told p 0 g k0 k1 v n k0′ k1′ v′ → Decapsulated p g k0 k1 n k0′ k1′
+module _ {e : Edition} {p : Parameters} {g : Input} {k0 k1 : List ℕ} {v n : ℕ} {k0′ k1′ : List ℕ} {v′ : ℕ} where
+  pub told-decapsulated : Told e p 0 g k0 k1 v n k0′ k1′ v′ → Decapsulated e p g k0 k1 n k0′ k1′
   unfolding decapsAnswer
   told-decapsulated t =
       record { answer = t .answer ∙ ap number (told-none _ _); share0 = t .share0; share1 = t .share1 }
 
-  pub told-traced : (t m : ℕ) {left : ℕ} → steps p ≡ m → left ≡ leftOf t m → Long 4 (sharedList k0 k1)
-      → Told p left g k0 k1 v n k0′ k1′ v′ → Traced p g t v n v′
+  pub told-traced : (t m : ℕ) {left : ℕ} → steps e p ≡ m → left ≡ leftOf t m → Long 4 (sharedList k0 k1)
+      → Told e p left g k0 k1 v n k0′ k1′ v′ → Traced e p g t v n v′
   unfolding traceAnswer traceValue
-  told-traced t m {left} s e k o =
-      let rs = rows p (lengths p g) g in
-      let entries = sheet p g .entries in
+  told-traced t m {left} s f k o =
+      let rs = rows p (lengths e p g) g in
+      let entries = sheet e p g .entries in
+      let refusing = rows-refusing p g (lengths e p g) in
       let a : n ≡ number (trace.stepAnswer rs (length entries) t) =
       o .answer
-      ∙ ap (λ (r : List Row). number (toldAnswer r (length entries) left)) (rows-shares p g k)
-      ∙ ap (λ (l : ℕ). number (toldAnswer rs (length entries) l)) e
-      ∙ ap number (left-answer rs (length entries) m t (rows-refusing p g (lengths p g)) (λ d. rows-steps p g d ∙ s)) in
+      ∙ ap (λ (r : List Row). number (toldAnswer r (length entries) left)) (rows-shares e p g k)
+      ∙ ap (λ (l : ℕ). number (toldAnswer rs (length entries) l)) f
+      ∙ ap number (left-answer rs (length entries) m t refusing (λ d. rows-steps e p g d ∙ s)) in
       record {
         answer = a;
         value =
             o .value
-            ∙ ap (λ (l : ℕ). after n (toldValue l entries) v) e
+            ∙ ap (λ (l : ℕ). after n (toldValue l entries) v) f
             ∙ ap (λ (x : ℕ). after x (toldValue (leftOf t m) entries) v) a
-            ∙ left-value rs (length entries) m t (rows-refusing p g (lengths p g)) (λ d. rows-steps p g d ∙ s) entries v
+            ∙ left-value rs (length entries) m t refusing (λ d. rows-steps e p g d ∙ s) entries v
             ∙ sym (ap (λ (x : ℕ). after x (trace.stepValue entries t) v) a);
       }
 

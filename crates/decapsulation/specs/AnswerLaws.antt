@@ -16,6 +16,7 @@ use Rattle.refusals.specs.RefusalLaws.{refused, passed, no-row, done-passed}
 use Rattle.refusals.specs.RefusalLaws.{sized-exact, exact-sized, sized-more, sized-first}
 use Rattle.tracing.specs.Trace as trace
 use Rattle.tracing.specs.ToldLaws.{Refusing, told-refused, told-step, trace-passed}
+use Rattle.parameters.specs.declared.Edition.{Edition}
 use Rattle.parameters.specs.declared.Parameters.{Parameters}
 use Rattle.parameters.specs.Lengths.{ekBytes}
 use Rattle.kpke.specs.KPke.{matrixFull}
@@ -29,16 +30,27 @@ use Rattle.decapsulation.specs.Calls.{Input, sheet, lengths, rows, decap
 use Rattle.decapsulation.specs.Sized.{Sized}
 
 -- what decapsulation that is carried out has tested
-pub record Tested (p : Parameters) (g : Input) : Type 0 where
-  pub long : Sized p g
+pub record Tested (e : Edition) (p : Parameters) (g : Input) : Type 0 where
+  pub long : Sized e p g
   pub masks : reduced (g .coeffs) ≡ true
 
 module _ (p : Parameters) (g : Input) where
+  pub rows-refusing : (bs : List Lent) → Refusing (rows p bs g)
+  rows-refusing bs = (omega arith, (omega arith, (omega arith, (omega arith, tt))))
+
+  -- rows 1, 5 and 6 passed
+  pub rows-passed : (bs : List Lent) {x : Answer} → sized bs ≡ true → reduced (g .coeffs) ≡ true
+      → (reduced (g .key .s .s0) && reduced (g .key .s .s1)) ≡ true
+      → answer (row (not (matrixFull (p .k) (rhoOf p (ekOf p (g .key))))) ShortStream ∷ []) ≡ x
+      → answer (rows p bs g) ≡ x
+  rows-passed bs l m s h = passed WrongLength _ l (passed MaskRange _ m (passed ShareRange _ s h))
+
+module _ (e : Edition) (p : Parameters) (g : Input) where
   -- ---- lengths
 
-  pub sized-lengths : sized (lengths p g) ≡ true → Sized p g
-  sized-lengths e =
-      let x = sized-exact (lengths p g) e in
+  pub sized-lengths : sized (lengths e p g) ≡ true → Sized e p g
+  sized-lengths h =
+      let x = sized-exact (lengths e p g) h in
       let y = x .1 .1 .1 .1 in
       record {
         key = record { s0 = x .0; s1 = x .1 .0; z0 = x .1 .1 .0; z1 = x .1 .1 .1 .0; public = y .0 };
@@ -47,71 +59,61 @@ module _ (p : Parameters) (g : Input) where
         coeffs = y .1 .1 .1 .0;
       }
 
-  pub lengths-sized : Sized p g → sized (lengths p g) ≡ true
+  pub lengths-sized : Sized e p g → sized (lengths e p g) ≡ true
   lengths-sized l =
       let k = l .key in
-      exact-sized (lengths p g)
+      exact-sized (lengths e p g)
       (k .s0, (k .s1, (k .z0, (k .z1, (k .public, (l .ct, (l .words, (l .coeffs, tt))))))))
 
   -- the worksheet's count
-  pub sheet-steps : Sized p g → length (sheet p g .entries) ≡ steps p
+  pub sheet-steps : Sized e p g → length (sheet e p g .entries) ≡ steps e p
   sheet-steps l =
       length-entries
-      (uses-worksheet p (g .key) (g .ct) (length-drop (ekBytes p) (g .key .public) ∙ omega (arith, l .key .public))
+      (uses-worksheet e p (g .key) (g .ct) (length-drop (ekBytes p) (g .key .public) ∙ omega (arith, l .key .public))
       (l .ct))
       (g .words) (g .coeffs)
 
   -- ---- the rows
 
-  pub rows-refusing : (bs : List Lent) → Refusing (rows p bs g)
-  rows-refusing bs = (omega arith, (omega arith, (omega arith, (omega arith, tt))))
-
   -- buffers of four words for K change nothing
-  pub rows-shares : {k0 k1 : List ℕ} → Long 4 (sharedList k0 k1) → decapsRows p g k0 k1 ≡ rows p (lengths p g) g
-  rows-shares {k0} {k1} k = rw (sized-more (lengths p g) (lent k0 4 ∷ lent k1 4 ∷ []) (k .long0, (k .long1, tt)))
+  pub rows-shares : {k0 k1 : List ℕ} → Long 4 (sharedList k0 k1) → decapsRows e p g k0 k1 ≡ rows p (lengths e p g) g
+  rows-shares {k0} {k1} k = rw (sized-more (lengths e p g) (lent k0 4 ∷ lent k1 4 ∷ []) (k .long0, (k .long1, tt)))
 
   -- where no row refuses the worksheet has its steps
-  pub rows-steps : answer (rows p (lengths p g) g) ≡ Done → length (sheet p g .entries) ≡ steps p
-  rows-steps d = sheet-steps (sized-lengths (done-passed (sized (lengths p g)) WrongLength _ (omega arith) d .0))
-
-  -- rows 1, 5 and 6 passed
-  pub rows-passed : (bs : List Lent) {x : Answer} → sized bs ≡ true → reduced (g .coeffs) ≡ true
-      → (reduced (g .key .s .s0) && reduced (g .key .s .s1)) ≡ true
-      → answer (row (not (matrixFull (p .k) (rhoOf p (ekOf p (g .key))))) ShortStream ∷ []) ≡ x
-      → answer (rows p bs g) ≡ x
-  rows-passed bs l m s e = passed WrongLength _ l (passed MaskRange _ m (passed ShareRange _ s e))
+  pub rows-steps : answer (rows p (lengths e p g) g) ≡ Done → length (sheet e p g .entries) ≡ steps e p
+  rows-steps d = sheet-steps (sized-lengths (done-passed (sized (lengths e p g)) WrongLength _ (omega arith) d .0))
 
   -- ---- what is known of a call by its answer
 
   -- decapsulation that is carried out
-  pub decaps-tested : (k0 k1 : List ℕ) → decapsAnswer p g k0 k1 ≡ Done → Tested p g
+  pub decaps-tested : (k0 k1 : List ℕ) → decapsAnswer e p g k0 k1 ≡ Done → Tested e p g
   unfolding decapsAnswer
   decaps-tested k0 k1 d =
-      let r₁ = done-passed (sized (lengths p g ++ lent k0 4 ∷ lent k1 4 ∷ [])) WrongLength _ (omega arith) d in
+      let r₁ = done-passed (sized (lengths e p g ++ lent k0 4 ∷ lent k1 4 ∷ [])) WrongLength _ (omega arith) d in
       let r₅ = done-passed (reduced (g .coeffs)) MaskRange _ (omega arith) (r₁ .1) in
-      record { long = sized-lengths (sized-first (lengths p g) _ (r₁ .0)); masks = r₅ .0 }
+      record { long = sized-lengths (sized-first (lengths e p g) _ (r₁ .0)); masks = r₅ .0 }
 
   -- the trace where the lengths are exact and all coefficients are below q
-  pub trace-rows : (t : ℕ) → Sized p g → reduced (g .coeffs) ≡ true
+  pub trace-rows : (t : ℕ) → Sized e p g → reduced (g .coeffs) ≡ true
       → (reduced (g .key .s .s0) && reduced (g .key .s .s1)) ≡ true
-      → traceAnswer p g t
-      ≡ cond (matrixFull (p .k) (rhoOf p (ekOf p (g .key)))) (cond (ltb t (steps p)) Done NoSuchStep) ShortStream
+      → traceAnswer e p g t
+      ≡ cond (matrixFull (p .k) (rhoOf p (ekOf p (g .key)))) (cond (ltb t (steps e p)) Done NoSuchStep) ShortStream
   unfolding traceAnswer
   trace-rows t l m s = go (matrixFull (p .k) (rhoOf p (ekOf p (g .key)))) refl
     where
       rs : List Row
-      rs = rows p (lengths p g) g
+      rs = rows p (lengths e p g) g
 
       n : ℕ
-      n = length (sheet p g .entries)
+      n = length (sheet e p g .entries)
 
       go : (b : Bool) → matrixFull (p .k) (rhoOf p (ekOf p (g .key))) ≡ b
-          → trace.stepAnswer rs n t ≡ cond b (cond (ltb t (steps p)) Done NoSuchStep) ShortStream
-      go true e =
-          trace-passed rs n (rows-refusing (lengths p g))
-          (rows-passed (lengths p g) (lengths-sized l) m s (passed ShortStream _ e no-row)) t
+          → trace.stepAnswer rs n t ≡ cond b (cond (ltb t (steps e p)) Done NoSuchStep) ShortStream
+      go true h =
+          trace-passed rs n (rows-refusing p g (lengths e p g))
+          (rows-passed p g (lengths e p g) (lengths-sized l) m s (passed ShortStream _ h no-row)) t
           ∙ ap (λ (k : ℕ). cond (ltb t k) Done NoSuchStep) (sheet-steps l)
-      go false e =
+      go false h =
           sym (told-step rs n t)
           ∙ told-refused rs n (t + 1)
-          (rows-passed (lengths p g) (lengths-sized l) m s (refused ShortStream _ e)) (omega arith)
+          (rows-passed p g (lengths e p g) (lengths-sized l) m s (refused ShortStream _ h)) (omega arith)

@@ -1,8 +1,8 @@
 -- From call to call, at any parameter set within the bounds: where import of a decapsulation key is carried out, the
 -- split key that it leaves joins to that key with its secret coefficients reduced; where decapsulation on it is carried
--- out then, the two shares of K join to FIPS 203's decapsulation of the key as it was. Lengths and ranges, and that the
--- key is accepted, follow from the answers. Bytes are below 256 and words below 2^64: at a call the types of the slices
--- say so, and of lists it is asked.
+-- out then, the two shares of K join to the edition's decapsulation of the key as it was. Lengths and ranges, and that
+-- the key is accepted, follow from the answers. Bytes are below 256 and words below 2^64: at a call the types of the
+-- slices say so, and of lists it is asked.
 use mathlib.Core.Path.{_≡_, ap, ap₂, _∙_}
 use mathlib.Core.List.{List}
 use Prim.Native.Nat.{ℕ, _^_}
@@ -10,9 +10,10 @@ use Rattle.words.specs.Bounded.{Below}
 use Rattle.words.specs.LittleEndian.{wordsToBytes}
 use Rattle.worksheet.specs.Run.{run}
 use Rattle.worksheet.specs.SharedList.{sharedList, joinedList}
+use Rattle.parameters.specs.declared.Edition.{Edition}
 use Rattle.parameters.specs.declared.Parameters.{Parameters}
 use Rattle.parameters.specs.Fits.{Fits}
-use Rattle.mlkem.specs.MlKem as fips203
+use Rattle.mlkem.specs.Editions as kem
 use Rattle.split_key.specs.Import.{Imported}
 use Rattle.split_key.specs.ImportLaws.{imported-importable}
 use Rattle.refusals.specs.ReducedLaws.{reduced-below}
@@ -32,17 +33,18 @@ imported-joins {p} i dk-bytes mask-words =
     ap (joinedDk p) (i .key) ∙ joinedDk-split (imported-importable i dk-bytes mask-words)
 
 -- import of dk leaves the split key in g, and decapsulation of g leaves k0 and k1
-module _ {p : Parameters} {dk maskCoeffs maskWords k0₀ k1₀ k0 k1 : List ℕ} {key₀ : SplitKey} {g : Input} where
+module _ {e : Edition} {p : Parameters} {dk maskCoeffs maskWords k0₀ k1₀ k0 k1 : List ℕ} {key₀ : SplitKey}
+    {g : Input} where
   pub imported-decaps : Fits p → Imported p dk maskCoeffs maskWords key₀ 0 (g .key)
-      → Decapsulated p g k0₀ k1₀ 0 k0 k1
+      → Decapsulated e p g k0₀ k1₀ 0 k0 k1
       → Below 256 dk → Below (2 ^ 64) maskWords → Below 256 (g .ct) → Below (2 ^ 64) (g .words)
-      → wordsToBytes 8 (joinedList (sharedList k0 k1)) ≡ fips203.decaps p dk (g .ct)
+      → wordsToBytes 8 (joinedList (sharedList k0 k1)) ≡ kem.decaps e p dk (g .ct)
   unfolding decapsShares
   imported-decaps fits i d dk-bytes mask-words ct-bytes strip-words =
       let t = decapsulated-tested d in
       ap₂ (λ (x y : List ℕ). wordsToBytes 8 (joinedList (sharedList x y))) (d .share0) (d .share1)
       ∙ ap (λ (key : SplitKey).
-      wordsToBytes 8 (joinedList (run (worksheet p key (g .ct)) (g .words) (g .coeffs) .value)))
+      wordsToBytes 8 (joinedList (run (worksheet e p key (g .ct)) (g .words) (g .coeffs) .value)))
       (i .key)
-      ∙ run-split (imported-importable i dk-bytes mask-words) fits (g .ct) (t .long .ct) ct-bytes strip-words
+      ∙ run-split (imported-importable i dk-bytes mask-words) e fits (g .ct) (t .long .ct) ct-bytes strip-words
       (reduced-below (g .coeffs) (t .masks))

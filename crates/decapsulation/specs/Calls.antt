@@ -1,4 +1,4 @@
--- What decapsulation and trace answer and hand back, for a parameter set and told a rank.
+-- What decapsulation and trace of an edition answer and hand back, for a parameter set and told a rank.
 use mathlib.Core.Path.{_≡_}
 use mathlib.Core.Bool.{not, _&&_}
 use mathlib.Core.List.{List, [], _∷_, _++_}
@@ -11,6 +11,7 @@ use Rattle.refusals.specs.declared.Answer.{Answer}
 use Rattle.refusals.specs.declared.Answer.the-variants.{WrongLength, MaskRange, ShareRange, ShortStream}
 use Rattle.refusals.specs.Refusals.{number, after, Row, row, answer, Lent, lent, sized}
 use Rattle.tracing.specs.Trace as trace
+use Rattle.parameters.specs.declared.Edition.{Edition}
 use Rattle.parameters.specs.declared.Parameters.{Parameters}
 use Rattle.parameters.specs.ByRank.{ByRank}
 use Rattle.parameters.specs.Lengths.{ctBytes}
@@ -41,30 +42,30 @@ pub record Typed (g : Input) : Type 0 where
   pub ct : Below 256 (g .ct)
   pub words : Below (2 ^ 64) (g .words)
 
-module _ (p : Parameters) where
+-- rows 1, 5, 6 and 7, where the buffers bs are lent
+abbrev pub rows : Parameters → List Lent → Input → List Row
+rows p bs g =
+    row (not (sized bs)) WrongLength
+    ∷ row (not (reduced (g .coeffs))) MaskRange
+    ∷ row (not (reduced (g .key .s .s0) && reduced (g .key .s .s1))) ShareRange
+    ∷ row (not (matrixFull (p .k) (rhoOf p (ekOf p (g .key))))) ShortStream
+    ∷ []
+
+module _ (e : Edition) (p : Parameters) where
   -- what the worksheet does for this key, ciphertext and strip
   abbrev pub sheet : Input → Run SharedList
-  sheet g = run (worksheet p (g .key) (g .ct)) (g .words) (g .coeffs)
+  sheet g = run (worksheet e p (g .key) (g .ct)) (g .words) (g .coeffs)
 
   -- the lengths that the buffers to be read must have
   abbrev pub lengths : Input → List Lent
   lengths g =
       keyLengths p (g .key)
-      ++ lent (g .ct) (ctBytes p) ∷ lent (g .words) (stripWords p) ∷ lent (g .coeffs) (stripCoeffs p) ∷ []
-
-  -- rows 1, 5, 6 and 7, where the buffers bs are lent
-  abbrev pub rows : List Lent → Input → List Row
-  rows bs g =
-      row (not (sized bs)) WrongLength
-      ∷ row (not (reduced (g .coeffs))) MaskRange
-      ∷ row (not (reduced (g .key .s .s0) && reduced (g .key .s .s1))) ShareRange
-      ∷ row (not (matrixFull (p .k) (rhoOf p (ekOf p (g .key))))) ShortStream
-      ∷ []
+      ++ lent (g .ct) (ctBytes p) ∷ lent (g .words) (stripWords e p) ∷ lent (g .coeffs) (stripCoeffs p) ∷ []
 
   -- ---- decapsulation, which is lent k0 and k1 for the shares of K
 
   abbrev pub decapsRows : Input → List ℕ → List ℕ → List Row
-  decapsRows g k0 k1 = rows (lengths g ++ lent k0 4 ∷ lent k1 4 ∷ []) g
+  decapsRows g k0 k1 = rows p (lengths g ++ lent k0 4 ∷ lent k1 4 ∷ []) g
 
   unfoldable pub decapsAnswer : Input → List ℕ → List ℕ → Answer
   decapsAnswer g k0 k1 = answer (decapsRows g k0 k1)
@@ -81,7 +82,7 @@ module _ (p : Parameters) where
   -- ---- trace of the step t
 
   unfoldable pub traceAnswer : Input → ℕ → Answer
-  traceAnswer g t = trace.stepAnswer (rows (lengths g) g) (length (sheet g .entries)) t
+  traceAnswer g t = trace.stepAnswer (rows p (lengths g) g) (length (sheet g .entries)) t
 
   unfoldable pub traceValue : Input → ℕ → ℕ
   traceValue g t = trace.stepValue (sheet g .entries) t
@@ -91,15 +92,16 @@ module _ (p : Parameters) where
     pub answer : n ≡ number (traceAnswer g t)
     pub value : v′ ≡ after n (traceValue g t) v
 
-  -- ---- what import hands over for the key dk and the first shares a and w, with a ciphertext and a strip
-  abbrev pub imported : List ℕ → List ℕ → List ℕ → List ℕ → List ℕ → List ℕ → Input
-  imported dk a w c words coeffs = record { key = split p dk a w; ct = c; words = words; coeffs = coeffs }
+-- ---- what import hands over for the key dk and the first shares a and w, with a ciphertext and a strip
+abbrev pub imported : Parameters → List ℕ → List ℕ → List ℕ → List ℕ → List ℕ → List ℕ → Input
+imported p dk a w c words coeffs = record { key = split p dk a w; ct = c; words = words; coeffs = coeffs }
 
 -- ---- told a rank
 
-abbrev pub DecapsulatedBy : ℕ → Input → List ℕ → List ℕ → ℕ → List ℕ → List ℕ → Type 0
-DecapsulatedBy rank g k0 k1 n k0′ k1′ =
-    ByRank rank n (λ p. Decapsulated p g k0 k1 n k0′ k1′) ((k0′ ≡ k0) × (k1′ ≡ k1))
+module _ (e : Edition) (rank : ℕ) where
+  abbrev pub DecapsulatedBy : Input → List ℕ → List ℕ → ℕ → List ℕ → List ℕ → Type 0
+  DecapsulatedBy g k0 k1 n k0′ k1′ =
+      ByRank rank n (λ p. Decapsulated e p g k0 k1 n k0′ k1′) ((k0′ ≡ k0) × (k1′ ≡ k1))
 
-abbrev pub TracedBy : ℕ → Input → ℕ → ℕ → ℕ → ℕ → Type 0
-TracedBy rank g t v n v′ = ByRank rank n (λ p. Traced p g t v n v′) (v′ ≡ v)
+  abbrev pub TracedBy : Input → ℕ → ℕ → ℕ → ℕ → Type 0
+  TracedBy g t v n v′ = ByRank rank n (λ p. Traced e p g t v n v′) (v′ ≡ v)

@@ -1,6 +1,6 @@
 -- Demand 2 for the call, at any parameter set within the bounds: where decapsulation is carried out, the two shares
--- that it leaves, which are those of the worksheet's last stage, join to FIPS 203's internal decapsulation of the
--- joined key, whatever the strip and for every ciphertext.
+-- that it leaves, which are those of the worksheet's last part, join to the edition's decapsulation of the joined key,
+-- whatever the strip and for every ciphertext.
 use mathlib.Core.Path.{_≡_, sym, ap₂, _∙_}
 use mathlib.Core.List.{List}
 use Prim.Native.Nat.{ℕ}
@@ -8,10 +8,11 @@ use Rattle.words.specs.BoundedLaws.{below-drop}
 use Rattle.words.specs.LittleEndian.{wordsToBytes}
 use Rattle.worksheet.specs.SharedList.{sharedList, joinedList}
 use Rattle.refusals.specs.RefusalLaws.{number-done}
+use Rattle.parameters.specs.declared.Edition.{Edition}
 use Rattle.parameters.specs.declared.Parameters.{Parameters}
 use Rattle.parameters.specs.Fits.{Fits}
 use Rattle.parameters.specs.Lengths.{ekBytes}
-use Rattle.mlkem.specs.MlKem as fips203
+use Rattle.mlkem.specs.Editions as kem
 use Rattle.refusals.specs.ReducedLaws.{reduced-below}
 use Rattle.meaning.specs.JoinedDk.{joinedDk}
 use Rattle.meaning.specs.InOrder.{InOrder}
@@ -19,10 +20,11 @@ use Rattle.meaning.specs.WorksheetValue.{run-worksheet}
 use Rattle.decapsulation.specs.Calls.{Input, Typed, decapsAnswer, decapsShares, Decapsulated}
 use Rattle.decapsulation.specs.AnswerLaws.{Tested, decaps-tested}
 
-module _ {p : Parameters} {g : Input} {k0₀ k1₀ k0 k1 : List ℕ} (d : Decapsulated p g k0₀ k1₀ 0 k0 k1) where
-  pub decapsulated-tested : Tested p g
+module _ {e : Edition} {p : Parameters} {g : Input} {k0₀ k1₀ k0 k1 : List ℕ}
+    (d : Decapsulated e p g k0₀ k1₀ 0 k0 k1) where
+  pub decapsulated-tested : Tested e p g
   decapsulated-tested =
-      decaps-tested p g k0₀ k1₀ (number-done (decapsAnswer p g k0₀ k1₀) (sym (d .answer)))
+      decaps-tested e p g k0₀ k1₀ (number-done (decapsAnswer e p g k0₀ k1₀) (sym (d .answer)))
 
   key-inOrder : Typed g → InOrder p (g .key)
   key-inOrder types =
@@ -34,10 +36,10 @@ module _ {p : Parameters} {g : Input} {k0₀ k1₀ k0 k1 : List ℕ} (d : Decaps
       }
 
   pub decaps-joins : Fits p → Typed g
-      → wordsToBytes 8 (joinedList (sharedList k0 k1)) ≡ fips203.decaps p (joinedDk p (g .key)) (g .ct)
+      → wordsToBytes 8 (joinedList (sharedList k0 k1)) ≡ kem.decaps e p (joinedDk p (g .key)) (g .ct)
   unfolding decapsShares
   decaps-joins fits types =
       let t = decapsulated-tested in
       ap₂ (λ (x y : List ℕ). wordsToBytes 8 (joinedList (sharedList x y))) (d .share0) (d .share1)
-      ∙ run-worksheet p fits (g .key) (key-inOrder types) (g .ct) (t .long .ct) (types .ct) (types .words)
+      ∙ run-worksheet e p fits (g .key) (key-inOrder types) (g .ct) (t .long .ct) (types .ct) (types .words)
       (reduced-below (g .coeffs) (t .masks))

@@ -6,10 +6,11 @@ use Prim.Native.Nat.{ℕ, _^_}
 use Rattle.words.specs.Bounded.{Below}
 use Rattle.words.specs.LittleEndian.{wordsToBytes}
 use Rattle.worksheet.specs.SharedList.{sharedList, joinedList}
+use Rattle.parameters.specs.declared.Edition.{Edition}
 use Rattle.parameters.specs.Ranks.{ofRank}
 use Rattle.parameters.specs.FitsLaws.{fits-ofRank}
 use Rattle.parameters.specs.ByRankLaws.{byRank-done}
-use Rattle.mlkem.specs.MlKem as fips203
+use Rattle.mlkem.specs.Editions as kem
 use Rattle.split_key.specs.Import.{ImportedBy}
 use Rattle.split_key.specs.SplitKey.{SplitKey}
 use Rattle.meaning.specs.JoinedDk.{joinedDk}
@@ -24,15 +25,16 @@ pub imported-joins-by : {rank : ℕ} {dk maskCoeffs maskWords : List ℕ} {key�
     → joinedDk (ofRank rank) key ≡ reducedDk (ofRank rank) dk
 imported-joins-by i = imported-joins (byRank-done i)
 
-module _ {rank : ℕ} {g : Input} {k0₀ k1₀ k0 k1 : List ℕ} (d : DecapsulatedBy rank g k0₀ k1₀ 0 k0 k1) where
+module _ {e : Edition} {rank : ℕ} {g : Input} {k0₀ k1₀ k0 k1 : List ℕ}
+    (d : DecapsulatedBy e rank g k0₀ k1₀ 0 k0 k1) where
   pub decaps-joins-by : Typed g
       → wordsToBytes 8 (joinedList (sharedList k0 k1))
-      ≡ fips203.decaps (ofRank rank) (joinedDk (ofRank rank) (g .key)) (g .ct)
+      ≡ kem.decaps e (ofRank rank) (joinedDk (ofRank rank) (g .key)) (g .ct)
   decaps-joins-by types = decaps-joins (byRank-done d) (fits-ofRank rank) types
 
   -- import of dk, told the same rank, has left the split key in g
   pub imported-decaps-by : {dk maskCoeffs maskWords : List ℕ} {key₀ : SplitKey}
       → ImportedBy rank dk maskCoeffs maskWords key₀ 0 (g .key)
       → Below 256 dk → Below (2 ^ 64) maskWords → Below 256 (g .ct) → Below (2 ^ 64) (g .words)
-      → wordsToBytes 8 (joinedList (sharedList k0 k1)) ≡ fips203.decaps (ofRank rank) dk (g .ct)
+      → wordsToBytes 8 (joinedList (sharedList k0 k1)) ≡ kem.decaps e (ofRank rank) dk (g .ct)
   imported-decaps-by i = imported-decaps (fits-ofRank rank) (byRank-done i) (byRank-done d)

@@ -5,12 +5,13 @@ use Prim.Native.Nat.{ℕ}
 use lib.ListN.{length}
 use Rattle.refusals.specs.Refusals.{number, after}
 use Rattle.tracing.specs.Told as told
+use Rattle.parameters.specs.declared.Edition.{Edition}
 use Rattle.parameters.specs.declared.Parameters.{Parameters}
 use Rattle.decapsulation.specs.Calls.{Input, sheet, decapsRows, decapsShares}
 
-module _ (p : Parameters) where
+module _ (e : Edition) (p : Parameters) where
   pub record Told (left : ℕ) (g : Input) (k0 k1 : List ℕ) (v n : ℕ) (k0′ k1′ : List ℕ) (v′ : ℕ) : Type 0 where
-    pub answer : n ≡ number (told.toldAnswer (decapsRows p g k0 k1) (length (sheet p g .entries)) left)
-    pub share0 : k0′ ≡ after n (decapsShares p g .s0) k0
-    pub share1 : k1′ ≡ after n (decapsShares p g .s1) k1
-    pub value : v′ ≡ after n (told.toldValue left (sheet p g .entries)) v
+    pub answer : n ≡ number (told.toldAnswer (decapsRows e p g k0 k1) (length (sheet e p g .entries)) left)
+    pub share0 : k0′ ≡ after n (decapsShares e p g .s0) k0
+    pub share1 : k1′ ≡ after n (decapsShares e p g .s1) k1
+    pub value : v′ ≡ after n (told.toldValue left (sheet e p g .entries)) v

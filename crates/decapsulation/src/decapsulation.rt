@@ -1,4 +1,4 @@
-// Masked decapsulation and its trace: one function runs the worksheet, told a step number or none.
+// Masked decapsulation and its trace, of either edition: one function runs the worksheet, told a step number or none.
 ghost use mathlib.Core.Bool.{_&&_};
 ghost use mathlib.Core.Path.{_≡_};
 ghost use Prim.Native.Nat.{_*_};
@@ -12,6 +12,7 @@ ghost use Rattle.decapsulation.specs.Told.{Told};
 ghost use Rattle.decapsulation.specs.Sized.{CallSized};
 use crate::worksheet_run::run;
 use kpke::matrix::expand;
+use parameters::Edition;
 use parameters::Parameters;
 use parameters::ct_bytes;
 use parameters::ek_bytes;
@@ -36,9 +37,10 @@ fn both_reduced(f: &[u16], g: &[u16]) -> bool
     first & second
 }
 
-// Rows 5 to 8, then the ten stages; a becomes the matrix A-hat.
+// Rows 5 to 8, then the worksheet; a becomes the matrix A-hat.
 fn decapsulate_in(
     left: u64,
+    e: Edition,
     p: Parameters,
     s0: &[u16],
     s1: &[u16],
@@ -55,40 +57,56 @@ fn decapsulate_in(
 ) -> Answer
     requires { ⌜
         Fits p
-        × CallSized p
+        × CallSized e p
         (input (now s0) (now s1) (now z0) (now z1) (now public) (now ct) (now words) (now coeffs))
         (sharedList (now k0) (now k1))
         × (length (now a) ≡ 256 * p .k * p .k) ⌝ }
     ensures { λ r. ⌜
-        Told p left
+        Told e p left
         (input (now (s0 .entry)) (now (s1 .entry)) (now (z0 .entry)) (now (z1 .entry)) (now (public .entry))
         (now (ct .entry)) (now (words .entry)) (now (coeffs .entry)))
         (now (k0 .entry)) (now (k1 .entry)) (now (value .entry)) (number r)
         (now (k0 .exit)) (now (k1 .exit)) (now (value .exit)) ⌝ }
 {
     let rho = vector_bytes(p);
-    let e = rho + 32;
+    let end = rho + 32;
     if !reduced(coeffs) {
         return Answer::MaskRange;
     }
     if !both_reduced(s0, s1) {
         return Answer::ShareRange;
     }
-    if !expand(&public[rho..e], p.k, a) {
+    if !expand(&public[rho..end], p.k, a) {
         return Answer::ShortStream;
     }
-    if left > steps(p) as u64 {
+    if left > steps(e, p) as u64 {
         return Answer::NoSuchStep;
     }
     let rec = Recorder { left, value: 0 };
-    let last = run(rec, p, a, s0, s1, z0, z1, public, ct, words, coeffs, k0, k1);
+    let last = run(
+        rec,
+        e,
+        p,
+        a,
+        s0,
+        s1,
+        z0,
+        z1,
+        public,
+        ct,
+        words,
+        coeffs,
+        k0,
+        k1,
+    );
     *value = last.value;
     Answer::Done
 }
 
-// Refusals first, then the ten stages; `left` is 0 for no step and t + 1 for step t.
+// Refusals first, then the worksheet; `left` is 0 for no step and t + 1 for step t.
 fn decapsulate(
     left: u64,
+    e: Edition,
     p: Parameters,
     s0: &[u16],
     s1: &[u16],
@@ -104,7 +122,7 @@ fn decapsulate(
 ) -> Answer
     requires { ⌜ Fits p ⌝ }
     ensures { λ r. ⌜
-        Told p left
+        Told e p left
         (input (now (s0 .entry)) (now (s1 .entry)) (now (z0 .entry)) (now (z1 .entry)) (now (public .entry))
         (now (ct .entry)) (now (words .entry)) (now (coeffs .entry)))
         (now (k0 .entry)) (now (k1 .entry)) (now (value .entry)) (number r)
@@ -113,7 +131,7 @@ fn decapsulate(
     let n = 256 * p.k;
     let m = n * p.k;
     let h = ek_bytes(p) + 32;
-    let w = strip_words(p);
+    let w = strip_words(e, p);
     let has = [
         s0.len(),
         s1.len(),
@@ -133,6 +151,7 @@ fn decapsulate(
     let mut a = [0u16; 4096];
     decapsulate_in(
         left,
+        e,
         p,
         s0,
         s1,
@@ -151,6 +170,7 @@ fn decapsulate(
 
 // Told no step.
 fn decaps_at(
+    e: Edition,
     p: Parameters,
     s0: &[u16],
     s1: &[u16],
@@ -165,7 +185,7 @@ fn decaps_at(
 ) -> Answer
     requires { ⌜ Fits p ⌝ }
     ensures { λ r. ⌜
-        Decapsulated p
+        Decapsulated e p
         (input (now (s0 .entry)) (now (s1 .entry)) (now (z0 .entry)) (now (z1 .entry)) (now (public .entry))
         (now (ct .entry)) (now (words .entry)) (now (coeffs .entry)))
         (now (k0 .entry)) (now (k1 .entry)) (number r) (now (k0 .exit)) (now (k1 .exit)) ⌝ }
@@ -173,6 +193,7 @@ fn decaps_at(
     let mut value: u64 = 0;
     decapsulate(
         0,
+        e,
         p,
         s0,
         s1,
@@ -190,6 +211,7 @@ fn decaps_at(
 
 // Masked decapsulation for the parameter set of a rank.
 pub fn decaps(
+    e: Edition,
     rank: u32,
     s0: &[u16],
     s1: &[u16],
@@ -203,7 +225,7 @@ pub fn decaps(
     k1: &mut [u64],
 ) -> Answer
     ensures { λ r. ⌜
-        DecapsulatedBy rank
+        DecapsulatedBy e rank
         (input (now (s0 .entry)) (now (s1 .entry)) (now (z0 .entry)) (now (z1 .entry)) (now (public .entry))
         (now (ct .entry)) (now (words .entry)) (now (coeffs .entry)))
         (now (k0 .entry)) (now (k1 .entry)) (number r) (now (k0 .exit)) (now (k1 .exit)) ⌝ }
@@ -212,6 +234,7 @@ pub fn decaps(
         return Answer::NoSuchRank;
     }
     decaps_at(
+        e,
         of_rank(rank),
         s0,
         s1,
@@ -228,6 +251,7 @@ pub fn decaps(
 
 // Told a step.
 fn trace_at(
+    e: Edition,
     p: Parameters,
     s0: &[u16],
     s1: &[u16],
@@ -242,16 +266,17 @@ fn trace_at(
 ) -> Answer
     requires { ⌜ Fits p ⌝ }
     ensures { λ r. ⌜
-        Traced p
+        Traced e p
         (input (now (s0 .entry)) (now (s1 .entry)) (now (z0 .entry)) (now (z1 .entry)) (now (public .entry))
         (now (ct .entry)) (now (words .entry)) (now (coeffs .entry)))
         step (now (value .entry)) (number r) (now (value .exit)) ⌝ }
 {
     let mut k0 = [0u64; 4];
     let mut k1 = [0u64; 4];
-    let left = left_of(step, steps(p) as u64);
+    let left = left_of(step, steps(e, p) as u64);
     decapsulate(
         left,
+        e,
         p,
         s0,
         s1,
@@ -269,6 +294,7 @@ fn trace_at(
 
 // The trace of a step for the parameter set of a rank.
 pub fn trace(
+    e: Edition,
     rank: u32,
     s0: &[u16],
     s1: &[u16],
@@ -282,7 +308,7 @@ pub fn trace(
     value: &mut u64,
 ) -> Answer
     ensures { λ r. ⌜
-        TracedBy rank
+        TracedBy e rank
         (input (now (s0 .entry)) (now (s1 .entry)) (now (z0 .entry)) (now (z1 .entry)) (now (public .entry))
         (now (ct .entry)) (now (words .entry)) (now (coeffs .entry)))
         step (now (value .entry)) (number r) (now (value .exit)) ⌝ }
@@ -291,6 +317,7 @@ pub fn trace(
         return Answer::NoSuchRank;
     }
     trace_at(
+        e,
         of_rank(rank),
         s0,
         s1,

@@ -1,4 +1,4 @@
-// The worksheet: the ten stages in order, each handed the strips from its first mask on.
+// The worksheet: stages 1 to 8 in order, each handed the strips from its first mask on, then the edition's ending.
 ghost use lib.ListN.{drop};
 ghost use Rattle.worksheet.specs.Ran.{Ran};
 ghost use Rattle.worksheet.specs.SharedList.{SharedList, sharedList};
@@ -9,17 +9,16 @@ ghost use Rattle.stages.specs.Counts.{encryptCoeffs, comparedWords, stripWords,
 ghost use Rattle.decapsulation.specs.Calls.{input};
 ghost use Rattle.masked_mlkem.specs.Lent.{GivesBit};
 ghost use Rattle.decapsulation.specs.Sized.{Runnable, CompareInput};
-use masked_comparison::selection::select_all;
+use crate::endings::ending;
 use masked_decryption::masked_decrypt;
 use masked_encryption::masked_encrypt;
 use masked_mlkem::comparison::stage8;
 use masked_mlkem::hashing::stage3;
-use masked_mlkem::hashing::stage9;
+use parameters::Edition;
 use parameters::Parameters;
 use parameters::ek_bytes;
 use stages::mask_counts::compared_words;
 use stages::mask_counts::encrypt_words;
-use stages::mask_counts::stage9_words;
 use stages::mask_counts::word_count;
 use worksheet::EnteredShares;
 use worksheet::Recorder;
@@ -129,6 +128,7 @@ fn compared(
 // For the matrix a; k0 and k1 take the shares of K.
 pub fn run(
     rec: Recorder,
+    e: Edition,
     p: Parameters,
     a: &[u16],
     s0: &[u16],
@@ -143,34 +143,19 @@ pub fn run(
     k1: &mut [u64],
 ) -> Recorder
     requires { ⌜
-        Runnable p (input (now s0) (now s1) (now z0) (now z1) (now public) (now c) (now ws) (now cs)) (now a)
+        Runnable e p (input (now s0) (now s1) (now z0) (now z1) (now public) (now c) (now ws) (now cs)) (now a)
         (sharedList (now k0) (now k1)) ⌝ }
     ensures { λ r. ⌜
         Ran
-        (worksheetOf p
+        (worksheetOf e p
         (splitKey (now (s0 .entry)) (now (s1 .entry)) (now (z0 .entry)) (now (z1 .entry)) (now (public .entry)))
         (now (c .entry)))
         rec (now (ws .entry)) (now (cs .entry)) (sharedList (now (k0 .exit)) (now (k1 .exit)))
-        r (drop (stripWords p) (now (ws .entry))) (drop (stripCoeffs p) (now (cs .entry))) ⌝ }
+        r (drop (stripWords e p) (now (ws .entry))) (drop (stripCoeffs p) (now (cs .entry))) ⌝ }
 {
     let mut g0 = [0u64; 8];
     let mut g1 = [0u64; 8];
-    let mut rejected0 = [0u64; 4];
-    let mut rejected1 = [0u64; 4];
-    let w9 = compared_words(p);
-    let w10 = w9 + stage9_words(p);
+    let w = compared_words(p);
     let b = compared(rec, p, a, s0, s1, public, c, ws, cs, &mut g0, &mut g1);
-    let rec = stage9(b.rec, z0, z1, c, &ws[w9..], &mut rejected0, &mut rejected1);
-    select_all(
-        rec,
-        4,
-        b.value,
-        &g0,
-        &g1,
-        &rejected0,
-        &rejected1,
-        &ws[w10..],
-        k0,
-        k1,
-    )
+    ending(b.rec, e, p, b.value, &g0, &g1, z0, z1, c, &ws[w..], k0, k1)
 }

@@ -1,9 +1,12 @@
--- How long an output is, and which bytes its words have.
+-- How long an output is, that its elements are bytes, and which bytes its words have.
 use mathlib.Core.Path.{_≡_, refl}
 use mathlib.Core.List.{List}
 use Prim.Native.Nat.{ℕ, _*_, _/_, _%_, _<_}
+use native.Mathlib.Nat.{mod-lt}
 use native.Mathlib.Omega.{arith}
 use lib.ListN.{length, getD}
+use Rattle.words.specs.Bounded.{Below}
+use Rattle.words.specs.BoundedLaws.{below-tab}
 use Rattle.words.specs.Tab.{tab}
 use Rattle.words.specs.TabLaws.{length-tab, getD-tab, tab-cong}
 use Rattle.words.specs.Iterate.{iterate}
@@ -25,6 +28,12 @@ length-sha3-512Words m = length-tab 8 _
 pub length-shake256Words : (m : List ℕ) (n : ℕ) → length (shake256Words m n) ≡ n
 unfolding shake256Words
 length-shake256Words m n = length-tab n _
+
+-- ---- bytes
+
+pub below-sha3-256 : (m : List ℕ) → Below 256 (sha3-256 m)
+unfolding sha3-256 sponge squeezed
+below-sha3-256 m = below-tab 32 (omega arith) (λ i h. mod-lt _ (omega arith))
 
 -- ---- byte x of the output is byte x % 8 of word x / 8
 

@@ -15,7 +15,7 @@ use Rattle.words.specs.Bits.{Bits}
 use Rattle.words.specs.WordLaws.{xor-same, xor-zero}
 use Rattle.words.specs.Bounded.{Below}
 use Rattle.words.specs.BoundedLaws.{below-nil, below-take, below-drop}
-use Rattle.words.specs.TabLaws.{length-tab, getD-tab, tab-cong}
+use Rattle.words.specs.TabLaws.{length-tab, getD-tab, tab-of, tab-cong}
 use Rattle.words.specs.Iterate.{iterate}
 use Rattle.keccak.specs.KeccakP.{keccak-p}
 use Rattle.worksheet.specs.declared.Shares.{Shares}
@@ -140,17 +140,19 @@ outputWord lanes l i = getD (iterate (i / lanes) (λ _. keccak-p) l) (i % lanes)
 
 -- z is a sharing of n words of output
 pub record OutputSharing (lanes n : ℕ) (l : List ℕ) (z : SharedList) : Type 0 where
+  pub long0 : length (z .s0) ≡ n
   pub at : (i : ℕ) → i < n → Sharing 64 (outputWord lanes l i) (sharedAt z i)
 
 gives-maskedSqueeze : (lanes n : ℕ) {l : List ℕ} {s : SharedList} → 0 < lanes → lanes ≤ 25 → StateSharing l s
     → Gives (OutputSharing lanes n l) (maskedSqueeze lanes n s)
-unfolding maskedSqueeze iterate
+unfolding maskedSqueeze iterate unzip
 gives-maskedSqueeze lanes n {l} {s} h k r =
     gives-bind
     (gives-chain (λ j. StateSharing (iterate j (λ _. keccak-p) l)) (furtherBlocks lanes n)
     (λ j g t a. gives-maskedKeccakP a) r)
     (λ t c.
     ret-g (record {
+      long0 = length-tab n _;
       at = λ i g. rw (sharedAt-unzip n (λ i. sharedAt (getD t (i / lanes) s) (i % lanes)) i g)
           (let m = mod-lt i h in state-lanes (c .at s (i / lanes) (block-lt lanes n i h g)) .at (i % lanes)
           (omega arith));
@@ -185,14 +187,20 @@ gives-maskedSponge {rate} a n =
 -- two shares of the n words of l
 pub record WordSharing (n : ℕ) (l : List ℕ) (z : SharedList) : Type 0 where
   pub long : length l ≡ n
+  pub long0 : length (z .s0) ≡ n
   pub at : (i : ℕ) → i < n → Sharing 64 (getD l i 0) (sharedAt z i)
+
+pub joinedList-words : {n : ℕ} {l : List ℕ} {z : SharedList} → WordSharing n l z → joinedList z ≡ l
+unfolding joinedList
+joinedList-words {n} {l} s = rw (s .long0) (sym (tab-of 0 l n (s .long) (λ i h. sym (s .at i h .joins))))
 
 gives-spongeWords : {rate suffix : ℕ} {in0 in1 : List ℕ} → SharedMessage rate suffix in0 in1 → (n : ℕ)
     → Gives (WordSharing n (spongeWords rate suffix (joinedList (sharedList in0 in1)) n))
     (maskedSponge rate suffix in0 in1 n)
 gives-spongeWords {rate} {suffix} {in0} {in1} a n =
     let w = outputWord (rate / 8) (absorbed rate (padded rate suffix (joinedList (sharedList in0 in1)))) in
-    gives-weaken (λ z o. record { long = length-tab n w; at = λ i h. rw (getD-tab n w i 0 h) (o .at i h) })
+    gives-weaken (λ z o.
+    record { long = length-tab n w; long0 = o .long0; at = λ i h. rw (getD-tab n w i 0 h) (o .at i h) })
     (gives-maskedSponge a n)
 
 gives-maskedHash : {rate suffix : ℕ} {in0 in1 : List ℕ} → SharedMessage rate suffix in0 in1 → (d : ℕ)

@@ -37,15 +37,15 @@ pub record EqualWork (p : Parameters) (c : List ℕ) (z : SharedList) (ws w : Li
   pub input : EqualInput p c z ws
   pub public : length w ≡ wordCount p
 
--- stage 9: z, the ciphertext, of 1,568 bytes at most, the mask words, and where the rejected words go
-pub record RejectInput (z : SharedList) (c ws : List ℕ) (o : SharedList) : Type 0 where
-  pub hash : HashInput (length c) (shake256MaskWords (32 + length c) 4) 4 z c ws o
-  pub most : length c ≤ 1568
+-- J: four words, a public string of 1,568 bytes at most, the mask words, and where its four words go
+pub record JInput (w : SharedList) (string ws : List ℕ) (o : SharedList) : Type 0 where
+  pub hash : HashInput (length string) (shake256MaskWords (32 + length string) 4) 4 w string ws o
+  pub most : length string ≤ 1568
 
 -- with b, where the shares of the hash's input go
-pub record RejectWork (z : SharedList) (c ws : List ℕ) (b o : SharedList) : Type 0 where
-  pub input : RejectInput z c ws o
-  pub bytes : Long (32 + length c) b
+pub record JWork (w : SharedList) (string ws : List ℕ) (b o : SharedList) : Type 0 where
+  pub input : JInput w string ws o
+  pub bytes : Long (32 + length string) b
 
 -- ---- what is left by a stage that gives a bit b: it ran as R says, and both shares are bits
 pub record GivesBit (R : Type 0) (b : Shares) : Type 0 where

@@ -1,14 +1,14 @@
-// Stages 3 and 9: hashes of four words in two shares and a public string.
+// Stages 3 and 9, and Kyber's last hash: hashes of four words in two shares and a public string.
 ghost use Prim.Native.Nat.{_+_};
 ghost use lib.ListN.{length};
 ghost use Rattle.worksheet.specs.Prog.{word};
 ghost use Rattle.worksheet.specs.Ran.{Draws};
 ghost use Rattle.worksheet.specs.SharedList.{sharedList};
 ghost use Rattle.masked_fips202.specs.MaskedWords.{shake256MaskWords};
-ghost use Rattle.stages.specs.Worksheet.{stage3 as stage3Of, stage9 as stage9Of};
+ghost use Rattle.stages.specs.Worksheet.{stage3 as stage3Of, maskedJ};
 ghost use Rattle.stages.specs.Counts.{stage3Words};
 ghost use Rattle.stages.specs.Lent.{HashInput};
-ghost use Rattle.masked_mlkem.specs.Lent.{RejectInput, RejectWork};
+ghost use Rattle.masked_mlkem.specs.Lent.{JInput, JWork};
 use masked_fips202::masked_words::masked_sha3_512_words;
 use masked_fips202::masked_words::masked_shake256_words;
 use masked_fips202::shared_input::with_public;
@@ -38,60 +38,61 @@ pub fn stage3(
     masked_sha3_512_words(rec, &b0, &b1, ws, g0, g1)
 }
 
-// Stage 9, where b0 and b1 take the hash's input.
-fn rejected_words(
+// FIPS 203's J, where b0 and b1 take its input.
+fn masked_j_in(
     rec: Recorder,
-    z0: &[u64],
-    z1: &[u64],
-    c: &[u8],
+    w0: &[u64],
+    w1: &[u64],
+    string: &[u8],
     ws: &[u64],
     b0: &mut [u8],
     b1: &mut [u8],
-    rejected0: &mut [u64],
-    rejected1: &mut [u64],
+    out0: &mut [u64],
+    out1: &mut [u64],
 ) -> Recorder
     requires { ⌜
-        RejectWork (sharedList (now z0) (now z1)) (now c) (now ws) (sharedList (now b0) (now b1))
-        (sharedList (now rejected0) (now rejected1)) ⌝ }
+        JWork (sharedList (now w0) (now w1)) (now string) (now ws) (sharedList (now b0) (now b1))
+        (sharedList (now out0) (now out1)) ⌝ }
     ensures { λ r. ⌜
-        Draws word (shake256MaskWords (32 + length (now (c .entry))) 4)
-        (stage9Of (sharedList (now (z0 .entry)) (now (z1 .entry))) (now (c .entry)))
-        rec (now (ws .entry)) (sharedList (now (rejected0 .exit)) (now (rejected1 .exit))) r ⌝ }
+        Draws word (shake256MaskWords (32 + length (now (string .entry))) 4)
+        (maskedJ (sharedList (now (w0 .entry)) (now (w1 .entry))) (now (string .entry)))
+        rec (now (ws .entry)) (sharedList (now (out0 .exit)) (now (out1 .exit))) r ⌝ }
 {
-    with_public(z0, c, b0);
-    with_zeros(z1, c.len(), b1);
-    masked_shake256_words(rec, b0, b1, ws, rejected0, rejected1)
+    with_public(w0, string, b0);
+    with_zeros(w1, string.len(), b1);
+    masked_shake256_words(rec, b0, b1, ws, out0, out1)
 }
 
-// The rejected words, from z and the ciphertext.
-pub fn stage9(
+// FIPS 203's J: the rejected words, from z and the ciphertext; Kyber's last hash, from the selected words and the
+// ciphertext's hash.
+pub fn masked_j(
     rec: Recorder,
-    z0: &[u64],
-    z1: &[u64],
-    c: &[u8],
+    w0: &[u64],
+    w1: &[u64],
+    string: &[u8],
     ws: &[u64],
-    rejected0: &mut [u64],
-    rejected1: &mut [u64],
+    out0: &mut [u64],
+    out1: &mut [u64],
 ) -> Recorder
     requires { ⌜
-        RejectInput (sharedList (now z0) (now z1)) (now c) (now ws) (sharedList (now rejected0) (now rejected1)) ⌝ }
+        JInput (sharedList (now w0) (now w1)) (now string) (now ws) (sharedList (now out0) (now out1)) ⌝ }
     ensures { λ r. ⌜
-        Draws word (shake256MaskWords (32 + length (now (c .entry))) 4)
-        (stage9Of (sharedList (now (z0 .entry)) (now (z1 .entry))) (now (c .entry)))
-        rec (now (ws .entry)) (sharedList (now (rejected0 .exit)) (now (rejected1 .exit))) r ⌝ }
+        Draws word (shake256MaskWords (32 + length (now (string .entry))) 4)
+        (maskedJ (sharedList (now (w0 .entry)) (now (w1 .entry))) (now (string .entry)))
+        rec (now (ws .entry)) (sharedList (now (out0 .exit)) (now (out1 .exit))) r ⌝ }
 {
     let mut b0 = [0u8; 1600]; // for the longest ciphertext
     let mut b1 = [0u8; 1600];
-    let n = 32 + c.len();
-    rejected_words(
+    let n = 32 + string.len();
+    masked_j_in(
         rec,
-        z0,
-        z1,
-        c,
+        w0,
+        w1,
+        string,
         ws,
         &mut b0[0..n],
         &mut b1[0..n],
-        rejected0,
-        rejected1,
+        out0,
+        out1,
     )
 }

@@ -1,4 +1,5 @@
--- Stages 3 and 9: the hash of shared words and a public string behind them joins to FIPS 202's of the joined string.
+-- Stages 3 and 9, and Kyber's last hash: the hash of shared words and a public string behind them joins to FIPS 202's
+-- of the joined string.
 use mathlib.Core.Path.{_≡_, sym, ap, ap₂, _∙_}
 use mathlib.Core.List.{List, _++_}
 use Prim.Native.Nat.{ℕ, _+_, _*_, _<_}
@@ -11,14 +12,14 @@ use Rattle.words.specs.LittleEndian.{wordsToBytes}
 use Rattle.words.specs.LittleEndianLaws.{length-wordsToBytes, drop-wordsToBytes}
 use Rattle.words.specs.TabLaws.{length-tab, getD-tab, tab-of}
 use Rattle.worksheet.specs.Gives.{Gives}
-use Rattle.worksheet.specs.SharedList.{SharedList, sharedList, sharedAt, joinedList}
+use Rattle.worksheet.specs.SharedList.{SharedList, sharedList, sharedAt, unzip, joinedList}
 use Rattle.worksheet.specs.SharedListLaws.{sharedAt-unzip}
 use Rattle.fips202.specs.Sponge.{sha3-512, shake256}
 use Rattle.masked_fips202.specs.MaskedWords.{maskedShake256Words}
 use Rattle.hash_functions.specs.Functions.{J}
 use Rattle.stages.specs.Moves.{four, withPublic, coinsOf}
 use Rattle.stages.specs.MovesLaws.{below-withPublic0, below-withPublic1}
-use Rattle.stages.specs.Worksheet.{stage3, stage9}
+use Rattle.stages.specs.Worksheet.{stage3, maskedJ}
 use Rattle.meaning.specs.HashWords.{gives-maskedSha3-512Words, gives-maskedShake256Words}
 use Rattle.meaning.specs.JoinedLists.{joined-append, joined-bytes, joined-zeros}
 use Rattle.masked_fips202.specs.MaskedSpongeValue.{WordSharing}
@@ -70,18 +71,21 @@ module _ {b : List ℕ} {s : SharedList} (public : List ℕ) (bytes : Below 256 
       rw joined-withPublic at
       (gives-maskedSha3-512Words same-length (below-withPublic0 s public bytes) (below-withPublic1 s public))
 
-  pub gives-stage9 : Gives (BytesSharing 4 (J (b ++ public))) (stage9 s public)
-  unfolding stage9
-  gives-stage9 = gives-shake 4
+  -- stage 9, and Kyber's last hash
+  pub gives-maskedJ : Gives (BytesSharing 4 (J (b ++ public))) (maskedJ s public)
+  unfolding maskedJ
+  gives-maskedJ = gives-shake 4
 
 -- the coins are the last half of stage 3's words
 pub coins-sharing : {b : List ℕ} {g : SharedList} → BytesSharing 8 b g → BytesSharing 4 (drop 32 b) (coinsOf g)
+unfolding unzip
 coins-sharing {g = g} a =
     let w = a .sharing in
     record {
       words = drop 4 (a .words);
       sharing = record {
         long = length-drop 4 (a .words) ∙ omega (arith, w .long);
+        long0 = length-tab 4 _;
         at = λ i h.
             rw (getD-drop 4 (a .words) i 0, sharedAt-unzip 4 (λ i. sharedAt g (4 + i)) i h)
             (w .at (4 + i) (omega arith));

@@ -15,6 +15,7 @@ pub mod CiphertextPlanes
 pub mod EncryptionValue
 pub mod ComparisonValue
 pub mod ComparedValue
+pub mod EndingValue
 pub mod WorksheetValue
 pub mod ReducedDk
 pub mod ReducedDkLaws

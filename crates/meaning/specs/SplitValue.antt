@@ -23,13 +23,15 @@ use Rattle.worksheet.specs.Prog.{word, coeff, bound}
 use Rattle.worksheet.specs.Run.{run}
 use Rattle.worksheet.specs.SharedList.{sharedList, joinedList}
 use Rattle.masked_fips202.specs.XorBytes.{laneOf-bits}
+use Rattle.parameters.specs.declared.Edition.{Edition}
 use Rattle.parameters.specs.declared.Parameters.{Parameters}
 use Rattle.parameters.specs.Lengths.{vectorBytes, ekBytes, ctBytes}
 use Rattle.kpke.specs.KPke.{secondDecoded, noisyMessage, decrypt}
 use Rattle.vectors.specs.Vector.{parts, concat, coefficients}
 use Rattle.vectors.specs.VectorLaws
 use Rattle.vectors.specs.VectorLaws.{length-concat, concat-cong, parts-concat, dot-cong, reduced-coefficients}
-use Rattle.mlkem.specs.MlKem.{secretPart, publicPart, hashPart, zPart, decaps}
+use Rattle.mlkem.specs.MlKem.{secretPart, publicPart, hashPart, zPart}
+use Rattle.mlkem.specs.Editions.{decaps}
 use Rattle.split_key.specs.SplitKey.{ekOf, hOf, secondCoeffs, secondWords, publicOf, split}
 use Rattle.split_key.specs.Importable.{Importable}
 use Rattle.split_key.specs.SplitLengths.{length-publicPart, length-zPart, split-sized}
@@ -40,7 +42,7 @@ use Rattle.meaning.specs.JoinedDk.{joinedDk}
 use Rattle.meaning.specs.ReducedDk.{secretAt, reducedDk}
 use Rattle.meaning.specs.JoinedDkLaws.{publicPart-joined, hashPart-joined, zPart-joined, decrypt-joined}
 use Rattle.meaning.specs.InOrder.{InOrder}
-use Rattle.meaning.specs.WorksheetValue.{run-worksheet}
+use Rattle.meaning.specs.WorksheetValue.{decaps-by, run-worksheet}
 
 module _ {p : Parameters} {dk a w : List ℕ} (o : Importable p dk a w) where
   below-zPart : Below 256 (zPart p dk)
@@ -132,10 +134,11 @@ module _ {p : Parameters} {dk a w : List ℕ} (o : Importable p dk a w) where
       ∙ ap (λ (l : List ℕ). byteEncode 1 (map (compress 1) (sub (secondDecoded p c) (inverseNtt l))))
       (dot-cong (p .k) joined-at (λ i h. refl))
 
-  decaps-split : (c : List ℕ) → decaps p (joinedDk p (split p dk a w)) c ≡ decaps p dk c
-  unfolding decaps
-  decaps-split c =
+  decaps-split : (e : Edition) (c : List ℕ) → decaps e p (joinedDk p (split p dk a w)) c ≡ decaps e p dk c
+  decaps-split e c =
       rw (
+        decaps-by e p (joinedDk p (split p dk a w)) c,
+        decaps-by e p dk c,
         decrypt-split c,
         publicPart-joined split-inOrder ∙ ekOf-split,
         hashPart-joined split-inOrder ∙ hOf-split,
@@ -143,7 +146,7 @@ module _ {p : Parameters} {dk a w : List ℕ} (o : Importable p dk a w) where
       )
 
   -- on every strip of masks in range
-  pub run-split : Fits p → (c : List ℕ) → length c ≡ ctBytes p → Below 256 c
+  pub run-split : (e : Edition) → Fits p → (c : List ℕ) → length c ≡ ctBytes p → Below 256 c
       → {ws cs : List ℕ} → Below (bound word) ws → Below (bound coeff) cs
-      → wordsToBytes 8 (joinedList (run (worksheet p (split p dk a w) c) ws cs .value)) ≡ decaps p dk c
-  run-split fits c n b h k = run-worksheet p fits (split p dk a w) split-inOrder c n b h k ∙ decaps-split c
+      → wordsToBytes 8 (joinedList (run (worksheet e p (split p dk a w) c) ws cs .value)) ≡ decaps e p dk c
+  run-split e fits c n b h k = run-worksheet e p fits (split p dk a w) split-inOrder c n b h k ∙ decaps-split e c

@@ -114,8 +114,10 @@ sharingList-flatten k f {w} r =
 -- n of them as two lists
 pub wordSharing-unzip : (n : ℕ) {l : List ℕ} {w : List Shares} (d : Shares) → length l ≡ n → SharingList l w
     → WordSharing n l (unzip n (λ i. getD w i d))
+unfolding unzip
 wordSharing-unzip n {w = w} d e a =
     record {
       long = e;
+      long0 = length-tab n _;
       at = λ i h. rw (sharedAt-unzip n (λ i. getD w i d) i h) (a .each .at d i (omega arith));
     }

@@ -15,6 +15,7 @@ use cli_support::split_file::read_split;
 use cli_support::strip_file;
 use cli_support::strip_file::read_strip;
 use libc::STDOUT_FILENO;
+use parameters::Edition;
 
 // What is asked for: the shares of K, or the value of a step.
 enum Asked {
@@ -36,6 +37,7 @@ fn write_shares(
     let mut k0 = [0u64; 4];
     let mut k1 = [0u64; 4];
     let answer = decapsulation::decaps(
+        Edition::MlKem,
         rank,
         s0,
         s1,
@@ -70,6 +72,7 @@ fn print_step(
 ) {
     let mut value: u64 = 0;
     let answer = decapsulation::trace(
+        Edition::MlKem,
         rank,
         s0,
         s1,

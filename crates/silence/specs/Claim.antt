@@ -1,5 +1,5 @@
--- Demand 3 for a parameter set, in document 01's words ("Demand 3 is one claim about this worksheet from its first step
--- to its last").
+-- Demand 3 for an edition and a parameter set, in document 01's words ("Demand 3 is one claim about this worksheet from
+-- its first step to its last").
 use mathlib.Core.Path.{_≡_}
 use mathlib.Core.List.{List}
 use Prim.Native.Nat.{ℕ, _^_}
@@ -10,6 +10,7 @@ use Rattle.words.specs.Residue.{q}
 use Rattle.worksheet.specs.Run.{run}
 use Rattle.worksheet.specs.Sum.{when}
 use Rattle.worksheet.specs.Count.{tally, strips, hit}
+use Rattle.parameters.specs.declared.Edition.{Edition}
 use Rattle.parameters.specs.declared.Parameters.{Parameters}
 use Rattle.parameters.specs.Lengths.{ctBytes}
 use Rattle.mlkem.specs.MlKem.{publicPart}
@@ -38,9 +39,10 @@ module _ (p : Parameters) where
     pub bytes : Below 256 c
     pub long : length c ≡ ctBytes p
 
+module _ (e : Edition) (p : Parameters) where
   -- 1 where the worksheet for this split, ciphertext and strip has v as entry t, else 0
   abbrev pub gives : List ℕ → List ℕ → ℕ → ℕ → List ℕ → List ℕ → List ℕ → List ℕ → ℕ
-  gives dk c t v a w ws cs = hit t v (run (worksheet p (split p dk a w) c) ws cs .entries)
+  gives dk c t v a w ws cs = hit t v (run (worksheet e p (split p dk a w) c) ws cs .entries)
 
   -- How many choices give v at step t under the key dk and the ciphertext c; where a matrix stream runs dry there is
   -- none.
@@ -50,7 +52,7 @@ module _ (p : Parameters) where
 
   -- 1 where the trace of step t is carried out and hands back v, else 0
   abbrev pub handsBack : Input → ℕ → ℕ → ℕ
-  handsBack g t v = when (eqb (number (traceAnswer p g t)) 0) (when (eqb (traceValue p g t) v) 1)
+  handsBack g t v = when (eqb (number (traceAnswer e p g t)) 0) (when (eqb (traceValue e p g t) v) 1)
 
   -- how many choices make the trace of step t hand back v, under the key dk split by import and the ciphertext c
   unfoldable pub traceChoices : ℕ → ℕ → ℕ → List ℕ → List ℕ → ℕ → ℕ → ℕ
@@ -60,7 +62,7 @@ module _ (p : Parameters) where
   -- Demand 3: the worksheet has n steps, and under two keys with one public part, for any ciphertext, `count` is the
   -- same at each step and for each value.
   pub record Silent (n : ℕ) (count : List ℕ → List ℕ → ℕ → ℕ → ℕ) : Type 0 where
-    pub steps : {dk c : List ℕ} → Key dk → Ciphertext c → (a w ws cs : List ℕ)
-        → length (run (worksheet p (split p dk a w) c) ws cs .entries) ≡ n
-    pub equal : {dk dk′ c : List ℕ} → Key dk → Key dk′ → Ciphertext c → publicPart p dk ≡ publicPart p dk′
+    pub steps : {dk c : List ℕ} → Key p dk → Ciphertext p c → (a w ws cs : List ℕ)
+        → length (run (worksheet e p (split p dk a w) c) ws cs .entries) ≡ n
+    pub equal : {dk dk′ c : List ℕ} → Key p dk → Key p dk′ → Ciphertext p c → publicPart p dk ≡ publicPart p dk′
         → (t v : ℕ) → count dk c t v ≡ count dk′ c t v

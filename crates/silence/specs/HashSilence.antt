@@ -12,6 +12,7 @@ use Rattle.masked_fips202.specs.MaskedWords.{maskedSha3-512Words, maskedShake25
 use Rattle.masked_fips202.specs.EntryCounts.{sha3-512Entries, shake256Entries}
 use Rattle.masked_sampler.specs.PolynomialSilence.{Anything}
 use Rattle.stages.specs.Moves.{withPublic}
+use Rattle.stages.specs.Worksheet.{maskedJ}
 use Rattle.stages.specs.MovesLaws.{length-withPublic, below-withPublic0, below-withPublic1}
 
 module _ (len : ℕ) (public : List ℕ) (long : length public ≡ len) (bytes : Below 256 public) where
@@ -35,3 +36,8 @@ module _ (len : ℕ) (public : List ℕ) (long : length public ≡ len) (bytes :
       (λ w. maskedShake256Words (withPublic w public .s0) (withPublic w public .s1) n)
       (λ w. maskedShake256Words (withPublic w public .s0) (withPublic w public .s1) n)
   shake256-stage n = comap Anything inputs inputs (λ e. e) (λ e a b r. tt) (maskedShake256Words-stage (32 + len) n)
+
+  pub maskedJ-stage : Stage Anything (KeptShared 4) (shake256Entries (32 + len) 4) (λ w. maskedJ w public)
+      (λ w. maskedJ w public)
+  unfolding maskedJ
+  maskedJ-stage = shake256-stage 4

@@ -1,31 +1,39 @@
 -- The split that import makes, under two keys: the first shares can be matched so that either share of the secret is
--- equal.
-use Prim.Native.Nat.{ℕ, _*_, _%_, _<_}
+-- equal, and so that either share of each word of z is.
+use Prim.Native.Nat.{ℕ, _+_, _*_, _%_, _<_}
 use mathlib.Core.Path.{_≡_, refl, sym, _∙_}
 use mathlib.Core.Bool.{Bool, true, false}
 use mathlib.Core.List.{List}
 use native.Mathlib.Nat.{mod-lt, mul-zero}
 use native.Mathlib.Omega.{arith}
 use lib.ListN.{getD}
+use Rattle.words.specs.Word.{xor}
+use Rattle.words.specs.Bits.{Bits}
+use Rattle.words.specs.WordLaws.{xor-comm, xor-xor-cancel, xor-bits}
+use Rattle.words.specs.Bounded.{Below}
+use Rattle.words.specs.BoundedLaws.{below-take, below-drop}
 use Rattle.words.specs.Residue.{q}
-use Rattle.words.specs.TabLaws.{tab-of, tab-cong}
+use Rattle.words.specs.TabLaws.{getD-tab, tab-of, tab-cong}
 use Rattle.worksheet.specs.declared.Shares.{Shares}
-use Rattle.worksheet.specs.Prog.{coeff, mask, times}
+use Rattle.worksheet.specs.Prog.{word, coeff, mask, times}
 use Rattle.worksheet.specs.Couple.{Coupled, ret-c, draw-c, coupled-weaken, coupled-recount}
 use Rattle.worksheet.specs.CoupleLoops.{coupled-times}
-use Rattle.worksheet.specs.Matching.{byAdding}
+use Rattle.worksheet.specs.Matching.{byXor, byAdding}
 use Rattle.worksheet.specs.Turns.{Turns}
 use Rattle.worksheet.specs.Sharing.{shares}
-use Rattle.worksheet.specs.SharingLaws.{share}
+use Rattle.worksheet.specs.SharingLaws.{share, Sharing, keep-bits}
 use Rattle.worksheet.specs.CoeffSharing.{CoeffSharing, coeffKeep-lt, share-coeffKeep}
 use Rattle.worksheet.specs.SharedList.{sharedList}
-use Rattle.worksheet.specs.Choice.{SameShare}
+use Rattle.worksheet.specs.Choice.{Kept, chosen, KeptShared, SameShare}
 use Rattle.ring.specs.Polynomial.{minus, sub}
 use Rattle.parameters.specs.declared.Parameters.{Parameters}
-use Rattle.mlkem.specs.MlKem.{secretPart}
+use Rattle.parameters.specs.Lengths.{vectorBytes, ekBytes}
+use Rattle.fips202.specs.Sponge.{laneOf}
+use Rattle.masked_fips202.specs.XorBytes.{laneOf-bits}
+use Rattle.mlkem.specs.MlKem.{secretPart, zPart}
 use Rattle.vectors.specs.Vector.{coefficients}
 use Rattle.vectors.specs.VectorLaws.{length-coefficients}
-use Rattle.split_key.specs.SplitKey.{secondCoeffs}
+use Rattle.split_key.specs.SplitKey.{secondCoeffs, secondWords}
 
 -- ---- one coefficient X, whose first share is x
 
@@ -47,6 +55,27 @@ coupled-first c X X′ =
     (record {
       left = coeffSharing-splitCoeff X l;
       right = coeffSharing-splitCoeff X′ (mod-lt _ q-positive);
+      by = refl;
+    })))
+
+-- ---- one word X, whose first share is x
+
+abbrev splitWord : ℕ → ℕ → Shares
+splitWord X x = shares x (xor X x)
+
+sharing-splitWord : {X x : ℕ} → Bits 64 X → Bits 64 x → Sharing 64 X (splitWord X x)
+sharing-splitWord {X} {x} a b =
+    record { bits0 = b; bits1 = xor-bits a b; joins = xor-comm x (xor X x) ∙ xor-xor-cancel X x }
+
+coupled-word : (c : Bool) {X X′ : ℕ} → Bits 64 X → Bits 64 X′
+    → Coupled (λ x x′. Kept 64 c (splitWord X x) (splitWord X′ x′)) 0 (mask word) (mask word)
+unfolding mask byXor
+coupled-word c a a′ =
+    draw-c (byXor (keep-bits c a a′)) (λ x l.
+    ret-c (chosen c
+    (record {
+      left = sharing-splitWord a (record { lt = l });
+      right = sharing-splitWord a′ (xor-bits (record { lt = l }) (keep-bits c a a′));
       by = refl;
     })))
 
@@ -83,3 +112,27 @@ module _ (p : Parameters) (dk dk′ : List ℕ) where
       (coupled-weaken (λ a a′ r. sameShare-split c r)
       (coupled-times (256 * p .k) {R = SameSplit c} (λ i h.
       coupled-first c (coeffAt dk i) (coeffAt dk′ i))))
+
+  -- ---- z
+
+  abbrev wordAt : List ℕ → ℕ → ℕ
+  wordAt dk j = laneOf (zPart p dk) j
+
+  wordAt-bits : {dk : List ℕ} → Below 256 dk → (j : ℕ) → Bits 64 (wordAt dk j)
+  wordAt-bits b j = laneOf-bits (below-take 32 (below-drop (vectorBytes p + ekBytes p + 32) b)) j
+
+  pub coupled-words : Below 256 dk → Below 256 dk′ → (c : ℕ → Bool)
+      → Coupled (λ w w′. KeptShared 4 c (sharedList w (secondWords p dk w)) (sharedList w′ (secondWords p dk′ w′))) 0
+      (times 4 (λ j. mask word)) (times 4 (λ j. mask word))
+  unfolding secondWords
+  coupled-words b b′ c =
+      coupled-weaken (λ w w′ r. record {
+        at = λ j h.
+            rw (
+              getD-tab 4 (λ i. xor (wordAt dk i) (getD w i 0)) j 0 h,
+              getD-tab 4 (λ i. xor (wordAt dk′ i) (getD w′ i 0)) j 0 h,
+            )
+            (r .at 0 0 j h);
+      })
+      (coupled-times 4 {R = λ j x x′. Kept 64 (c j) (splitWord (wordAt dk j) x) (splitWord (wordAt dk′ j) x′)} (λ j h.
+      coupled-word (c j) (wordAt-bits b j) (wordAt-bits b′ j)))

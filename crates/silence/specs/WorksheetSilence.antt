@@ -1,4 +1,5 @@
--- The ten stages of the worksheet as one: an entry asks for one share of the secret, and for nothing of z.
+-- The worksheet as one stage, of either edition: an entry asks for one share of the secret, and for one of each word of
+-- z.
 use Prim.Native.Nat.{ℕ, _+_}
 use mathlib.Core.Path.{_≡_}
 use mathlib.Core.Bool.{Bool, true}
@@ -12,21 +13,26 @@ use Rattle.worksheet.specs.Prog.{Prog, ret, _>>=_}
 use Rattle.worksheet.specs.Stage.{Stage, Beside, andThen, andBeside, andAlso, moves, rearrange, comap}
 use Rattle.worksheet.specs.Sharing.{none}
 use Rattle.worksheet.specs.SharedList.{SharedList, sharedAt, unzip}
+use Rattle.worksheet.specs.SharedListLaws.{sharedAt-unzip}
 use Rattle.worksheet.specs.Choice.{Kept, KeptList, KeptShared, SameShare}
 use Rattle.masked_sampler.specs.PolynomialSilence.{Anything}
 use Rattle.masked_comparison.specs.Comparison.{selectAll}
 use Rattle.masked_comparison.specs.SelectionSilence.{Operands, selects-stage}
+use Rattle.fips202.specs.OutputLaws.{length-sha3-256, below-sha3-256}
+use Rattle.hash_functions.specs.Functions.{H}
+use Rattle.parameters.specs.declared.Edition.{Edition}
+use Rattle.parameters.specs.declared.Edition.the-variants.{MlKem, Kyber}
 use Rattle.parameters.specs.declared.Parameters.{Parameters}
 use Rattle.parameters.specs.Lengths.{ekBytes, ctBytes}
 use Rattle.split_key.specs.SplitKey.{SplitKey}
-use Rattle.stages.specs.EntryCounts.{stage3Entries, stage8Entries, stage9Entries, stage10Entries}
-use Rattle.stages.specs.EntryCounts.{encryptEntries, comparedEntries, steps}
+use Rattle.stages.specs.EntryCounts.{stage3Entries, stage8Entries, stage10Entries}
+use Rattle.stages.specs.EntryCounts.{encryptEntries, comparedEntries, endingEntries, steps}
 use Rattle.parameters.specs.Fits.{Fits}
 use Rattle.stages.specs.Moves.{coinsOf}
-use Rattle.stages.specs.Worksheet.{Compared, maskedDecrypt, maskedEncrypt, stage3, stage8, stage9, stage10, compared}
-use Rattle.stages.specs.Worksheet.{worksheet, wordCount}
+use Rattle.stages.specs.Worksheet.{Compared, maskedDecrypt, maskedEncrypt, stage3, stage8, stage10, compared}
+use Rattle.stages.specs.Worksheet.{ending, worksheet, wordCount}
 use Rattle.silence.specs.Recount.{stage-recount}
-use Rattle.silence.specs.HashSilence.{shake256-stage}
+use Rattle.silence.specs.HashSilence.{maskedJ-stage}
 use Rattle.silence.specs.DecryptionSilence.{decrypt-stage}
 use Rattle.silence.specs.NoiseSilence.{stage3-stage}
 use Rattle.silence.specs.EncryptionSilence.{encrypt-stage}
@@ -83,46 +89,64 @@ module _ (p : Parameters) (fits : Fits p) (public c : List ℕ) (h-long : length
   unfolding comparedEntries
   compared-stage = andThen (decrypt-stage p c) from3-stage
 
-  -- ---- stages 9 and 10, beside z
+  -- ---- what follows stage 8, beside z: selection as in stage 10, and a hash before it or behind it
 
-  abbrev from10 : SharedList × (Compared × SharedList) → Prog SharedList
-  from10 a = stage10 (a .1 .0 .equal) (a .1 .0 .g) (a .0)
+  abbrev selected : Compared × SharedList → Prog SharedList
+  selected a = stage10 (a .0 .equal) (a .0 .g) (a .1)
 
-  abbrev from9 : Compared × SharedList → Prog SharedList
-  from9 a = stage9 (a .1) c >>= λ r. from10 (r, a)
-
-  from10-stage : Stage (Beside (KeptShared 4) (Beside KeptCompared Anything)) Anything stage10Entries from10 from10
+  selected-stage : Stage (Beside KeptCompared (KeptShared 4)) (KeptShared 4) stage10Entries selected selected
   unfolding stage10 selectAll
-  from10-stage =
-      comap (Beside (KeptShared 4) (Beside KeptCompared Anything)) operands operands
-      (λ e. ((λ j. e .1), ((e .0, λ j. e .1), tt)))
+  selected-stage =
+      comap (Beside KeptCompared (KeptShared 4)) operands operands (λ e. ((e .0, λ j. e .1), λ j. e .1))
       (λ e a b r.
       record {
-        bit = r .side .main .equal;
-        left = record { at = λ j l. r .side .main .g .at j (omega arith) };
-        right = r .main;
+        bit = r .main .equal;
+        left = record { at = λ j l. r .main .g .at j (omega arith) };
+        right = r .side;
       })
-      (rearrange Anything (λ o. unzip 4 (λ j. getD o j none)) (λ o. unzip 4 (λ j. getD o j none)) (λ d j. true)
-      (λ d x y r. tt)
+      (rearrange (KeptShared 4) (λ o. unzip 4 (λ j. getD o j none)) (λ o. unzip 4 (λ j. getD o j none)) (λ d. d)
+      (λ d x y r. record {
+        at = λ j l.
+            rw (sharedAt-unzip 4 (λ j. getD x j none) j l, sharedAt-unzip 4 (λ j. getD y j none) j l)
+            (r .at none none j l);
+      })
       (selects-stage 4))
     where
-      operands : SharedList × (Compared × SharedList) → Operands
-      operands a = record { bit = a .1 .0 .equal; left = sharedAt (a .1 .0 .g); right = sharedAt (a .0) }
+      operands : Compared × SharedList → Operands
+      operands a = record { bit = a .0 .equal; left = sharedAt (a .0 .g); right = sharedAt (a .1) }
 
-  from9-stage : Stage (Beside KeptCompared Anything) Anything (stage9Entries p + stage10Entries) from9 from9
-  unfolding stage9
-  from9-stage =
-      andAlso ((true, λ j. true), tt)
+  -- ML-KEM's rejected words, beside all that is live
+  abbrev from10 : SharedList × (Compared × SharedList) → Prog SharedList
+  from10 a = selected (a .1 .0, a .0)
+
+  from10-stage : Stage (Beside (KeptShared 4) (Beside KeptCompared (KeptShared 4))) (KeptShared 4) stage10Entries
+      from10 from10
+  from10-stage =
+      comap (Beside (KeptShared 4) (Beside KeptCompared (KeptShared 4))) (λ a. (a .1 .0, a .0)) (λ a. (a .1 .0, a .0))
+      (λ e. (e .1, (e .0, λ j. true)))
+      (λ e a b r. record { main = r .side .main; side = r .main })
+      selected-stage
+
+  ending-stage : (e : Edition) → Stage (Beside KeptCompared (KeptShared 4)) (KeptShared 4) (endingEntries e p)
+      (λ a. ending e (a .0) (a .1) c) (λ a. ending e (a .0) (a .1) c)
+  unfolding ending endingEntries
+  ending-stage MlKem =
+      andAlso ((true, λ j. true), λ j. true)
       (comap Anything (λ (a : Compared × SharedList). a .1) (λ a. a .1) (λ e. e) (λ e a b r. tt)
-      (shake256-stage (ctBytes p) c c-long c-bytes 4))
+      (maskedJ-stage (ctBytes p) c c-long c-bytes))
       from10-stage
+  ending-stage Kyber =
+      andThen selected-stage
+      (comap (KeptShared 4) (λ w. w) (λ w. w) (λ e j. true) (λ e a b r. tt)
+      (maskedJ-stage 32 (H c) (length-sha3-256 c) (below-sha3-256 c)))
 
   -- ---- the whole: the secret's shares and z's, with the public key and h
 
   abbrev pub keyOf : SharedList × SharedList → SplitKey
   keyOf a = record { s = a .0; z = a .1; public = public }
 
-  pub worksheet-stage : Stage (Beside SameShare Anything) Anything (steps p) (λ a. worksheet p (keyOf a) c)
-      (λ a. worksheet p (keyOf a) c)
+  pub worksheet-stage : (e : Edition)
+      → Stage (Beside SameShare (KeptShared 4)) (KeptShared 4) (steps e p) (λ a. worksheet e p (keyOf a) c)
+      (λ a. worksheet e p (keyOf a) c)
   unfolding worksheet compared steps
-  worksheet-stage = andBeside tt compared-stage from9-stage
+  worksheet-stage e = andBeside (λ j. true) compared-stage (ending-stage e)

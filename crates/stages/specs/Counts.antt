@@ -4,6 +4,8 @@ use Rattle.masked_fips202.specs.MaskedWords.{sha3-512MaskWords, shake256MaskWor
 use Rattle.masked_compression.specs.Compression.{compressWords}
 use Rattle.masked_sampler.specs.Coefficient.{bitToCoeffCoeffs, samplerCoeffs}
 use Rattle.masked_comparison.specs.Comparison.{allZeroWords, selectWords}
+use Rattle.parameters.specs.declared.Edition.{Edition}
+use Rattle.parameters.specs.declared.Edition.the-variants.{MlKem, Kyber}
 use Rattle.parameters.specs.declared.Parameters.{Parameters}
 use Rattle.parameters.specs.Lengths.{ctBytes}
 use Rattle.stages.specs.Worksheet.{wordCount}
@@ -34,6 +36,10 @@ stage4Coeffs = 256 * bitToCoeffCoeffs
 
 abbrev pub stage10Words : ℕ
 stage10Words = 4 * selectWords
+
+-- Kyber's last hash, of 64 bytes
+abbrev pub lastHashWords : ℕ
+lastHashWords = shake256MaskWords 64 4
 
 -- stages 1 and 2
 unfoldable pub decryptWords : ℕ
@@ -67,9 +73,15 @@ module _ (p : Parameters) where
   abbrev pub stage9Words : ℕ
   stage9Words = shake256MaskWords (32 + ctBytes p) 4
 
-  -- ---- the mask words and mask coefficients of a strip
-  unfoldable pub stripWords : ℕ
-  stripWords = comparedWords + (stage9Words + stage10Words)
-
+  -- ---- the mask coefficients of a strip
   unfoldable pub stripCoeffs : ℕ
   stripCoeffs = encryptCoeffs
+
+-- ---- what follows stage 8
+unfoldable pub endingWords : Edition → Parameters → ℕ
+endingWords MlKem p = stage9Words p + stage10Words
+endingWords Kyber p = stage10Words + lastHashWords
+
+-- ---- the mask words of a strip
+unfoldable pub stripWords : Edition → Parameters → ℕ
+stripWords e p = comparedWords p + endingWords e p

@@ -4,6 +4,8 @@ use Rattle.masked_fips202.specs.EntryCounts.{sha3-512Entries, shake256Entries}
 use Rattle.masked_compression.specs.EntryCounts.{compressEntries}
 use Rattle.masked_sampler.specs.EntryCounts.{bitToCoeffEntries, samplerEntries}
 use Rattle.masked_comparison.specs.EntryCounts.{selectEntries, allZeroEntries}
+use Rattle.parameters.specs.declared.Edition.{Edition}
+use Rattle.parameters.specs.declared.Edition.the-variants.{MlKem, Kyber}
 use Rattle.parameters.specs.declared.Parameters.{Parameters}
 use Rattle.parameters.specs.Lengths.{ctBytes}
 use Rattle.stages.specs.Worksheet.{wordCount}
@@ -35,6 +37,10 @@ stage4Entries = 256 * bitToCoeffEntries
 abbrev pub stage10Entries : ℕ
 stage10Entries = 4 * selectEntries
 
+-- Kyber's last hash, of 64 bytes
+abbrev pub lastHashEntries : ℕ
+lastHashEntries = shake256Entries 64 4
+
 -- stages 1 and 2
 unfoldable pub decryptEntries : ℕ
 decryptEntries = stage1Entries + stage2Entries
@@ -64,6 +70,11 @@ module _ (p : Parameters) where
   abbrev pub stage9Entries : ℕ
   stage9Entries = shake256Entries (32 + ctBytes p) 4
 
-  -- ---- the worksheet's entries
-  unfoldable pub steps : ℕ
-  steps = comparedEntries + (stage9Entries + stage10Entries)
+-- ---- what follows stage 8
+unfoldable pub endingEntries : Edition → Parameters → ℕ
+endingEntries MlKem p = stage9Entries p + stage10Entries
+endingEntries Kyber p = stage10Entries + lastHashEntries
+
+-- ---- the worksheet's entries
+unfoldable pub steps : Edition → Parameters → ℕ
+steps e p = comparedEntries p + endingEntries e p

@@ -1,5 +1,6 @@
--- Document 01, The worksheet: masked decapsulation as one program, its ten stages in order, for a parameter set. The
--- letters are those of FIPS 203's Algorithms 14, 15 and 18.
+-- Document 01, The worksheet: masked decapsulation as one program, its ten stages in order, for a parameter set; and
+-- document 02, ask 4: Kyber's, which is the same up to stage 8 and ends otherwise. The letters are those of FIPS 203's
+-- Algorithms 14, 15 and 18.
 use mathlib.Core.Bool.{cond}
 use mathlib.Core.List.{List, [], _∷_, _++_, flatten}
 use Prim.Native.Nat.{ℕ, _+_, _-_, _*_}
@@ -19,8 +20,11 @@ use Rattle.masked_fips202.specs.MaskedWords.{maskedSha3-512Words, maskedShake25
 use Rattle.masked_compression.specs.Compression.{maskedCompress}
 use Rattle.masked_sampler.specs.Coefficient.{bitToCoeff, sampler}
 use Rattle.masked_comparison.specs.Comparison.{addPublic, allZero, selectAll}
+use Rattle.parameters.specs.declared.Edition.{Edition}
+use Rattle.parameters.specs.declared.Edition.the-variants.{MlKem, Kyber}
 use Rattle.parameters.specs.declared.Parameters.{Parameters}
 use Rattle.parameters.specs.Lengths.{vectorBytes}
+use Rattle.hash_functions.specs.Functions.{H}
 use Rattle.vectors.specs.Vector.{parts, dot}
 use Rattle.kpke.specs.KPke.{matrix, firstDecoded, noisyMessage}
 use Rattle.split_key.specs.SplitKey.{SplitKey, ekOf, hOf}
@@ -45,6 +49,10 @@ noisePoly eta coins n = do
   f ← times 256 (λ i. sampler eta (λ j. stringBit o (2 * eta * i + j)))
   ret (unzip 256 (λ i. getD f i none))
 
+-- FIPS 203's J, which is Kyber's KDF, of four words and a public string behind them: four words
+unfoldable pub maskedJ : SharedList → List ℕ → Prog SharedList
+maskedJ w string = maskedShake256Words (withPublic w string .s0) (withPublic w string .s1) 4
+
 -- ---- the stages that are the same for every parameter set
 
 -- stage 2: m', four words
@@ -64,17 +72,33 @@ stage4 m = do
   ret (unzip 256 (λ i. getD f i none))
 
 -- stage 9: the rejected words
-unfoldable pub stage9 : SharedList → List ℕ → Prog SharedList
-stage9 z c = maskedShake256Words (withPublic z c .s0) (withPublic z c .s1) 4
+abbrev pub stage9 : SharedList → List ℕ → Prog SharedList
+stage9 z c = maskedJ z c
 
 -- stage 10: K, four words
 unfoldable pub stage10 : Shares → SharedList → SharedList → Prog SharedList
 stage10 b g rejected = selectAll 4 b g rejected
 
--- what stages 1 to 8 hand on: the equal bit, and stage 3's words
+-- Kyber's last hash: K, four words, of the selected words and the ciphertext's hash, which is public
+abbrev pub lastHash : SharedList → List ℕ → Prog SharedList
+lastHash w c = maskedJ w (H c)
+
+-- ---- what stages 1 to 8 hand on, and the rest, for z and the ciphertext
+
+-- the equal bit, and stage 3's words
 pub record Compared : Type 0 where
   pub equal : Shares
   pub g : SharedList
+
+-- FIPS 203, Algorithm 18: line 7 is stage 9; lines 9 to 12 are stage 10, which gives K' or the rejected words.
+-- Kyber, algorithm 9, lines 7 to 10: K' or z, selected as in stage 10, is hashed with the ciphertext's hash.
+unfoldable pub ending : Edition → Compared → SharedList → List ℕ → Prog SharedList
+ending MlKem o z c = do
+  rejected ← stage9 z c
+  stage10 (o .equal) (o .g) rejected
+ending Kyber o z c = do
+  w ← stage10 (o .equal) (o .g) z
+  lastHash w c
 
 module _ (p : Parameters) where
   -- ---- stage 1: w, the noisy message; the ciphertext's second part enters share 0
@@ -157,9 +181,8 @@ module _ (p : Parameters) where
     b ← stage8 c w
     ret (record { equal = b; g = g })
 
-  -- line 7 is stage 9; lines 9 to 12 are stage 10, which gives K' or the rejected words
-  unfoldable pub worksheet : SplitKey → List ℕ → Prog SharedList
-  worksheet key c = do
-    o ← compared key c
-    rejected ← stage9 (key .z) c
-    stage10 (o .equal) (o .g) rejected
+-- with the edition's ending
+unfoldable pub worksheet : Edition → Parameters → SplitKey → List ℕ → Prog SharedList
+worksheet e p key c = do
+  o ← compared p key c
+  ending e o (key .z) c

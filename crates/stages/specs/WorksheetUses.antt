@@ -10,6 +10,7 @@ use Rattle.worksheet.specs.Prog.{entry}
 use Rattle.worksheet.specs.Uses.{Uses, ret-u, enter-u, uses-recount, uses-bind, uses-map, uses-times}
 use Rattle.worksheet.specs.SharedList.{SharedList}
 use Rattle.worksheet.specs.Pass.{enterBoth}
+use Rattle.fips202.specs.OutputLaws.{length-sha3-256}
 use Rattle.masked_fips202.specs.MaskedSpongeUses.{uses-maskedSha3-512Words, uses-maskedShake256Words}
 use Rattle.masked_fips202.specs.MaskedWords.{shake256MaskWords}
 use Rattle.masked_fips202.specs.EntryCounts.{shake256Entries}
@@ -18,23 +19,25 @@ use Rattle.masked_sampler.specs.CoefficientLaws.{uses-bitToCoeff}
 use Rattle.masked_sampler.specs.SamplerLaws.{uses-sampler}
 use Rattle.masked_comparison.specs.Comparison.{allZeroWords, selectAll}
 use Rattle.masked_comparison.specs.ComparisonLaws.{uses-addPublic, uses-allZero, uses-select}
+use Rattle.parameters.specs.declared.Edition.{Edition}
+use Rattle.parameters.specs.declared.Edition.the-variants.{MlKem, Kyber}
 use Rattle.parameters.specs.declared.Parameters.{Parameters}
 use Rattle.parameters.specs.Lengths.{ctBytes}
 use Rattle.split_key.specs.SplitKey.{SplitKey, ekOf, hOf}
 use Rattle.stages.specs.Moves.{withPublic, coinsOf}
 use Rattle.stages.specs.MovesLaws.{length-withPublic}
 use Rattle.stages.specs.Worksheet.{compressPoly, noisePoly, wordCount, stage1, stage2, stage3, stage4, stage5}
-use Rattle.stages.specs.Worksheet.{stage6, stage7, stage8, stage9, stage10, maskedDecrypt, maskedEncrypt}
-use Rattle.stages.specs.Worksheet.{compared, worksheet}
+use Rattle.stages.specs.Worksheet.{stage6, stage7, stage8, stage10, maskedJ, maskedDecrypt, maskedEncrypt}
+use Rattle.stages.specs.Worksheet.{Compared, compared, ending, worksheet}
 use Rattle.stages.specs.Counts.{compressPolyWords, noiseWords}
 use Rattle.stages.specs.EntryCounts.{stage1Entries, stage2Entries, stage3Entries, stage4Entries, stage5Entries}
 use Rattle.stages.specs.EntryCounts.{stage6Entries, stage7Entries, stage8Entries, stage10Entries}
 use Rattle.stages.specs.EntryCounts.{polyEntries, compressPolyEntries, noiseEntries, decryptEntries}
-use Rattle.stages.specs.EntryCounts.{encryptEntries, comparedEntries, steps}
+use Rattle.stages.specs.EntryCounts.{encryptEntries, comparedEntries, endingEntries, steps}
 use Rattle.stages.specs.Counts.{noiseCoeffs, decryptWords, stage5Words}
 use Rattle.stages.specs.Counts.{stage5Coeffs, stage7Words}
 use Rattle.stages.specs.Counts.{encryptWords, encryptCoeffs, stage8Words}
-use Rattle.stages.specs.Counts.{comparedWords, stripWords, stripCoeffs}
+use Rattle.stages.specs.Counts.{comparedWords, endingWords, stripWords, stripCoeffs}
 use Rattle.stages.specs.Counts.{stage2Words, stage3Words}
 use Rattle.stages.specs.Counts.{stage4Coeffs, stage10Words}
 
@@ -77,10 +80,13 @@ uses-stage4 : (m : SharedList) → Uses stage4Entries 0 stage4Coeffs (stage4 m)
 unfolding stage4
 uses-stage4 m = uses-map _ (uses-times 256 (λ i. uses-bitToCoeff 1665 _))
 
-uses-stage9 : (z : SharedList) (c : List ℕ)
-    → Uses (shake256Entries (32 + length c) 4) (shake256MaskWords (32 + length c) 4) 0 (stage9 z c)
-unfolding stage9
-uses-stage9 z c = rw (length-withPublic z c) at (uses-maskedShake256Words (withPublic z c .s0) (withPublic z c .s1) 4)
+-- stage 9, and Kyber's last hash
+uses-maskedJ : (w : SharedList) (string : List ℕ) {n : ℕ} → length string ≡ n
+    → Uses (shake256Entries (32 + n) 4) (shake256MaskWords (32 + n) 4) 0 (maskedJ w string)
+unfolding maskedJ
+uses-maskedJ w string e =
+    rw (length-withPublic w string ∙ ap (λ (n : ℕ). 32 + n) e) at
+    (uses-maskedShake256Words (withPublic w string .s0) (withPublic w string .s1) 4)
 
 uses-stage10 : (b : Shares) (g rejected : SharedList) → Uses stage10Entries stage10Words 0 (stage10 b g rejected)
 unfolding stage10 selectAll
@@ -144,10 +150,18 @@ module _ (p : Parameters) where
         uses-bind (uses-maskedEncrypt (ekOf p key) m (coinsOf g)) (λ w.
         uses-map _ (uses-stage8 c w)))))
 
-    pub uses-worksheet : length c ≡ ctBytes p → Uses (steps p) (stripWords p) (stripCoeffs p) (worksheet p key c)
-    unfolding worksheet steps stripWords stripCoeffs
-    uses-worksheet c-long =
-        uses-recount refl refl (omega arith)
-        (uses-bind uses-compared (λ o.
-        uses-bind (rw c-long at (uses-stage9 (key .z) c)) (λ rejected.
-        uses-stage10 (o .equal) (o .g) rejected)))
+-- what follows stage 8
+uses-ending : (e : Edition) (p : Parameters) (o : Compared) (z : SharedList) (c : List ℕ) → length c ≡ ctBytes p
+    → Uses (endingEntries e p) (endingWords e p) 0 (ending e o z c)
+unfolding ending endingEntries endingWords
+uses-ending MlKem p o z c long =
+    uses-bind (uses-maskedJ z c long) (λ rejected. uses-stage10 (o .equal) (o .g) rejected)
+uses-ending Kyber p o z c long =
+    uses-bind (uses-stage10 (o .equal) (o .g) z) (λ w. uses-maskedJ w _ (length-sha3-256 c))
+
+pub uses-worksheet : (e : Edition) (p : Parameters) (key : SplitKey) (c : List ℕ) → length (hOf p key) ≡ 32
+    → length c ≡ ctBytes p → Uses (steps e p) (stripWords e p) (stripCoeffs p) (worksheet e p key c)
+unfolding worksheet steps stripWords stripCoeffs
+uses-worksheet e p key c h-long c-long =
+    uses-recount refl refl (omega arith)
+    (uses-bind (uses-compared p key c h-long) (λ o. uses-ending e p o (key .z) c c-long))

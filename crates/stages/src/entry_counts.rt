@@ -3,10 +3,11 @@ ghost use mathlib.Core.Path.{_≡_};
 ghost use Prim.Native.Nat.{_≤_};
 ghost use Rattle.parameters.specs.Fits.{Within, Fits};
 ghost use Rattle.stages.specs.EntryCounts.{compressPolyEntries, noiseEntries, stage5Entries, stage7Entries};
-ghost use Rattle.stages.specs.EntryCounts.{stage8Entries, stage9Entries, steps as stepsOf};
+ghost use Rattle.stages.specs.EntryCounts.{stage8Entries, stage9Entries, endingEntries, steps as stepsOf};
 use crate::mask_counts::word_count;
 use crate::sums::ciphertext_sum;
 use crate::sums::noise_sum;
+use parameters::Edition;
 use parameters::Parameters;
 use parameters::ct_bytes;
 
@@ -65,12 +66,24 @@ fn stage9_entries(p: Parameters) -> usize
     7858 * ((32 + ct_bytes(p)) / 136 + 1)
 }
 
-// The worksheet's steps; stages 1 to 4 and 10 make 10,890, and stage 6 makes 512 for each of k + 1 polynomials.
-pub fn steps(p: Parameters) -> usize
+// What follows stage 8.
+fn ending_entries(e: Edition, p: Parameters) -> usize
     requires { ⌜ Fits p ⌝ }
-    ensures { λ r. ⌜ r ≡ stepsOf p ⌝ }
+    ensures { λ r. ⌜ r ≡ endingEntries e p ⌝ }
+    ensures { λ r. ⌜ r ≤ 94344 ⌝ }
+{
+    match e {
+        Edition::MlKem => stage9_entries(p) + 48,
+        Edition::Kyber => 48 + 7858,
+    }
+}
+
+// The worksheet's steps; stages 1 to 4 make 10,842, and stage 6 makes 512 for each of k + 1 polynomials.
+pub fn steps(e: Edition, p: Parameters) -> usize
+    requires { ⌜ Fits p ⌝ }
+    ensures { λ r. ⌜ r ≡ stepsOf e p ⌝ }
     ensures { λ r. ⌜ r ≤ 340548 ⌝ }
 {
     let reencryption = stage5_entries(p) + 512 * (p.k + 1) + stage7_entries(p);
-    10890 + reencryption + stage8_entries(p) + stage9_entries(p)
+    10842 + reencryption + stage8_entries(p) + ending_entries(e, p)
 }

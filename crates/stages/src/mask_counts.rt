@@ -6,9 +6,10 @@ ghost use Rattle.parameters.specs.Fits.{Within, Fits};
 ghost use Rattle.stages.specs.Worksheet.{wordCount};
 ghost use Rattle.stages.specs.Counts.{compressPolyWords, noiseWords, noiseCoeffs};
 ghost use Rattle.stages.specs.Counts.{stage5Words, stage5Coeffs, stage7Words, encryptWords};
-ghost use Rattle.stages.specs.Counts.{comparedWords, stage9Words, stripWords, stripCoeffs};
+ghost use Rattle.stages.specs.Counts.{comparedWords, stage9Words, endingWords, stripWords, stripCoeffs};
 use crate::sums::ciphertext_sum;
 use crate::sums::noise_sum;
+use parameters::Edition;
 use parameters::Parameters;
 use parameters::ct_bytes;
 
@@ -98,13 +99,25 @@ pub fn stage9_words(p: Parameters) -> usize
     625 + 600 * ((32 + ct_bytes(p)) / 136)
 }
 
-// A strip.
-pub fn strip_words(p: Parameters) -> usize
+// What follows stage 8: four words are selected, behind a hash or before one.
+fn ending_words(e: Edition, p: Parameters) -> usize
     requires { ⌜ Fits p ⌝ }
-    ensures { λ r. ⌜ r ≡ stripWords p ⌝ }
+    ensures { λ r. ⌜ r ≡ endingWords e p ⌝ }
+    ensures { λ r. ⌜ r ≤ 7229 ⌝ }
+{
+    match e {
+        Edition::MlKem => stage9_words(p) + 4,
+        Edition::Kyber => 4 + 625,
+    }
+}
+
+// A strip.
+pub fn strip_words(e: Edition, p: Parameters) -> usize
+    requires { ⌜ Fits p ⌝ }
+    ensures { λ r. ⌜ r ≡ stripWords e p ⌝ }
     ensures { λ r. ⌜ r ≤ 238613 ⌝ }
 {
-    compared_words(p) + stage9_words(p) + 4
+    compared_words(p) + ending_words(e, p)
 }
 
 pub fn strip_coeffs(p: Parameters) -> usize

@@ -7,6 +7,7 @@ use crate::lengths;
 use crate::parts;
 use buffers::little_endian::put_words;
 use buffers::values::xor_words;
+use parameters::Edition;
 use refusals::Answer;
 use refusals::number;
 
@@ -33,10 +34,36 @@ fn call(
 ) -> Answer {
     match asked {
         Asked::Shares => {
-            decapsulation::decaps(rank, s0, s1, z0, z1, public, ct, words, coeffs, k0, k1)
+            decapsulation::decaps(
+                Edition::MlKem,
+                rank,
+                s0,
+                s1,
+                z0,
+                z1,
+                public,
+                ct,
+                words,
+                coeffs,
+                k0,
+                k1,
+            )
         }
         Asked::Step(step) => {
-            decapsulation::trace(rank, s0, s1, z0, z1, public, ct, words, coeffs, step, value)
+            decapsulation::trace(
+                Edition::MlKem,
+                rank,
+                s0,
+                s1,
+                z0,
+                z1,
+                public,
+                ct,
+                words,
+                coeffs,
+                step,
+                value,
+            )
         }
     }
 }

@@ -5,6 +5,7 @@ ghost use lib.ListN.{length};
 ghost use Rattle.test_support.specs.Sizes.{Bounded};
 use buffers::little_endian::put_words;
 use buffers::values::xor_words;
+use parameters::Edition;
 use refusals::number;
 use test_support::masks;
 use test_support::masks::Masks;
@@ -49,6 +50,7 @@ fn decaps_joined(
     let mut k1 = [0u64; 4];
     let mut k = [0u64; 4];
     let answer = decapsulation::decaps(
+        Edition::MlKem,
         rank,
         s0,
         s1,

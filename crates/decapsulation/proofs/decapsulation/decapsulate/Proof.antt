@@ -63,15 +63,15 @@ square s = omega (arith, matrix-most (s .pre))
 
 row1 : (c : tie.After-exact)
     → (let a = start c .args in
-    LengthsTested (all (a .p) (lent (start c)) (a .k0 .now) (a .k1 .now)) (c .exact .result))
+    LengthsTested (all (a .e) (a .p) (lent (start c)) (a .k0 .now) (a .k1 .now)) (c .exact .result))
 row1 c =
     let a = start c .args in
     let n = counted c in
     let ct = n .before in
     let words = ct .before in
     lengths-tested _ (c .exact .ensures)
-    (wanted (a .p) (lent (start c)) (a .k0 .now) (a .k1 .now) (lengths n .ek-bytes .ensures) (ct .ct-bytes .ensures)
-    (words .strip-words .ensures .0) (n .strip-coeffs .ensures .0))
+    (wanted (a .e) (a .p) (lent (start c)) (a .k0 .now) (a .k1 .now) (lengths n .ek-bytes .ensures)
+    (ct .ct-bytes .ensures) (words .strip-words .ensures .0) (n .strip-coeffs .ensures .0))
 
 returns : tie.Need-returns
 returns c = told-row WrongLength (omega arith) (row1-refused (row1 (c .before)) _ (c .if1 .taken))
@@ -84,8 +84,8 @@ decapsulate-in-requires c κs =
     let e = row1-sized (row1 (t .before)) (t .if1 .left) in (
       s .pre,
       record {
-        input = all-sized (a .p) (lent s) (a .k0 .now) (a .k1 .now) e;
-        out = shares-long (a .p) (lent s) (a .k0 .now) (a .k1 .now) e;
+        input = all-sized (a .e) (a .p) (lent s) (a .k0 .now) (a .k1 .now) e;
+        out = shares-long (a .e) (a .p) (lent s) (a .k0 .now) (a .k1 .now) e;
       },
       length-front _ refl (omega (arith, square s)),
     )

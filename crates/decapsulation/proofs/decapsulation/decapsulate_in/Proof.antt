@@ -93,8 +93,8 @@ full-by c =
     ap (matrixFull (a .p .k)) (sym (rho-part (a .public .now) (counted c .vector-bytes .ensures) (long c)))
     ∙ sym (c .expand .ensures .answer)
 
-entries : (s : tie.Start) → length (sheet (s .args .p) (lent s) .entries) ≡ steps (s .args .p)
-entries s = sheet-steps (s .args .p) (lent s) (s .pre .1 .input)
+entries : (s : tie.Start) → length (sheet (s .args .e) (s .args .p) (lent s) .entries) ≡ steps (s .args .e) (s .args .p)
+entries s = sheet-steps (s .args .e) (s .args .p) (lent s) (s .pre .1 .input)
 
 -- ---- refusals, and the run
 
@@ -122,7 +122,7 @@ returns-3 c =
 
 passed : (c : tie.Else3)
     → (let s = origin (expanded c) in
-    answer (decapsRows (s .args .p) (lent s) (s .args .k0 .now) (s .args .k1 .now)) ≡ Done)
+    answer (decapsRows (s .args .e) (s .args .p) (lent s) (s .args .k0 .now) (s .args .k1 .now)) ≡ Done)
 passed c =
     let x = expanded c in
     let s = origin x in

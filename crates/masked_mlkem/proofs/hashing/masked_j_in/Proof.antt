@@ -1,4 +1,4 @@
--- SHAKE256 of z and the ciphertext: b0 and b1 hold the two shares of its input.
+-- SHAKE256 of the words and the string: b0 and b1 hold the two shares of its input.
 use mathlib.Core.Path.{refl}
 use mathlib.Core.List.{List}
 use Prim.Native.Nat.{ℕ}
@@ -6,11 +6,11 @@ use native.Mathlib.Omega.{arith}
 use Rattle.worksheet.specs.Prog.{Prog}
 use Rattle.worksheet.specs.SharedList.{SharedList}
 use Rattle.masked_fips202.specs.MaskedWords.{maskedShake256Words, shake256MaskWords}
-use Rattle.stages.specs.Worksheet.{stage9}
+use Rattle.stages.specs.Worksheet.{maskedJ}
 use Rattle.stages.proofs.HashedInput.{hash-masks, hash-ran}
 use borrow.Author.Needs.{needs}
-use Rattle.masked_mlkem.proofs.hashing.rejected_words.Statement.{statement}
-use Rattle.masked_mlkem.proofs.hashing.rejected_words.Tie as tie
+use Rattle.masked_mlkem.proofs.hashing.masked_j_in.Statement.{statement}
+use Rattle.masked_mlkem.proofs.hashing.masked_j_in.Tie as tie
 
 -- the hash
 abbrev words4 : List ℕ → List ℕ → Prog SharedList
@@ -63,7 +63,7 @@ masked-shake256-words-requires c κs =
     }
 
 returns : tie.Need-returns
-unfolding stage9
+unfolding maskedJ
 returns c cs =
     let h = hashed (c .before .before) in
     let z = zeros (filled (h .before)) in
@@ -72,8 +72,8 @@ returns c cs =
     hash-ran g words4 (λ k. shake256MaskWords k 4) refl (p .with-public .ensures)
     (z .with-zeros .ensures) (rw (g .out .long0) at (h .masked-shake256-words .ensures cs))
 
-pub rejected-words-spec : {M : Type 1} → statement M
-rejected-words-spec =
+pub masked-j-in-spec : {M : Type 1} → statement M
+masked-j-in-spec =
     tie.close
     (tie.spec
     (λ c κs. search needs)
