@@ -14,6 +14,13 @@ def read(*path):
     return gzip.open(path + ".gz").read()
 
 
+def write(crate, name, data):
+    path = os.path.join(ROOT, "crates", crate, name)
+    os.makedirs(os.path.dirname(path), exist_ok=True)
+    with open(path, "wb") as file:
+        file.write(data)
+
+
 def held(name, want, has):
     if want != has:
         sys.exit(f"{name}: {has} where {want} should be")
