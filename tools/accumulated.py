@@ -1,5 +1,7 @@
-"""The accumulated test of ML-KEM: one hash over many turns, with the secrets from our masked decapsulation, held to known values."""
+"""Hashes over many turns of our calls, with the secrets from masked decapsulation, held to known values: the accumulated test of ML-KEM, and the answer
+files of Kyber round 3's reference implementation."""
 from hashlib import shake_128
+from known_answers import FILES, TURNS, check_answer_file, turns
 from models.parameters import ML_KEM_512, ML_KEM_768, ML_KEM_1024
 from outward_calls import Stream, decaps, draw_strip, encaps, joined, keygen, split_key, u8
 
@@ -16,16 +18,21 @@ EXPECTED = {
 }
 
 
+def opened(p, dk, seed, *ciphertexts):
+    """Their secrets from our shares, under a split and strips drawn from the seed."""
+    draws = Stream(seed, p.mask_bytes)
+    split = split_key(p, dk, draws.coefficients(p.coefficients), draws.words(4))
+    return [joined(*decaps(p, split, c, draw_strip(p, seed + bytes([i])))) for i, c in enumerate(ciphertexts)]
+
+
+# ---- ML-KEM
 def turn(p, number, draw):
     """ek, dk, and then ct, k and the secret of a random ciphertext, both secrets from our shares."""
-    seed = b"turn" + number.to_bytes(8, "little")
-    draws = Stream(seed, p.mask_bytes)
     ek, dk = keygen(p, draw[:32], draw[32:64])
     ct, k = encaps(p, ek, draw[64:96])
-    split = split_key(p, dk, draws.coefficients(p.coefficients), draws.words(4))
-    opened, rejected = (joined(*decaps(p, split, c, draw_strip(p, seed + bytes([i])))) for i, c in enumerate((ct, u8(draw[96:]))))
-    assert opened == bytes(k)
-    return bytes(ek), bytes(dk), bytes(ct) + opened + rejected
+    secret, rejected = opened(p, dk, b"turn" + number.to_bytes(8, "little"), ct, u8(draw[96:]))
+    assert secret == bytes(k)
+    return bytes(ek), bytes(dk), bytes(ct) + secret + rejected
 
 
 def accumulated(p, turns):
@@ -40,3 +47,18 @@ def accumulated(p, turns):
         value = hash.hexdigest(32)
         assert expected in (None, value), f"{p.name}, {name}: {value}"
         print(f"{p.name}, {turns} turns, {name}: {value}{source if expected else ''}", flush=True)
+
+
+# ---- Kyber round 3
+def by_calls(p, d, z, m):
+    """ek, dk, ct, and k from our shares."""
+    ek, dk = keygen(p, d, z)
+    ct, k = encaps(p, ek, m)
+    [secret] = opened(p, dk, b"answer" + m, ct)
+    assert secret == bytes(k)
+    return bytes(ek), bytes(dk), bytes(ct), secret
+
+
+def known_answers(p):
+    check_answer_file(p, turns(p, by_calls))
+    print(f"{p.name}, {TURNS} turns, SHA-256 of the answer file: {FILES[p.name]}, as published", flush=True)

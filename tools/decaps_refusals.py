@@ -1,7 +1,7 @@
 """What masked decapsulation and its trace have to refuse, one fault and several at once, and what each call refuses by its rank; nothing that is
 lent changes."""
 import ctypes
-from models.parameters import Q, SETS
+from models.parameters import ALL_SETS, Q, sisters
 from outward_calls import call, trace, u64
 from refusal_lines import NO_RANKS
 
@@ -11,10 +11,9 @@ def refuse_ranks(p, name, *buffers, more=()):
     a sister set."""
     held, empty = [bytes(b) for b in buffers], [(b._type_ * 0)() for b in buffers]
     for rank in (*NO_RANKS, 258, 2**16 + 3):
-        assert call(name, rank, *buffers, more=more) == call(name, rank, *empty, more=more) == 9
-    for sister in SETS:
-        if sister != p:
-            assert call(name, sister.k, *buffers, more=more) == 1
+        assert call(p, name, *buffers, more=more, rank=rank) == call(p, name, *empty, more=more, rank=rank) == 9
+    for sister in sisters(p):
+        assert call(p, name, *buffers, more=more, rank=sister.k) == 1
     assert [bytes(b) for b in buffers] == held
 
 
@@ -35,22 +34,22 @@ class Case:
     def refused(self, number, step=0, calls=("decaps", "trace")):
         held = [bytes(b) for b in self.lent]
         if "decaps" in calls:
-            assert call("tifo_decaps", self.p.k, *self.lent) == number
+            assert call(self.p, "decaps", *self.lent) == number
         if "trace" in calls:
-            assert trace(self.p.k, self.lent[:8], step, self.value) == number
+            assert trace(self.p, self.lent[:8], step, self.value) == number
         assert [bytes(b) for b in self.lent] == held and self.value.value == 77
 
 
 def refuse_case_ranks(case):
-    refuse_ranks(case.p, "tifo_decaps", *case.lent)
-    refuse_ranks(case.p, "tifo_trace", *case.lent[:8], more=(ctypes.c_uint64(0), ctypes.byref(case.value)))
+    refuse_ranks(case.p, "decaps", *case.lent)
+    refuse_ranks(case.p, "trace", *case.lent[:8], more=(ctypes.c_uint64(0), ctypes.byref(case.value)))
     assert case.value.value == 77
 
 
 def refuse_lengths(case):
-    """One element less, one more, and as in the sister sets."""
+    """One element less, one more, and as in the other sets of both editions."""
     for at, buffer in enumerate(case.lent):
-        lengths = {len(buffer) - 1, len(buffer) + 1, *(p.lent["decaps"][at] for p in SETS)} - {len(buffer)}
+        lengths = {len(buffer) - 1, len(buffer) + 1, *(p.lent["decaps"][at] for p in ALL_SETS)} - {len(buffer)}
         for n in lengths:
             case.lent[at] = resized(buffer, n)
             case.refused(1, calls=("decaps", "trace") if at < 8 else ("decaps",))

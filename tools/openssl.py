@@ -1,5 +1,5 @@
-"""OpenSSL's ML-KEM (Python's cryptography). It has no ML-KEM-512: there the model of FIPS 203 takes its place, which tools/model_check holds to
-NIST's values."""
+"""OpenSSL's ML-KEM (Python's cryptography). It has neither ML-KEM-512 nor Kyber round 3: there the plain model of the set's edition takes its place,
+which tools/model_check holds to published values."""
 from cryptography.hazmat.primitives.asymmetric.mlkem import MLKEM768PrivateKey, MLKEM1024PrivateKey
 from models import kem
 from models.parameters import ML_KEM_768, ML_KEM_1024

@@ -21,9 +21,10 @@ def u64(values):
     return (ctypes.c_uint64 * len(values)).from_buffer_copy(array("Q", values))
 
 
-def call(name, rank, *buffers, more=()):
+def call(p, name, *buffers, more=(), rank=None):
+    """The answer of a call in the set's edition, told the set's rank or another."""
     lent = [x for b in buffers for x in (b, ctypes.c_size_t(len(b)))]
-    return getattr(LIB, name)(ctypes.c_uint32(rank), *lent, *more)
+    return getattr(LIB, p.c_name(name))(ctypes.c_uint32(p.k if rank is None else rank), *lent, *more)
 
 
 class Stream:
@@ -51,38 +52,38 @@ def draw_strip(p, seed):
 
 def keygen(p, d, z):
     ek, dk = u8(bytes(p.ek_bytes)), u8(bytes(p.dk_bytes))
-    assert call("tifo_keygen", p.k, u8(d), u8(z), ek, dk) == 0
+    assert call(p, "keygen", u8(d), u8(z), ek, dk) == 0
     return ek, dk
 
 
 def encaps(p, ek, m):
     ct, k = u8(bytes(p.ct_bytes)), u8(bytes(32))
-    assert call("tifo_encaps", p.k, ek, u8(m), ct, k) == 0
+    assert call(p, "encaps", ek, u8(m), ct, k) == 0
     return ct, k
 
 
 def split_key(p, dk, mask_coeffs, mask_words):
     """s0, s1, z0, z1, and the public key and h."""
     split = *(u16([0] * p.coefficients) for _ in (0, 1)), *(u64([0] * 4) for _ in (0, 1)), u8(bytes(p.public_bytes))
-    assert call("tifo_import", p.k, dk, mask_coeffs, mask_words, *split) == 0
+    assert call(p, "import", dk, mask_coeffs, mask_words, *split) == 0
     return split
 
 
 def decaps(p, split, ct, strip):
     """The two shares of the secret."""
     k0, k1 = u64([0] * 4), u64([0] * 4)
-    assert call("tifo_decaps", p.k, *split, ct, *strip, k0, k1) == 0
+    assert call(p, "decaps", *split, ct, *strip, k0, k1) == 0
     return k0, k1
 
 
-def trace(rank, lent, step, value):
+def trace(p, lent, step, value):
     """The answer. lent: split key, ciphertext and strip; value, a c_uint64, takes the step's."""
-    return call("tifo_trace", rank, *lent, more=(ctypes.c_uint64(step), ctypes.byref(value)))
+    return call(p, "trace", *lent, more=(ctypes.c_uint64(step), ctypes.byref(value)))
 
 
 def traced(p, split, ct, strip, step):
     value = ctypes.c_uint64()
-    assert trace(p.k, [*split, ct, *strip], step, value) == 0
+    assert trace(p, [*split, ct, *strip], step, value) == 0
     return value.value
 
 
