@@ -5,7 +5,9 @@
 #include <sys/random.h>
 #include "../include/tifolanzo.h"
 
-/* ML-KEM-768. For ML-KEM-512 the numbers behind the rank are 768, 9588, 6400, 155928, and for ML-KEM-1024 1568, 15192, 9472, 242052. */
+/* ML-KEM-768. For ML-KEM-512 the numbers behind the rank are 768, 9588, 6400, 155928, and for ML-KEM-1024 1568, 15192, 9472, 242052.
+ * Kyber round 3 has calls of its own, tifo_kyber_keygen and so on, with the same import, and other STRIP_WORDS and STEPS:
+ * 6588, 116638 for Kyber512, 6950, 124930 for Kyber768, 8592, 155614 for Kyber1024. */
 enum { RANK = TIFO_ML_KEM_768, CT_BYTES = 1088, STRIP_WORDS = 11750, STRIP_COEFFS = 7424, STEPS = 187794 };
 enum { COEFFS = 256 * RANK, EK_BYTES = 384 * RANK + 32, PUB_BYTES = EK_BYTES + 32, DK_BYTES = 384 * RANK + PUB_BYTES + 32 };
 static uint8_t d[32], z[32], m[32], ek[EK_BYTES], dk[DK_BYTES], ct[CT_BYTES], k[32], opened[32], pub[PUB_BYTES];

@@ -2,22 +2,24 @@
 formulas of tools/models/parameters.py."""
 import os, re, sys
 
-from models.parameters import SETS
+from models.parameters import ALL_SETS, KYBER_SETS, SETS, Use
 from published import ROOT, held
 
-NAMES = [p.name for p in SETS]
 HEADER, WORKSHEET, EXAMPLE = "include/tifolanzo.h", "docs/worksheet.md", "examples/decaps.c"
-# the rows of the header's table
+BOTH, ML_KEM, KYBER = (SETS, KYBER_SETS), (SETS,), (KYBER_SETS,)
+# the rows of the header's table, each with the editions that it is for
 ROWS = {
-    "rank": lambda p: p.k,
-    "public key, bytes": lambda p: p.ek_bytes,
-    "decapsulation key, bytes": lambda p: p.dk_bytes,
-    "ciphertext, bytes": lambda p: p.ct_bytes,
-    "s0, s1, mask_coeffs, coefficients": lambda p: p.coefficients,
-    "pub, bytes": lambda p: p.public_bytes,
-    "strip, words": lambda p: p.strip_words,
-    "strip, coefficients": lambda p: p.strip_coeffs,
-    "steps of the worksheet": lambda p: p.steps,
+    "rank": (BOTH, lambda p: p.k),
+    "public key, bytes": (BOTH, lambda p: p.ek_bytes),
+    "decapsulation key, bytes": (BOTH, lambda p: p.dk_bytes),
+    "ciphertext, bytes": (BOTH, lambda p: p.ct_bytes),
+    "s0, s1, mask_coeffs, coefficients": (BOTH, lambda p: p.coefficients),
+    "pub, bytes": (BOTH, lambda p: p.public_bytes),
+    "strip, coefficients": (BOTH, lambda p: p.strip_coeffs),
+    "strip, words, ML-KEM": (ML_KEM, lambda p: p.strip_words),
+    "strip, words, Kyber": (KYBER, lambda p: p.strip_words),
+    "steps of the worksheet, ML-KEM": (ML_KEM, lambda p: p.steps),
+    "steps of the worksheet, Kyber": (KYBER, lambda p: p.steps),
 }
 # the example's constants that are numbers, which it tells for the other sets too, and those that follow from the rank
 CHOSEN = {
@@ -46,13 +48,14 @@ def found(path, pattern):
 
 # ---- the header
 def check_header():
-    start = found(HEADER, r"^ \* +(ML-KEM-\d+) +(ML-KEM-\d+) +(ML-KEM-\d+)$")
-    held(f"{HEADER}, columns", NAMES, list(start.groups()))
+    start = found(HEADER, "\n".join(r"^ \* +" + " +".join(p.name for p in sets) + "$" for sets in BOTH))
     table = start.string[start.end():].split("The ranks have names")[0]
     rows = re.findall(r"^ \*   (\S.*?) {2,}(\S+) +(\S+) +(\S+)$", table, re.M)
     held(f"{HEADER}, rows", list(ROWS), [row[0] for row in rows])
     for row, *numbers in rows:
-        held(f"{HEADER}, {row}", [f"{ROWS[row](p):,}" for p in SETS], numbers)
+        editions, of = ROWS[row]
+        for sets in editions:
+            held(f"{HEADER}, {row}", [f"{of(p):,}" for p in sets], numbers)
     ranks = re.findall(r"^#define TIFO_ML_KEM_(\d+) (\d+)$", start.string, re.M)
     held(f"{HEADER}, names of ranks", [(str(p.coefficients), str(p.k)) for p in SETS], ranks)
 
@@ -62,9 +65,9 @@ def masks(use):
     return ", ".join([f"{use.words:,}"] * (use.words > 0) + [f"{use.coeffs:,} c"] * (use.coeffs > 0))
 
 
-def stage_cells(p, stage):
-    use = p.stages[stage - 1]
-    return [f"{p.starts[stage - 1]:,}", f"{use.entries:,}", masks(use)]
+def stage_cells(p, first, last):
+    use = sum(p.stages[first - 1:last], Use())
+    return [f"{p.starts[first - 1]:,}", f"{use.entries:,}", masks(use)]
 
 
 def all_cells(p):
@@ -75,24 +78,25 @@ def cells(line):
     return [cell.strip() for cell in line.strip("|").split("|")]
 
 
-def check_row(row, want):
+def check_row(sets, row, want):
     name, has = row[0], row[1:]
-    held(f"{WORKSHEET}, {name}, columns", 3 * len(SETS), len(has))
-    for i, p in enumerate(SETS):
+    held(f"{WORKSHEET}, {name}, columns", 3 * len(sets), len(has))
+    for i, p in enumerate(sets):
         held(f"{WORKSHEET}, {name}, {p.name} (first step, entries, masks)", want(p), has[3 * i:3 * i + 3])
 
 
-def check_worksheet_table():
-    start = found(WORKSHEET, r"^\| stage \|(?: *\| *(ML-KEM-\d+) *\| *\|)+$")
-    held(f"{WORKSHEET}, sets of the table", NAMES, re.findall(r"ML-KEM-\d+", start.group()))
+def check_worksheet_table(sets, parts):
+    """parts: what each row begins with, and the stages that it has, from the first to the last."""
+    start = found(WORKSHEET, r"^\| stage \|" + "".join(rf" *\| *{p.name} *\| *\|" for p in sets) + "$")
     rows = [cells(line) for line in start.string[start.end():].split("\n\n")[0].strip().split("\n")]
-    held(f"{WORKSHEET}, columns", ["first step", "entries", "masks"] * len(SETS), rows[1][1:])
+    held(f"{WORKSHEET}, columns", ["first step", "entries", "masks"] * len(sets), rows[1][1:])
     *stages, last = rows[2:]
-    held(f"{WORKSHEET}, stages", [str(i + 1) for i in range(10)], [row[0].split()[0] for row in stages])
-    for i, row in enumerate(stages):
-        check_row(row, lambda p: stage_cells(p, i + 1))
+    held(f"{WORKSHEET}, number of rows", len(parts), len(stages))
+    for (name, part), row in zip(parts.items(), stages):
+        held(f"{WORKSHEET}, row", name, row[0][:len(name)])
+        check_row(sets, row, lambda p: stage_cells(p, *part))
     held(f"{WORKSHEET}, last row", "**all**", last[0])
-    check_row(last, all_cells)
+    check_row(sets, last, all_cells)
 
 
 # ---- examples/decaps.c
@@ -109,18 +113,21 @@ def constants():
 
 
 def check_example():
-    pattern = r"/\* (ML-KEM-\d+)\. For (ML-KEM-\d+) [a-z ]+ ([\d, ]+), and for (ML-KEM-\d+) ([\d, ]+)\. \*/"
+    pattern = r"/\* (ML-KEM-\d+)\. For (ML-KEM-\d+) [a-z ]+ ([\d, ]+), and for (ML-KEM-\d+) ([\d, ]+)\.$"
     chosen, second, second_numbers, third, third_numbers = found(EXAMPLE, pattern).groups()
     held(f"{EXAMPLE}, sets", ["ML-KEM-768", "ML-KEM-512", "ML-KEM-1024"], [chosen, second, third])
-    by_name, values = {p.name: p for p in SETS}, constants()
+    by_name, values = {p.name: p for p in ALL_SETS}, constants()
     for name, of in {**CHOSEN, **FOLLOWING}.items():
         held(f"{EXAMPLE}, {name}", of(by_name[chosen]), values.get(name))
     for name, numbers in (second, second_numbers), (third, third_numbers):
         held(f"{EXAMPLE}, {name}", ", ".join(str(of(by_name[name])) for of in CHOSEN.values()), numbers)
+    kyber = re.findall(r"(\d+), (\d+) for (Kyber\d+)", text_of(EXAMPLE))
+    held(f"{EXAMPLE}, words and steps of round 3", [(str(p.strip_words), str(p.steps), p.name) for p in KYBER_SETS], kyber)
 
 
 def check_documents():
     check_header()
-    check_worksheet_table()
+    check_worksheet_table(SETS, {f"{i} ": (i, i) for i in range(1, 11)})
+    check_worksheet_table(KYBER_SETS, {"1 to 8": (1, 8), "selection": (9, 9), "last hash": (10, 10)})
     check_example()
     print(f"{HEADER}, {WORKSHEET}, {EXAMPLE}: the sets' numbers are the formulas'")
