@@ -1,6 +1,6 @@
 """Masked decapsulation and a trace against OpenSSL's plain decapsulation (Python's cryptography), timed in turns: bench/decaps runs it on our library.
 
-OpenSSL's key holds the matrix worked out, where ours is worked out from the public key in each call. It has no ML-KEM-512.
+OpenSSL's key holds the matrix worked out, where ours is worked out from the public key in each call. It has neither ML-KEM-512 nor Kyber round 3.
 """
 import ctypes, os, sys
 from array import array
@@ -8,9 +8,9 @@ from array import array
 sys.dont_write_bytecode = True
 sys.path.append(os.path.join(os.path.dirname(os.path.abspath(__file__)), "..", "tools"))
 from models.numbers import mask_coefficients
-from models.parameters import SETS
+from models.parameters import ALL_SETS
 from openssl import PRIVATE_KEYS, key_pair
-from turns import compare, lent
+from turns import compare, ready
 
 CALLS = 2
 lib = ctypes.CDLL(sys.argv[1])
@@ -29,16 +29,17 @@ def time_set(p):
     ek, dk, ct, k, public = (ctypes.create_string_buffer(n) for n in (p.ek_bytes, p.dk_bytes, p.ct_bytes, 32, p.public_bytes))
     split = *((ctypes.c_uint16 * p.coefficients)() for _ in (0, 1)), *((ctypes.c_uint64 * 4)() for _ in (0, 1)), public
     strip, shares, value = (words(p.strip_words), coefficients(p.strip_coeffs)), (words(4), words(4)), ctypes.c_uint64()
-    assert lib.tifo_keygen(*lent(p, d, z, ek, dk)) == 0 and lib.tifo_encaps(*lent(p, ek, m, ct, k)) == 0
-    assert lib.tifo_import(*lent(p, dk, coefficients(p.coefficients), words(4), *split)) == 0
-    decaps, trace = lent(p, *split, ct, *strip, *shares), lent(p, *split, ct, *strip) + [ctypes.c_uint64(step), ctypes.byref(value)]
-    assert lib.tifo_decaps(*decaps) == 0 and lib.tifo_trace(*trace) == 0
+    assert ready(lib, p, "keygen", d, z, ek, dk)() == 0 and ready(lib, p, "encaps", ek, m, ct, k)() == 0
+    assert ready(lib, p, "import", dk, coefficients(p.coefficients), words(4), *split)() == 0
+    decaps = ready(lib, p, "decaps", *split, ct, *strip, *shares)
+    trace = ready(lib, p, "trace", *split, ct, *strip, more=(ctypes.c_uint64(step), ctypes.byref(value)))
+    assert decaps() == 0 and trace() == 0
     true_ct, (_, other_decaps) = ct.raw, key_pair(p, d + z)
     assert other_decaps(true_ct) == k.raw == b"".join((a ^ b).to_bytes(8, "little") for a, b in zip(*shares))
     other = (lambda: other_decaps(true_ct)) if p in PRIVATE_KEYS else None
-    compare(f"{p.name}, masked decapsulation", lambda: lib.tifo_decaps(*decaps), other, CALLS)
-    compare(f"{p.name}, trace of step {step}", lambda: lib.tifo_trace(*trace), other, CALLS)
+    compare(f"{p.name}, masked decapsulation", decaps, other, CALLS)
+    compare(f"{p.name}, trace of step {step}", trace, other, CALLS)
 
 
-for p in SETS:
+for p in ALL_SETS:
     time_set(p)

@@ -1,4 +1,4 @@
-"""Our key calls and OpenSSL's (Python's cryptography) timed in turns: bench/kem runs it on our library. OpenSSL has no ML-KEM-512.
+"""Our key calls and OpenSSL's (Python's cryptography) timed in turns: bench/kem runs it on our library. OpenSSL has neither ML-KEM-512 nor Kyber round 3.
 
 Both go through Python, and a call of ours that is refused at once shows what a call itself costs. OpenSSL's encapsulation draws its own m, and it works
 out the matrix when it reads the public key, where ours does so in encapsulation: so that one is timed with the reading too.
@@ -8,9 +8,9 @@ import ctypes, os, sys
 sys.dont_write_bytecode = True
 sys.path.append(os.path.join(os.path.dirname(os.path.abspath(__file__)), "..", "tools"))
 from cryptography.hazmat.primitives.asymmetric.mlkem import MLKEM768PublicKey, MLKEM1024PublicKey
-from models.parameters import SETS, ML_KEM_768, ML_KEM_1024
+from models.parameters import ALL_SETS, ML_KEM_768, ML_KEM_1024
 from openssl import PRIVATE_KEYS
-from turns import compare, lent
+from turns import compare, ready
 
 PUBLIC_KEYS = {ML_KEM_768: MLKEM768PublicKey, ML_KEM_1024: MLKEM1024PublicKey}
 lib = ctypes.CDLL(sys.argv[1])
@@ -29,15 +29,16 @@ def openssl_calls(p, seed, ek, ct, k):
 def time_set(p):
     d, z, m = (bytes([i]) * 32 for i in (1, 2, 3))
     ek, dk, ct, k = (ctypes.create_string_buffer(n) for n in (p.ek_bytes, p.dk_bytes, p.ct_bytes, 32))
-    keygen, encaps, refused = lent(p, d, z, ek, dk), lent(p, ek, m, ct, k), lent(p, d[1:], z, ek, dk)
-    assert lib.tifo_keygen(*keygen) == 0 and lib.tifo_encaps(*encaps) == 0 and lib.tifo_keygen(*refused) == 1
+    keygen, encaps = ready(lib, p, "keygen", d, z, ek, dk), ready(lib, p, "encaps", ek, m, ct, k)
+    refused = ready(lib, p, "keygen", d[1:], z, ek, dk)
+    assert keygen() == 0 and encaps() == 0 and refused() == 1
     other_keygen, other_encaps, other_reading = openssl_calls(p, d + z, ek.raw, ct.raw, k.raw)
-    compare(f"{p.name}, key from a seed", lambda: lib.tifo_keygen(*keygen), other_keygen)
-    compare(f"{p.name}, encapsulation", lambda: lib.tifo_encaps(*encaps), other_encaps)
+    compare(f"{p.name}, key from a seed", keygen, other_keygen)
+    compare(f"{p.name}, encapsulation", encaps, other_encaps)
     if other_reading:
-        compare(f"{p.name}, public key read and encapsulation", lambda: lib.tifo_encaps(*encaps), other_reading)
-    compare(f"{p.name}, a refused call", lambda: lib.tifo_keygen(*refused))
+        compare(f"{p.name}, public key read and encapsulation", encaps, other_reading)
+    compare(f"{p.name}, a refused call", refused)
 
 
-for p in SETS:
+for p in ALL_SETS:
     time_set(p)

@@ -3,14 +3,16 @@
 usage: bench/stages.py --options      callgrind's, for the dumps
        bench/stages.py SET FILE       of a parameter set's run
 
-The ten stage functions are inlined into `decapsulate`. Four functions that aren't inlined, each called at known places, mark the borders. What little is inlined
+The stage functions are inlined into `decapsulate`. Four functions that aren't inlined, each called at known places, mark the borders. What little is inlined
 between a border and the next stage counts with that stage: the end of stage 3 with stage 4, the start of stage 9's state with stage 8, its end with stage 10.
+In round 3 none of the four stands between stage 8 and selection: they are one part, with the ciphertext's plain hash and the start of the last hash's state.
 """
 import os, re, sys
+from itertools import islice
 
 sys.dont_write_bytecode = True
 sys.path.append(os.path.join(os.path.dirname(os.path.abspath(__file__)), "..", "tools"))
-from models.parameters import NAMED
+from models.parameters import NAMED, Edition, Use
 
 EXPAND, COMPRESS, NOISE, ABSORB = MARKS = (
     "kpke::matrix::expand",
@@ -18,25 +20,28 @@ EXPAND, COMPRESS, NOISE, ABSORB = MARKS = (
     "masked_noise::noise_polys",
     "masked_sponge::absorb::masked_absorb",
 )
-# where each stage ends: at which event, the so-manieth
-ENDS = [
-    ("before", COMPRESS, 1),
-    ("after", COMPRESS, 1),
-    ("after", ABSORB, 1),
-    ("before", NOISE, 1),
-    ("after", NOISE, 2),
-    ("before", COMPRESS, 1),
-    ("after", COMPRESS, 2),
-    ("before", ABSORB, 1),
-    ("after", ABSORB, 1),
-    ("at", "end", 1),
+# a part's name, how many stages it has, and where it ends: at which event, the so-manieth
+PARTS = [
+    ("refusals", 0, "before", EXPAND, 1),
+    ("matrix", 0, "after", EXPAND, 1),
+    ("stage 1", 1, "before", COMPRESS, 1),
+    ("stage 2", 1, "after", COMPRESS, 1),
+    ("stage 3", 1, "after", ABSORB, 1),
+    ("stage 4", 1, "before", NOISE, 1),
+    ("stage 5", 1, "after", NOISE, 2),
+    ("stage 6", 1, "before", COMPRESS, 1),
+    ("stage 7", 1, "after", COMPRESS, 2),
 ]
+LAST_PARTS = {
+    Edition.ML_KEM: [("stage 8", 1, "before", ABSORB, 1), ("stage 9", 1, "after", ABSORB, 1), ("stage 10", 1, "at", "end", 1)],
+    Edition.KYBER: [("stage 8, selection", 2, "before", ABSORB, 1), ("last hash", 1, "at", "end", 1)],
+}
 
 
 def parts_of(p):
     """What ends where, and its entries."""
-    stages = [(f"stage {i}", *end, use.entries) for i, (end, use) in enumerate(zip(ENDS, p.stages), 1)]
-    return [("refusals", "before", EXPAND, 1, 0), ("matrix", "after", EXPAND, 1, 0)] + stages
+    stages = iter(p.stages)
+    return [(name, *end, sum(islice(stages, count), Use()).entries) for name, count, *end in PARTS + LAST_PARTS[p.edition]]
 
 
 def options():
@@ -75,7 +80,7 @@ def main():
     total = sum(cost for _, _, cost in out)
     for name, entries, cost in out:
         each = f"   for each of {entries:6} entries {cost / entries:7.2f}" if entries else ""
-        print(f"{name:<9} {cost:8} instructions {100 * cost / total:5.1f} %{each}")
+        print(f"{name:<18} {cost:8} instructions {100 * cost / total:5.1f} %{each}")
 
 
 if __name__ == "__main__":

@@ -4,9 +4,10 @@ import ctypes, time
 TURNS, CALLS = 201, 20
 
 
-def lent(p, *buffers):
-    """The rank, and each buffer with its length."""
-    return [ctypes.c_uint32(p.k), *(x for b in buffers for x in (b, ctypes.c_size_t(len(b))))]
+def ready(lib, p, name, *buffers, more=()):
+    """A call in the set's edition, as a function of nothing: it is told the rank and each buffer with its length."""
+    call, words = getattr(lib, p.c_name(name)), [ctypes.c_uint32(p.k), *(x for b in buffers for x in (b, ctypes.c_size_t(len(b)))), *more]
+    return lambda: call(*words)
 
 
 def microseconds(f, calls=CALLS):

@@ -1,8 +1,14 @@
 /* A key, its split, a ciphertext that it accepts, and a strip, in buffers of this program, and the two masked calls on them.
- * The parameter set is the compiler's to be told: RANK, CT_BYTES, STRIP_WORDS, STRIP_COEFFS (`defines` in tools/models/parameters.py). */
+ * The parameter set is the compiler's to be told: KYBER (0 or 1), RANK, CT_BYTES, STRIP_WORDS, STRIP_COEFFS (`defines` in tools/models/parameters.py). */
 #include <stdlib.h>
 #include <string.h>
 #include "tifolanzo.h"
+
+#if KYBER
+#define CALL(name) tifo_kyber_##name
+#else
+#define CALL(name) tifo_##name
+#endif
 
 enum { Q = 3329, COEFFS = 256 * RANK, EK_BYTES = 384 * RANK + 32, PUB_BYTES = EK_BYTES + 32, DK_BYTES = 384 * RANK + PUB_BYTES + 32 };
 static uint8_t d[32] = {1}, z[32] = {2}, m[32] = {3}, ek[EK_BYTES], dk[DK_BYTES], ct[CT_BYTES], k[32], pub[PUB_BYTES];
@@ -26,11 +32,11 @@ static inline void draw_coeffs(uint16_t *to, int n) {
 }
 
 static inline void make_pair(void) {
-    if (tifo_keygen(RANK, d, 32, z, 32, ek, EK_BYTES, dk, DK_BYTES) != 0) exit(2);
+    if (CALL(keygen)(RANK, d, 32, z, 32, ek, EK_BYTES, dk, DK_BYTES) != 0) exit(2);
 }
 
 static inline void encapsulate(void) {
-    if (tifo_encaps(RANK, ek, EK_BYTES, m, 32, ct, CT_BYTES, k, 32) != 0) exit(2);
+    if (CALL(encaps)(RANK, ek, EK_BYTES, m, 32, ct, CT_BYTES, k, 32) != 0) exit(2);
 }
 
 static inline void make_key(void) {
@@ -52,11 +58,11 @@ static inline void prepare(void) {
 }
 
 static inline void decaps(void) {
-    answer = tifo_decaps(RANK, s0, COEFFS, s1, COEFFS, z0, 4, z1, 4, pub, PUB_BYTES, ct, CT_BYTES, words, STRIP_WORDS, coeffs, STRIP_COEFFS,
-                         k0, 4, k1, 4);
+    answer = CALL(decaps)(RANK, s0, COEFFS, s1, COEFFS, z0, 4, z1, 4, pub, PUB_BYTES, ct, CT_BYTES, words, STRIP_WORDS, coeffs, STRIP_COEFFS,
+                          k0, 4, k1, 4);
 }
 
 static inline void trace(void) {
-    answer = tifo_trace(RANK, s0, COEFFS, s1, COEFFS, z0, 4, z1, 4, pub, PUB_BYTES, ct, CT_BYTES, words, STRIP_WORDS, coeffs, STRIP_COEFFS,
-                        step, &value);
+    answer = CALL(trace)(RANK, s0, COEFFS, s1, COEFFS, z0, 4, z1, 4, pub, PUB_BYTES, ct, CT_BYTES, words, STRIP_WORDS, coeffs, STRIP_COEFFS,
+                         step, &value);
 }

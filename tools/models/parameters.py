@@ -134,7 +134,8 @@ class Parameters:
     @property
     def defines(self):
         """For the compiler, where a C program uses tools/evidence/masked_run.h."""
-        numbers = {"RANK": self.k, "CT_BYTES": self.ct_bytes, "STRIP_WORDS": self.strip_words, "STRIP_COEFFS": self.strip_coeffs}
+        numbers = {"KYBER": int(self.edition == Edition.KYBER), "RANK": self.k, "CT_BYTES": self.ct_bytes}
+        numbers |= {"STRIP_WORDS": self.strip_words, "STRIP_COEFFS": self.strip_coeffs}
         return [f"-D{name}={n}" for name, n in numbers.items()]
 
     # ---- the parts of a decapsulation key
@@ -222,7 +223,7 @@ ML_KEM_1024 = Parameters("ML-KEM-1024", k=4, eta1=2, eta2=2, du=11, dv=5)
 SETS = ML_KEM_512, ML_KEM_768, ML_KEM_1024
 KYBER_SETS = tuple(replace(p, name=f"Kyber{p.coefficients}", edition=Edition.KYBER) for p in SETS)
 ALL_SETS = SETS + KYBER_SETS
-NAMED = {p.name.lower(): p for p in SETS}  # as the program mlkem names them
+NAMED = {p.name.lower(): p for p in ALL_SETS}  # as the program mlkem names them
 
 
 def sisters(p):
