@@ -26,9 +26,18 @@ static struct Found {
     int place;
 } largest[SHOWN], held[SHOWN];
 
+/* The rejection secret: SHAKE256 of z and the ciphertext, in round 3 of z and the ciphertext's hash. */
+static void reject(const uint8_t *z_of_key, uint8_t *secret) {
+    uint8_t input[32 + CT_BYTES], hash[32];
+    tifo_sha3_256(ct, CT_BYTES, hash, 32);
+    memcpy(input, z_of_key, 32);
+    memcpy(input + 32, KYBER ? hash : ct, KYBER ? 32 : CT_BYTES);
+    tifo_shake256(input, KYBER ? 64 : 32 + CT_BYTES, secret, 32);
+}
+
 /* The second key: other secret coefficients below q and another z beside the same public key and hash. */
 static void make_keys(void) {
-    uint8_t input[32 + CT_BYTES], *z_of_second = keys[1] + DK_BYTES - 32;
+    uint8_t *z_of_second = keys[1] + DK_BYTES - 32;
     make_key();
     memcpy(keys[0], dk, DK_BYTES);
     memcpy(keys[1], dk, DK_BYTES);
@@ -38,9 +47,7 @@ static void make_keys(void) {
     }
     for (int i = 0; i < 32; i++) z_of_second[i] = next_word();
     memcpy(secrets[0], k, 32);
-    memcpy(input, z_of_second, 32);
-    memcpy(input + 32, ct, CT_BYTES);
-    tifo_shake256(input, sizeof input, secrets[1], 32);
+    reject(z_of_second, secrets[1]);
 }
 
 static void draw(int key) {
