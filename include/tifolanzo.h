@@ -51,10 +51,10 @@ uint32_t tifo_sample(const uint8_t *stream, size_t stream_len, uint16_t *out, si
  *   s0, s1, mask_coeffs, coefficients            512          768         1,024
  *   pub, bytes                                   832        1,216         1,600
  *   strip, coefficients                        6,400        7,424         9,472
- *   strip, words, of ML-KEM                    9,588       11,750        15,192
- *   strip, words, of Kyber                     6,588        6,950         8,592
- *   steps of ML-KEM's worksheet              155,928      187,794       242,052
- *   steps of Kyber's worksheet               116,638      124,930       155,614
+ *   strip, words, ML-KEM                       9,588       11,750        15,192
+ *   strip, words, Kyber                        6,588        6,950         8,592
+ *   steps of the worksheet, ML-KEM           155,928      187,794       242,052
+ *   steps of the worksheet, Kyber            116,638      124,930       155,614
  * The ranks have names: */
 #define TIFO_ML_KEM_512 2
 #define TIFO_ML_KEM_768 3
@@ -76,10 +76,10 @@ uint32_t tifo_encaps(uint32_t rank, const uint8_t *ek, size_t ek_len, const uint
 uint32_t tifo_kyber_encaps(uint32_t rank, const uint8_t *ek, size_t ek_len, const uint8_t *m, size_t m_len, uint8_t *ct, size_t ct_len,
                            uint8_t *k, size_t k_len);
 
-/* Import, which is one for both editions, splits a decapsulation key whose h is the public key part's hash, as FIPS 203 asks. Coefficients from 3329 to 4095 are read
- * modulo 3329, as the standard reads them: the split stands for the key with its secret coefficients reduced. The first shares are the lent masks,
- * coefficients below 3329 and four words; the second shares are what is left of the key; pub is the public key and its hash, as they stand in the
- * key (9, 1, 3, 5). */
+/* Import splits a decapsulation key of either edition whose h is the public key part's hash, as FIPS 203 asks. Coefficients from 3329 to 4095 are
+ * read modulo 3329, as the standard reads them: the split stands for the key with its secret coefficients reduced. The first shares are the lent
+ * masks, coefficients below 3329 and four words; the second shares are what is left of the key; pub is the public key and its hash, as they stand in
+ * the key (9, 1, 3, 5). */
 uint32_t tifo_import(uint32_t rank, const uint8_t *dk, size_t dk_len, const uint16_t *mask_coeffs, size_t mask_coeffs_len,
                      const uint64_t *mask_words, size_t mask_words_len,
                      uint16_t *s0, size_t s0_len, uint16_t *s1, size_t s1_len, uint64_t *z0, size_t z0_len, uint64_t *z1, size_t z1_len,
