@@ -2,6 +2,7 @@
 ghost use Rattle.test_support.specs.Sizes.{Bounded};
 use crate::refused::print_decaps;
 use crate::refused::print_trace;
+use parameters::Edition;
 use test_decaps_support::case::Case;
 use test_decaps_support::case::Fault;
 use test_decaps_support::case::Part;
@@ -46,7 +47,7 @@ fn fault_at(rank: u32, part: Part, at: usize, v: u16) {
         v: v,
     };
     print_fault(fault);
-    lines(wrong(rank, fault, exact(rank), rank), 0);
+    lines(wrong(rank, fault, exact(Edition::MlKem, rank), rank), 0);
 }
 
 // At the first and at the last place.
@@ -71,20 +72,30 @@ fn step(rank: u32, step: u64) {
     print(b"step ");
     print_decimal(step);
     print(b"\n");
-    lines(at_hundred(rank, Part::None, exact(rank)), step);
+    lines(
+        at_hundred(rank, Part::None, exact(Edition::MlKem, rank)),
+        step,
+    );
 }
 
 // The step is past the end; further faults come one after the other.
 fn rows(rank: u32, past: u64) {
     step(rank, past);
     print(b"and a share\n");
-    lines(at_hundred(rank, Part::SecondShare, exact(rank)), past);
+    lines(
+        at_hundred(rank, Part::SecondShare, exact(Edition::MlKem, rank)),
+        past,
+    );
     print(b"and a mask\n");
-    lines(at_hundred(rank, Part::Both, exact(rank)), past);
+    lines(
+        at_hundred(rank, Part::Both, exact(Edition::MlKem, rank)),
+        past,
+    );
     print(b"and a length\n");
     let short = Lengths {
         at: At::Buffer(5),
         edge: Edge::Short,
+        edition: Edition::MlKem,
         of: rank,
     };
     lines(at_hundred(rank, Part::Both, short), past);

@@ -2,6 +2,7 @@
 // their lengths; and all with their lengths in another set.
 use crate::refused::Call;
 use crate::refused::print_spoiled;
+use parameters::Edition;
 use test_decaps_support::lengths::right_length;
 use test_support::edges::At;
 use test_support::edges::Edge;
@@ -26,6 +27,7 @@ fn line_at(call: Call, rank: u32, i: usize, edge: Edge, of: u32) {
         Lengths {
             at: at,
             edge: edge,
+            edition: Edition::MlKem,
             of: of,
         },
     );
@@ -47,7 +49,9 @@ fn edges(rank: u32, edge: Edge) {
 
 // Where buffer i has another length there.
 fn line_as(call: Call, rank: u32, i: usize, of: u32) {
-    if right_length(of_rank(of), i) != right_length(of_rank(rank), i) {
+    if right_length(of_rank(Edition::MlKem, of), i)
+        != right_length(of_rank(Edition::MlKem, rank), i)
+    {
         line_at(call, rank, i, Edge::Exact, of);
     }
 }
@@ -61,8 +65,8 @@ fn lines_as(call: Call, rank: u32, n: usize, of: u32) {
 fn set_as(rank: u32, of: u32) {
     lines_as(Call::Decaps, rank, 10, of);
     lines_as(Call::Trace, rank, 8, of);
-    line(Call::Decaps, rank, exact(of));
-    line(Call::Trace, rank, exact(of));
+    line(Call::Decaps, rank, exact(Edition::MlKem, of));
+    line(Call::Trace, rank, exact(Edition::MlKem, of));
 }
 
 fn other_as(rank: u32, of: u32) {

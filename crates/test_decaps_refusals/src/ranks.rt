@@ -2,6 +2,7 @@
 // all else.
 use crate::refused::Call;
 use crate::refused::print_spoiled;
+use parameters::Edition;
 use test_support::edges::At;
 use test_support::edges::Edge;
 use test_support::edges::Lengths;
@@ -21,9 +22,10 @@ fn lines(call: Call, rank: u32) {
     let empty = Lengths {
         at: At::All,
         edge: Edge::Empty,
+        edition: Edition::MlKem,
         of: 3,
     };
-    line(call, rank, exact(3));
+    line(call, rank, exact(Edition::MlKem, 3));
     line(call, rank, empty);
 }
 

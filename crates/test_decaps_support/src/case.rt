@@ -1,5 +1,6 @@
 // A case of decapsulation, told in numbers: the set, the turn whose key and ciphertext are taken, what is raised of the
 // key, the masks, what is wrong.
+use parameters::Edition;
 use test_keys::elsewhere::Raised;
 use test_support::edges::Lengths;
 use test_support::edges::exact;
@@ -56,7 +57,7 @@ pub fn right(
         at: 0,
         v: 0,
     };
-    let lengths = exact(rank);
+    let lengths = exact(Edition::MlKem, rank);
     Case {
         rank: rank,
         turn: turn,

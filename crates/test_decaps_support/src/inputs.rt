@@ -7,6 +7,7 @@ use crate::case::Case;
 use crate::case::Ciphertext;
 use crate::case::Fault;
 use crate::case::Part;
+use parameters::Edition;
 use refusals::Answer;
 use test_keys::elsewhere::raise_key;
 use test_keys::turn;
@@ -193,7 +194,7 @@ pub fn make(
     requires { ⌜ Longest (now s0) (now s1) (now z0) (now z1) (now public) (now ct) (now words) (now coeffs) ⌝ }
 {
     let mut dk = [0u8; 3168];
-    let s = of_rank(case.rank);
+    let s = of_rank(Edition::MlKem, case.rank);
     let n = s.dk;
     let strip = case.strip;
     let fault = case.fault;

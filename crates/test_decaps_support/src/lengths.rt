@@ -2,7 +2,9 @@
 ghost use Prim.Native.Nat.{_<_};
 ghost use Rattle.test_support.specs.Sizes.{Bounded};
 use crate::case::Case;
+use parameters::Edition;
 use test_support::edges::length_at;
+use test_support::edges::set_of;
 use test_support::sizes::Sizes;
 use test_support::sizes::of_rank;
 
@@ -24,7 +26,7 @@ pub fn right_length(s: Sizes, i: usize) -> usize
 // What the case says.
 pub fn length(case: Case, i: usize) -> usize {
     let lengths = case.lengths;
-    let n = right_length(of_rank(case.rank), i);
-    let m = right_length(of_rank(lengths.of), i);
+    let n = right_length(of_rank(Edition::MlKem, case.rank), i);
+    let m = right_length(set_of(lengths), i);
     length_at(lengths, i, n, m, 20000)
 }

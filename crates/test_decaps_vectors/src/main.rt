@@ -1,5 +1,6 @@
 // Masked decapsulation and its trace on public seeds, for each parameter set. What it prints is held to the file
 // stdout, whose values come from other implementations (tools/decaps_vectors).
+use parameters::Edition;
 use test_support::sizes::of_rank;
 use test_support::sizes::print_name;
 use text::print;
@@ -9,7 +10,7 @@ mod stage_edges; // where each stage begins
 mod traces;
 
 fn set(rank: u32) {
-    let s = of_rank(rank);
+    let s = of_rank(Edition::MlKem, rank);
     print_name(s);
     print(b"\n");
     secrets::run(s);

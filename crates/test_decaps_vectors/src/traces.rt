@@ -5,6 +5,7 @@ ghost use Prim.Native.Nat.{_+_, _*_, _<_, _≤_};
 ghost use lib.ListN.{length};
 ghost use Rattle.test_support.specs.Sizes.{Bounded};
 use crate::stage_edges::stage_starts;
+use parameters::Edition;
 use refusals::number;
 use test_decaps_support::calls::decaps;
 use test_decaps_support::calls::trace;
@@ -82,7 +83,7 @@ fn multiples(s: Sizes) -> usize
 fn print_hashes(case: Case) {
     let mut stage1 = [0u8; 4096];
     let mut all = [0u8; 5400];
-    let n = multiples(of_rank(case.rank));
+    let n = multiples(of_rank(Edition::MlKem, case.rank));
     let e = 8 * n;
     put_all(case, 1, 512, &mut stage1);
     print(b"steps 0 to 511 ");
@@ -114,7 +115,7 @@ fn entered_word(case: Case, j: usize, k0: &[u64], k1: &[u64]) -> u64
     requires { ⌜ (j < 4) × (length (now k0) ≡ 4) × (length (now k1) ≡ 4) ⌝ }
     ensures { λ r. ⌜ r ≤ 2 ⌝ }
 {
-    let step = share_step(of_rank(case.rank), j as u64);
+    let step = share_step(of_rank(Edition::MlKem, case.rank), j as u64);
     entered(case, step, k0[j]) + entered(case, step + 1, k1[j])
 }
 

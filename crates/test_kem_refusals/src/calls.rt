@@ -1,5 +1,5 @@
-// Calls for a rank, with buffers that have their lengths in a parameter set or others. Keys and masks hold values that
-// are out of range: a rank that no set has and a wrong length are refused before them.
+// Calls of an edition for a rank, with buffers that have their lengths in a parameter set or others. Keys and masks
+// hold values that are out of range: a rank that no set has and a wrong length are refused before them.
 ghost use Rattle.test_support.specs.Sizes.{Bounded};
 use parameters::Edition;
 use test_support::answers::print_refusal;
@@ -10,8 +10,8 @@ use test_support::edges::Lengths;
 use test_support::edges::length_at;
 use test_support::edges::print_lengths;
 use test_support::edges::print_rank;
+use test_support::edges::set_of;
 use test_support::sizes::Sizes;
-use test_support::sizes::of_rank;
 
 pub enum Call {
     KeyGen,
@@ -19,15 +19,16 @@ pub enum Call {
     Import,
 }
 
-fn keygen(rank: u32, d: &[u8], z: &[u8], ek: &mut [u8], dk: &mut [u8]) {
-    let answer = mlkem::keygen(Edition::MlKem, rank, d, z, ek, dk);
+fn keygen(e: Edition, rank: u32, d: &[u8], z: &[u8], ek: &mut [u8], dk: &mut [u8]) {
+    let answer = mlkem::keygen(e, rank, d, z, ek, dk);
     print_refusal(answer, unchanged(ek) & unchanged(dk));
 }
 
 fn keygen_edge(s: Sizes, rank: u32, lengths: Lengths)
     requires { ⌜ Bounded s ⌝ }
 {
-    let o = of_rank(lengths.of);
+    let e = s.edition;
+    let o = set_of(lengths);
     let seed = [0u8; 33];
     let other = [0u8; 33];
     let mut ek = [0xeeu8; 1569];
@@ -37,6 +38,7 @@ fn keygen_edge(s: Sizes, rank: u32, lengths: Lengths)
     let c = length_at(lengths, 2, s.ek, o.ek, 1569);
     let d = length_at(lengths, 3, s.dk, o.dk, 3169);
     keygen(
+        e,
         rank,
         &seed[0..a],
         &other[0..b],
@@ -45,15 +47,16 @@ fn keygen_edge(s: Sizes, rank: u32, lengths: Lengths)
     );
 }
 
-fn encaps(rank: u32, ek: &[u8], m: &[u8], ct: &mut [u8], k: &mut [u8]) {
-    let answer = mlkem::encaps(Edition::MlKem, rank, ek, m, ct, k);
+fn encaps(e: Edition, rank: u32, ek: &[u8], m: &[u8], ct: &mut [u8], k: &mut [u8]) {
+    let answer = mlkem::encaps(e, rank, ek, m, ct, k);
     print_refusal(answer, unchanged(ct) & unchanged(k));
 }
 
 fn encaps_edge(s: Sizes, rank: u32, lengths: Lengths)
     requires { ⌜ Bounded s ⌝ }
 {
-    let o = of_rank(lengths.of);
+    let e = s.edition;
+    let o = set_of(lengths);
     let ek = [255u8; 1569];
     let m = [0u8; 33];
     let mut ct = [0xeeu8; 1569];
@@ -62,7 +65,7 @@ fn encaps_edge(s: Sizes, rank: u32, lengths: Lengths)
     let b = length_at(lengths, 1, 32, 32, 33);
     let c = length_at(lengths, 2, s.ct, o.ct, 1569);
     let d = length_at(lengths, 3, 32, 32, 33);
-    encaps(rank, &ek[0..a], &m[0..b], &mut ct[0..c], &mut k[0..d]);
+    encaps(e, rank, &ek[0..a], &m[0..b], &mut ct[0..c], &mut k[0..d]);
 }
 
 fn import_unchanged(s0: &[u16], s1: &[u16], z0: &[u64], z1: &[u64], public: &[u8]) -> bool {
@@ -96,7 +99,7 @@ fn import_into(
 )
     requires { ⌜ Bounded s ⌝ }
 {
-    let o = of_rank(lengths.of);
+    let o = set_of(lengths);
     let mut s0 = [0xeeeeu16; 1025];
     let mut s1 = [0xeeeeu16; 1025];
     let mut z0 = [0xeeee_eeee_eeee_eeeeu64; 5];
@@ -123,7 +126,7 @@ fn import_into(
 fn import_edge(s: Sizes, rank: u32, lengths: Lengths)
     requires { ⌜ Bounded s ⌝ }
 {
-    let o = of_rank(lengths.of);
+    let o = set_of(lengths);
     let dk = [255u8; 3169];
     let mask_coeffs = [65535u16; 1025];
     let mask_words = [0u64; 5];

@@ -12,6 +12,7 @@ use test_support::sizes::Sizes;
 fn line_at(s: Sizes, call: Call, at: usize, edge: Edge)
     requires { ⌜ Bounded s ⌝ }
 {
+    let e = s.edition;
     let at = At::Buffer(at);
     line(
         s,
@@ -19,6 +20,7 @@ fn line_at(s: Sizes, call: Call, at: usize, edge: Edge)
         Lengths {
             at: at,
             edge: edge,
+            edition: e,
             of: s.rank,
         },
     );
@@ -55,6 +57,7 @@ fn line_as(s: Sizes, call: Call, at: usize, of: u32)
     requires { ⌜ Bounded s ⌝ }
 {
     if differs(call, at) {
+        let e = s.edition;
         let at = At::Buffer(at);
         line(
             s,
@@ -62,6 +65,7 @@ fn line_as(s: Sizes, call: Call, at: usize, of: u32)
             Lengths {
                 at: at,
                 edge: Edge::Exact,
+                edition: e,
                 of: of,
             },
         );
@@ -79,12 +83,14 @@ fn lines_as(s: Sizes, call: Call, n: usize, of: u32)
 fn set_as(s: Sizes, of: u32)
     requires { ⌜ Bounded s ⌝ }
 {
+    let e = s.edition;
+    let all = exact(e, of);
     lines_as(s, Call::KeyGen, 4, of);
     lines_as(s, Call::Encaps, 4, of);
     lines_as(s, Call::Import, 8, of);
-    line(s, Call::KeyGen, exact(of));
-    line(s, Call::Encaps, exact(of));
-    line(s, Call::Import, exact(of));
+    line(s, Call::KeyGen, all);
+    line(s, Call::Encaps, all);
+    line(s, Call::Import, all);
 }
 
 fn other_as(s: Sizes, of: u32)

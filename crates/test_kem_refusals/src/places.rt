@@ -64,9 +64,9 @@ fn change(s: Sizes, part: Part, i: usize, v: u16, key: &mut [u8], mask_coeffs: &
 
 // The number of the answer, or 99 where a refused call changed a buffer. Where the call is carried out, out is the
 // secret.
-fn encaps_into(rank: u32, ek: &[u8], ct: &mut [u8], out: &mut [u8]) -> u64 {
+fn encaps_into(e: Edition, rank: u32, ek: &[u8], ct: &mut [u8], out: &mut [u8]) -> u64 {
     let m = [7u8; 32];
-    let n = number(mlkem::encaps(Edition::MlKem, rank, ek, &m, ct, out));
+    let n = number(mlkem::encaps(e, rank, ek, &m, ct, out));
     if n == 0 {
         return 0;
     }
@@ -80,11 +80,12 @@ fn encaps_into(rank: u32, ek: &[u8], ct: &mut [u8], out: &mut [u8]) -> u64 {
 fn encaps(s: Sizes, key: &[u8], out: &mut [u8]) -> u64
     requires { ⌜ Bounded s × (length (now key) ≡ s .dk) ⌝ }
 {
+    let e = s.edition;
     let mut ct = [0xeeu8; 1568];
     let n = s.ct;
     let a = s.vector;
     let h = a + s.ek;
-    encaps_into(s.rank, &key[a..h], &mut ct[0..n], out)
+    encaps_into(e, s.rank, &key[a..h], &mut ct[0..n], out)
 }
 
 // The same for import, where out is SHA3-256 of the split key.

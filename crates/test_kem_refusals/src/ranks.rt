@@ -1,7 +1,8 @@
-// Ranks that no parameter set has, with buffers as ML-KEM-768 asks for and with empty ones: the rank is refused before
-// all else.
+// Ranks that no parameter set has, with buffers as the edition's set of rank 3 asks for and with empty ones: the rank
+// is refused before all else.
 use crate::calls::Call;
 use crate::calls::rank_line;
+use parameters::Edition;
 use test_support::edges::At;
 use test_support::edges::Edge;
 use test_support::edges::Lengths;
@@ -9,27 +10,28 @@ use test_support::edges::exact;
 use test_support::sizes::of_rank;
 use text::print;
 
-fn lines(call: Call, rank: u32) {
-    let s = of_rank(3);
+fn lines(e: Edition, call: Call, rank: u32) {
+    let s = of_rank(e, 3);
     let empty = Lengths {
         at: At::All,
         edge: Edge::Empty,
+        edition: e,
         of: 3,
     };
-    rank_line(s, call, rank, exact(3));
+    rank_line(s, call, rank, exact(e, 3));
     rank_line(s, call, rank, empty);
 }
 
-fn calls(rank: u32) {
-    lines(Call::KeyGen, rank);
-    lines(Call::Encaps, rank);
-    lines(Call::Import, rank);
+fn calls(e: Edition, rank: u32) {
+    lines(e, Call::KeyGen, rank);
+    lines(e, Call::Encaps, rank);
+    lines(e, Call::Import, rank);
 }
 
-pub fn run() {
+pub fn run(e: Edition) {
     print(b"no such rank\n");
-    calls(0);
-    calls(1);
-    calls(5);
-    calls(0xffff_ffff);
+    calls(e, 0);
+    calls(e, 1);
+    calls(e, 5);
+    calls(e, 0xffff_ffff);
 }

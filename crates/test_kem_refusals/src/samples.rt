@@ -1,4 +1,5 @@
 // Sampling, which goes by no parameter set: each lent buffer empty, one element short and one element long.
+use parameters::Edition;
 use test_support::answers::print_refusal;
 use test_support::bytes::unchanged_coefficients;
 use test_support::edges::At;
@@ -26,6 +27,7 @@ fn line(at: usize, edge: Edge) {
     sample_edge(Lengths {
         at: at,
         edge: edge,
+        edition: Edition::MlKem,
         of: 0,
     });
 }

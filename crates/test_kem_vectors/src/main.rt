@@ -1,5 +1,6 @@
 // The calls of the three parameter sets on public seeds, and sampling from streams at the edges. What it prints is held
 // to the file stdout, whose values come from another implementation (tools/kem_vectors).
+use parameters::Edition;
 use test_support::sizes::of_rank;
 use test_support::sizes::print_name;
 use text::print;
@@ -9,7 +10,7 @@ mod sampling;
 mod turns;
 
 fn set(rank: u32) {
-    let s = of_rank(rank);
+    let s = of_rank(Edition::MlKem, rank);
     print_name(s);
     print(b"\n");
     turns::run(s);

@@ -44,20 +44,29 @@ fn take(s: Sizes, turn: usize, at: usize, out: &mut [u8])
     take_in(turn, at, &mut drawn[0..n], out);
 }
 
-fn make_from(rank: u32, seeds: &[u8], ek: &mut [u8], dk: &mut [u8], ct: &mut [u8], k: &mut [u8])
+fn make_from(
+    e: Edition,
+    rank: u32,
+    seeds: &[u8],
+    ek: &mut [u8],
+    dk: &mut [u8],
+    ct: &mut [u8],
+    k: &mut [u8],
+)
     requires { ⌜ length (now seeds) ≡ 96 ⌝ }
 {
-    mlkem::keygen(Edition::MlKem, rank, &seeds[0..32], &seeds[32..64], ek, dk);
-    mlkem::encaps(Edition::MlKem, rank, ek, &seeds[64..96], ct, k);
+    mlkem::keygen(e, rank, &seeds[0..32], &seeds[32..64], ek, dk);
+    mlkem::encaps(e, rank, ek, &seeds[64..96], ct, k);
 }
 
 // The turn's keys, ciphertext and secret.
 pub fn make(s: Sizes, turn: usize, ek: &mut [u8], dk: &mut [u8], ct: &mut [u8], k: &mut [u8])
     requires { ⌜ Bounded s ⌝ }
 {
+    let e = s.edition;
     let mut seeds = [0u8; 96];
     take(s, turn, 0, &mut seeds);
-    make_from(s.rank, &seeds, ek, dk, ct, k);
+    make_from(e, s.rank, &seeds, ek, dk, ct, k);
 }
 
 pub fn message(s: Sizes, turn: usize, m: &mut [u8])

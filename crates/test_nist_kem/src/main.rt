@@ -265,7 +265,7 @@ fn line(s: Sizes, function: Function, name: &[u8])
 }
 
 fn set(rank: u32) {
-    let s = of_rank(rank);
+    let s = of_rank(Edition::MlKem, rank);
     line(s, Function::KeyGen, b", key making");
     line(s, Function::Encapsulation, b", encapsulation");
     line(

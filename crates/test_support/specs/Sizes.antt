@@ -1,4 +1,4 @@
--- A parameter set's sizes: lengths that go by the rank, and bounds of the others.
+-- The sizes of an edition's parameter set: lengths that go by the rank, and bounds of the others.
 use mathlib.Core.Path.{_≡_}
 use Prim.Native.Nat.{_+_, _*_, _≤_}
 use Rattle.test_support.specs.declared.sizes.Sizes.{Sizes}
@@ -13,9 +13,9 @@ pub record Bounded (s : Sizes) : Type 0 where
   pub public : s .public ≡ 384 * s .rank + 64
   pub least-ct : 768 ≤ s .ct
   pub most-ct : s .ct ≤ 1568
-  pub least-words : 9588 ≤ s .words
+  pub least-words : 6588 ≤ s .words
   pub most-words : s .words ≤ 15192
   pub least-coeffs : 6400 ≤ s .coeffs
   pub most-coeffs : s .coeffs ≤ 9472
-  pub least-steps : 155928 ≤ s .steps
+  pub least-steps : 116638 ≤ s .steps
   pub most-steps : s .steps ≤ 242052

@@ -1,7 +1,10 @@
 // Lengths of lent buffers, of which one or all aren't what they should be.
 ghost use Prim.Native.Nat.{_<_, _≤_};
+ghost use Rattle.test_support.specs.Sizes.{Bounded};
+use crate::sizes::Sizes;
 use crate::sizes::of_rank;
 use crate::sizes::print_name;
+use parameters::Edition;
 use text::print;
 use text::print_decimal;
 
@@ -18,19 +21,29 @@ pub enum At {
     All,
 }
 
-// The buffers at `at` are at the edge of their lengths in the set of rank `of`. The others have their lengths in the
-// call's set.
+// The buffers at `at` are at the edge of their lengths in the edition's set of rank `of`. The others have their lengths
+// in the call's set.
 pub struct Lengths {
     pub at: At,
     pub edge: Edge,
+    pub edition: Edition,
     pub of: u32,
 }
 
-// Each buffer has its length in the set.
-pub fn exact(rank: u32) -> Lengths {
+// That set.
+pub fn set_of(lengths: Lengths) -> Sizes
+    ensures { λ r. ⌜ Bounded r ⌝ }
+{
+    let e = lengths.edition;
+    of_rank(e, lengths.of)
+}
+
+// Each buffer has its length in the set of a rank.
+pub fn exact(e: Edition, rank: u32) -> Lengths {
     Lengths {
         at: At::All,
         edge: Edge::Exact,
+        edition: e,
         of: rank,
     }
 }
@@ -71,9 +84,9 @@ fn print_at(at: At) {
     }
 }
 
-fn print_as(rank: u32) {
+fn print_as(lengths: Lengths) {
     print(b" as in ");
-    print_name(of_rank(rank));
+    print_name(set_of(lengths));
 }
 
 pub fn print_lengths(call: &[u8], lengths: Lengths) {
@@ -82,7 +95,7 @@ pub fn print_lengths(call: &[u8], lengths: Lengths) {
     print_at(at);
     let edge = lengths.edge;
     match edge {
-        Edge::Exact => print_as(lengths.of),
+        Edge::Exact => print_as(lengths),
         Edge::Empty => print(b" empty"),
         Edge::Short => print(b" short"),
         Edge::Long => print(b" long"),
