@@ -1,11 +1,14 @@
 // What follows stage 8, by the edition, from the equal bit, stage 3's words, z and the ciphertext; k0 and k1 take the
 // shares of K.
 ghost use Rattle.parameters.specs.declared.Edition.the-variants.{MlKem, Kyber};
+ghost use lib.ListN.{length};
 ghost use Rattle.worksheet.specs.Prog.{word};
 ghost use Rattle.worksheet.specs.Ran.{Draws};
 ghost use Rattle.worksheet.specs.SharedList.{sharedList};
-ghost use Rattle.stages.specs.Worksheet.{ending as endingOf};
-ghost use Rattle.stages.specs.Counts.{endingWords};
+ghost use Rattle.masked_comparison.specs.Lent.{SelectLent};
+ghost use Rattle.stages.specs.Worksheet.{stage10 as stage10Of, lastHash, ending as endingOf};
+ghost use Rattle.stages.specs.Counts.{stage10Words, lastHashWords, endingWords};
+ghost use Rattle.stages.specs.Lent.{HashInput};
 ghost use Rattle.decapsulation.specs.Sized.{EndingInput};
 use hash_functions::hash_h;
 use masked_comparison::selection::select_all;
@@ -15,6 +18,52 @@ use parameters::Parameters;
 use stages::mask_counts::stage9_words;
 use worksheet::Recorder;
 use worksheet::Shares;
+
+// Stage 10: the four words of K' where the equal bit is 1, else those of y.
+fn stage10(
+    rec: Recorder,
+    equal: Shares,
+    g0: &[u64],
+    g1: &[u64],
+    y0: &[u64],
+    y1: &[u64],
+    ws: &[u64],
+    out0: &mut [u64],
+    out1: &mut [u64],
+) -> Recorder
+    requires { ⌜
+        SelectLent 4 equal (sharedList (now g0) (now g1)) (sharedList (now y0) (now y1)) (now ws)
+        (sharedList (now out0) (now out1)) ⌝ }
+    ensures { λ r. ⌜
+        Draws word stage10Words
+        (stage10Of equal (sharedList (now (g0 .entry)) (now (g1 .entry)))
+        (sharedList (now (y0 .entry)) (now (y1 .entry))))
+        rec (now (ws .entry)) (sharedList (now (out0 .exit)) (now (out1 .exit))) r ⌝ }
+{
+    select_all(rec, 4, equal, g0, g1, y0, y1, ws, out0, out1)
+}
+
+// Kyber's last hash, of the selected words and the ciphertext's hash.
+fn last_hash(
+    rec: Recorder,
+    w0: &[u64],
+    w1: &[u64],
+    c: &[u8],
+    ws: &[u64],
+    out0: &mut [u64],
+    out1: &mut [u64],
+) -> Recorder
+    requires { ⌜
+        HashInput (length (now c)) lastHashWords 4 (sharedList (now w0) (now w1)) (now c) (now ws)
+        (sharedList (now out0) (now out1)) ⌝ }
+    ensures { λ r. ⌜
+        Draws word lastHashWords (lastHash (sharedList (now (w0 .entry)) (now (w1 .entry))) (now (c .entry)))
+        rec (now (ws .entry)) (sharedList (now (out0 .exit)) (now (out1 .exit))) r ⌝ }
+{
+    let mut h = [0u8; 32];
+    hash_h(c, &mut h);
+    masked_j(rec, w0, w1, &h, ws, out0, out1)
+}
 
 // FIPS 203, algorithm 18: stage 9 makes the rejected words, and stage 10 selects K' or these.
 fn mlkem_ending(
@@ -43,18 +92,7 @@ fn mlkem_ending(
     let mut rejected1 = [0u64; 4];
     let w = stage9_words(p);
     let rec = masked_j(rec, z0, z1, c, ws, &mut rejected0, &mut rejected1);
-    select_all(
-        rec,
-        4,
-        equal,
-        g0,
-        g1,
-        &rejected0,
-        &rejected1,
-        &ws[w..],
-        k0,
-        k1,
-    )
+    stage10(rec, equal, g0, g1, &rejected0, &rejected1, &ws[w..], k0, k1)
 }
 
 // Kyber, algorithm 9, lines 7 to 10: K' or z is selected, and hashed with the ciphertext's hash.
@@ -82,11 +120,8 @@ fn kyber_ending(
 {
     let mut selected0 = [0u64; 4];
     let mut selected1 = [0u64; 4];
-    let mut h = [0u8; 32];
-    hash_h(c, &mut h);
-    let rec = select_all(
+    let rec = stage10(
         rec,
-        4,
         equal,
         g0,
         g1,
@@ -96,7 +131,7 @@ fn kyber_ending(
         &mut selected0,
         &mut selected1,
     );
-    masked_j(rec, &selected0, &selected1, &h, &ws[4..], k0, k1)
+    last_hash(rec, &selected0, &selected1, c, &ws[4..], k0, k1)
 }
 
 pub fn ending(

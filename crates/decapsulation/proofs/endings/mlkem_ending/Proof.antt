@@ -9,7 +9,7 @@ use Rattle.parameters.specs.Largest.{ctBytes-most}
 use Rattle.worksheet.specs.Ran.{bind}
 use Rattle.masked_fips202.specs.MaskedWords.{shake256MaskWords}
 use Rattle.stages.specs.Counts.{stage9Words, endingWords}
-use Rattle.stages.specs.Worksheet.{stage10, ending}
+use Rattle.stages.specs.Worksheet.{ending}
 use Rattle.stages.proofs.StoredRun.{length-rest}
 use Rattle.stages.proofs.Strips.{part-from}
 use Rattle.decapsulation.proofs.endings.mlkem_ending.Statement.{statement}
@@ -17,10 +17,10 @@ use Rattle.decapsulation.proofs.endings.mlkem_ending.Tie as tie
 
 -- ---- places, backwards: K is selected, what that is lent
 
-abbrev selected : tie.After-slice-known3 → tie.After-select-all
+abbrev selected : tie.After-slice-known3 → tie.After-stage10
 selected c = c .before .before
 
-abbrev lent : tie.After-select-all-arg3 → tie.After-rejected13
+abbrev lent : tie.After-stage10-arg3 → tie.After-rejected13
 lent c = c .before .before .before
 
 -- the rejected words are made
@@ -75,8 +75,8 @@ masked-j-requires c κs =
       most = omega (arith, s .pre .ct, ctBytes-most (s .pre .fits));
     }
 
-select-all-requires : tie.Need-select-all-requires
-select-all-requires c κs =
+stage10-requires : tie.Need-stage10-requires
+stage10-requires c κs =
     let j = hashed (lent c) .masked-j .kept .1 .1 .1 .1 .1 in
     let n = counts (lent c) in
     let s = begun n in
@@ -93,7 +93,7 @@ select-all-requires c κs =
     }
 
 returns : tie.Need-returns
-unfolding ending stage10
+unfolding ending
 returns c cs =
     let k = selected (c .before .before) in
     let r = hashed (lent (k .before)) in
@@ -101,7 +101,7 @@ returns c cs =
     let s = begun n in
     rw (words-of s)
     (bind _ (rw (hashed-words s) at (r .masked-j .ensures cs))
-    (part-from (s .args .ws .now) (stage9-of n) 4 (k .select-all .ensures cs)))
+    (part-from (s .args .ws .now) (stage9-of n) 4 (k .stage10 .ensures cs)))
 
 pub mlkem-ending-spec : {M : Type 1} → statement M
 mlkem-ending-spec =
@@ -117,7 +117,7 @@ mlkem-ending-spec =
     (λ c. omega (arith, masks (begun (counts c)), stage9-of (counts c)))
     (λ c. omega (arith, masks (begun (counts c)), stage9-of (counts c)))
     (λ c. omega arith)
-    select-all-requires
+    stage10-requires
     (λ c. omega arith)
     (λ c. omega arith)
     returns)
