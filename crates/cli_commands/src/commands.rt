@@ -140,7 +140,10 @@ fn print_form(fd: i32, command: Command) {
 }
 
 fn print_sets(fd: i32) {
-    write(fd, b"SET is ml-kem-512, ml-kem-768 or ml-kem-1024");
+    write(
+        fd,
+        b"SET is ml-kem-512, ml-kem-768, ml-kem-1024, kyber512, kyber768 or kyber1024",
+    );
 }
 
 // For a command line with a wrong number of words, or with another word where a parameter set's name has to be.
@@ -177,7 +180,7 @@ fn print_mask_files(fd: i32) {
     );
     write(
         fd,
-        b"  STRIP        9588/11750/15192 words, 6400/7424/9472 coefficients\n",
+        b"  STRIP        9588/11750/15192 words (Kyber's 6588/6950/8592), 6400/7424/9472 coefficients\n",
     );
     write(
         fd,
@@ -188,7 +191,7 @@ fn print_mask_files(fd: i32) {
 fn print_files(fd: i32) {
     write(
         fd,
-        b"Files, low byte first, with three numbers where the sets differ:\n",
+        b"Files, low byte first, with three numbers where the ranks differ:\n",
     );
     write(fd, b"  D, Z, M, K   32 bytes each\n");
     print_key_files(fd);

@@ -6,8 +6,8 @@ use cli_support::outputs::write_pair;
 use cli_support::sets::Sizes;
 use parameters::Edition;
 
-fn write_keys(rank: u32, d: &[u8], z: &[u8], ek: &mut [u8], dk: &mut [u8]) {
-    if is_refused(mlkem::keygen(Edition::MlKem, rank, d, z, ek, dk)) {
+fn write_keys(e: Edition, rank: u32, d: &[u8], z: &[u8], ek: &mut [u8], dk: &mut [u8]) {
+    if is_refused(mlkem::keygen(e, rank, d, z, ek, dk)) {
         return;
     }
     write_pair(5, ek, 6, dk);
@@ -17,6 +17,7 @@ fn write_keys(rank: u32, d: &[u8], z: &[u8], ek: &mut [u8], dk: &mut [u8]) {
 pub fn keygen(set: Sizes)
     requires { ⌜ Bounded set ⌝ }
 {
+    let e = set.edition;
     let mut d = [0u8; 32];
     let mut z = [0u8; 32];
     if !read_exact(3, &mut d) {
@@ -29,25 +30,25 @@ pub fn keygen(set: Sizes)
     let mut dk = [0u8; 3168];
     let m = set.ek;
     let n = set.dk;
-    write_keys(set.k as u32, &d, &z, &mut ek[0..m], &mut dk[0..n]);
+    write_keys(e, set.k as u32, &d, &z, &mut ek[0..m], &mut dk[0..n]);
 }
 
-fn write_encapsulated(rank: u32, ek: &[u8], m: &[u8], ct: &mut [u8]) {
+fn write_encapsulated(e: Edition, rank: u32, ek: &[u8], m: &[u8], ct: &mut [u8]) {
     let mut k = [0u8; 32];
-    if is_refused(mlkem::encaps(Edition::MlKem, rank, ek, m, ct, &mut k)) {
+    if is_refused(mlkem::encaps(e, rank, ek, m, ct, &mut k)) {
         return;
     }
     write_pair(5, ct, 6, &k);
 }
 
 // With the files of arguments 3 and 4, a public key and a message.
-fn encapsulate(rank: u32, ek: &mut [u8], ct: &mut [u8]) {
+fn encapsulate(e: Edition, rank: u32, ek: &mut [u8], ct: &mut [u8]) {
     let mut m = [0u8; 32];
     if !read_exact(3, ek) {
         return;
     }
     if read_exact(4, &mut m) {
-        write_encapsulated(rank, ek, &m, ct);
+        write_encapsulated(e, rank, ek, &m, ct);
     }
 }
 
@@ -55,9 +56,10 @@ fn encapsulate(rank: u32, ek: &mut [u8], ct: &mut [u8]) {
 pub fn encaps(set: Sizes)
     requires { ⌜ Bounded set ⌝ }
 {
+    let e = set.edition;
     let mut ek = [0u8; 1568];
     let mut ct = [0u8; 1568];
     let m = set.ek;
     let n = set.ct;
-    encapsulate(set.k as u32, &mut ek[0..m], &mut ct[0..n]);
+    encapsulate(e, set.k as u32, &mut ek[0..m], &mut ct[0..n]);
 }

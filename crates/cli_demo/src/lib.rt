@@ -54,6 +54,7 @@ fn print_encapsulated(ek: &[u8], dk: &[u8], ct: &[u8], secret: &[u8])
 }
 
 fn decapsulate(
+    e: Edition,
     rank: u32,
     s0: &[u16],
     s1: &[u16],
@@ -68,7 +69,7 @@ fn decapsulate(
     let mut k0 = [0u64; 4];
     let mut k1 = [0u64; 4];
     let answer = decapsulation::decaps(
-        Edition::MlKem,
+        e,
         rank,
         s0,
         s1,
@@ -90,6 +91,7 @@ fn decapsulate(
 
 // The ciphertext's first bit is changed, and changed back.
 fn decapsulate_damaged(
+    e: Edition,
     rank: u32,
     s0: &[u16],
     s1: &[u16],
@@ -104,12 +106,13 @@ fn decapsulate_damaged(
     requires { ⌜ 0 < length (now ct) ⌝ }
 {
     ct[0] = ct[0] ^ 1;
-    let done = decapsulate(rank, s0, s1, z0, z1, public, ct, words, coeffs, secret);
+    let done = decapsulate(e, rank, s0, s1, z0, z1, public, ct, words, coeffs, secret);
     ct[0] = ct[0] ^ 1;
     done
 }
 
 fn trace(
+    e: Edition,
     rank: u32,
     s0: &[u16],
     s1: &[u16],
@@ -123,7 +126,7 @@ fn trace(
 ) -> bool {
     let mut value: u64 = 0;
     let answer = decapsulation::trace(
-        Edition::MlKem,
+        e,
         rank,
         s0,
         s1,
@@ -145,6 +148,7 @@ fn trace(
 
 // Decapsulation of the ciphertext and of a damaged one, and three steps of the first.
 fn run_ciphertexts(
+    e: Edition,
     rank: u32,
     last_step: u64,
     s0: &[u16],
@@ -160,17 +164,30 @@ fn run_ciphertexts(
     requires { ⌜ 0 < length (now ct) ⌝ }
 {
     print(b"decapsulation\n");
-    let own = decapsulate(rank, s0, s1, z0, z1, public, ct, words, coeffs, secret);
+    let own = decapsulate(e, rank, s0, s1, z0, z1, public, ct, words, coeffs, secret);
     print(b"decapsulation, the ciphertext's first bit changed\n");
-    let other = decapsulate_damaged(rank, s0, s1, z0, z1, public, ct, words, coeffs, secret);
+    let other = decapsulate_damaged(e, rank, s0, s1, z0, z1, public, ct, words, coeffs, secret);
     print(b"trace of the first decapsulation\n");
-    let first = trace(rank, s0, s1, z0, z1, public, ct, words, coeffs, 0);
-    let second = trace(rank, s0, s1, z0, z1, public, ct, words, coeffs, 256);
-    let last = trace(rank, s0, s1, z0, z1, public, ct, words, coeffs, last_step);
+    let first = trace(e, rank, s0, s1, z0, z1, public, ct, words, coeffs, 0);
+    let second = trace(e, rank, s0, s1, z0, z1, public, ct, words, coeffs, 256);
+    let last = trace(
+        e,
+        rank,
+        s0,
+        s1,
+        z0,
+        z1,
+        public,
+        ct,
+        words,
+        coeffs,
+        last_step,
+    );
     own & other & first & second & last
 }
 
 fn run_imported(
+    e: Edition,
     rank: u32,
     last_step: u64,
     dk: &[u8],
@@ -203,6 +220,7 @@ fn run_imported(
         return false;
     }
     run_ciphertexts(
+        e,
         rank,
         last_step,
         s0,
@@ -229,12 +247,14 @@ fn run_split(
 ) -> bool
     requires { ⌜ Bounded set × (0 < length (now ct)) ⌝ }
 {
+    let e = set.edition;
     let mut s0 = [0u16; 1024];
     let mut s1 = [0u16; 1024];
     let mut public = [0u8; 1600];
     let m = set.coefficients;
     let n = set.public;
     run_imported(
+        e,
         set.k as u32,
         set.steps - 1,
         dk,
@@ -252,6 +272,7 @@ fn run_split(
 
 // The seeds are d, z and m.
 fn encapsulate(
+    e: Edition,
     rank: u32,
     seeds: &[u8],
     ek: &mut [u8],
@@ -261,10 +282,10 @@ fn encapsulate(
 ) -> bool
     requires { ⌜ KeyLent (now seeds) (now ek) (now dk) (now ct) ⌝ }
 {
-    if is_refused(mlkem::keygen(Edition::MlKem, rank, &seeds[0..32], &seeds[32..64], ek, dk)) {
+    if is_refused(mlkem::keygen(e, rank, &seeds[0..32], &seeds[32..64], ek, dk)) {
         return false;
     }
-    if is_refused(mlkem::encaps(Edition::MlKem, rank, ek, &seeds[64..96], ct, secret)) {
+    if is_refused(mlkem::encaps(e, rank, ek, &seeds[64..96], ct, secret)) {
         return false;
     }
     print_encapsulated(ek, dk, ct, secret);
@@ -284,8 +305,9 @@ fn run_encapsulated(
 ) -> bool
     requires { ⌜ Bounded set × KeyLent (now seeds) (now ek) (now dk) (now ct) ⌝ }
 {
+    let e = set.edition;
     let mut secret = [0u8; 32];
-    if !encapsulate(set.k as u32, seeds, ek, dk, ct, &mut secret) {
+    if !encapsulate(e, set.k as u32, seeds, ek, dk, ct, &mut secret) {
         return false;
     }
     run_split(set, dk, ct, &secret, mask_coeffs, mask_words, words, coeffs)

@@ -1,8 +1,9 @@
--- FIPS 203's three sets lie within the bounds: their numbers, with the counts of the table, are compared.
+-- The three sets lie within the bounds in either edition: their numbers, with the counts of the table, are compared.
 use mathlib.Core.Path.{_≡_}
 use Prim.Native.Nat.{ℕ}
 use borrow.Author.Needs.{needs}
-use Rattle.parameters.specs.declared.Edition.the-variants.{MlKem}
+use Rattle.parameters.specs.declared.Edition.{Edition}
+use Rattle.parameters.specs.declared.Edition.the-variants.{MlKem, Kyber}
 use Rattle.parameters.specs.declared.Parameters.{Parameters}
 use Rattle.parameters.specs.Sets.{mlKem512, mlKem768, mlKem1024}
 use Rattle.parameters.specs.Ranks.{ofRank}
@@ -15,18 +16,24 @@ use Rattle.cli_support.specs.Bounded.{Between, SetBounded}
 
 -- a set whose counts are known lies within the bounds if its numbers do
 listed :
-    (p : Parameters) {w c s : ℕ}
-    → stripWords MlKem p ≡ w
+    (e : Edition) (p : Parameters) {w c s : ℕ}
+    → stripWords e p ≡ w
     → stripCoeffs p ≡ c
-    → steps MlKem p ≡ s
+    → steps e p ≡ s
     → Between (p .k) (ekBytes p) (dkBytes p) (ctBytes p) w c s
-    → SetBounded p
-listed p ew ec es b = rw (ew, ec, es) b
+    → SetBounded e p
+listed e p ew ec es b = rw (ew, ec, es) b
 
-pub bounded : (rank : ℕ) → SetBounded (ofRank rank)
-bounded =
+pub bounded : (e : Edition) (rank : ℕ) → SetBounded e (ofRank rank)
+bounded MlKem =
     let t = countsTable in
-    each-set SetBounded
-    (listed mlKem512 (t .words512 .strip) (t .coeffs512 .strip) (t .entries512 .steps) (search needs))
-    (listed mlKem768 (t .words768 .strip) (t .coeffs768 .strip) (t .entries768 .steps) (search needs))
-    (listed mlKem1024 (t .words1024 .strip) (t .coeffs1024 .strip) (t .entries1024 .steps) (search needs))
+    each-set (SetBounded MlKem)
+    (listed MlKem mlKem512 (t .words512 .strip) (t .coeffs512 .strip) (t .entries512 .steps) (search needs))
+    (listed MlKem mlKem768 (t .words768 .strip) (t .coeffs768 .strip) (t .entries768 .steps) (search needs))
+    (listed MlKem mlKem1024 (t .words1024 .strip) (t .coeffs1024 .strip) (t .entries1024 .steps) (search needs))
+bounded Kyber =
+    let t = countsTable in
+    each-set (SetBounded Kyber)
+    (listed Kyber mlKem512 (t .words512 .kyberStrip) (t .coeffs512 .strip) (t .entries512 .kyberSteps) (search needs))
+    (listed Kyber mlKem768 (t .words768 .kyberStrip) (t .coeffs768 .strip) (t .entries768 .kyberSteps) (search needs))
+    (listed Kyber mlKem1024 (t .words1024 .kyberStrip) (t .coeffs1024 .strip) (t .entries1024 .kyberSteps) (search needs))

@@ -1,7 +1,8 @@
--- A parameter set's lengths and counts lie between those of ML-KEM-512 and those of ML-KEM-1024.
+-- A parameter set's lengths and an edition's counts lie between the smallest and the largest of the three sets and of
+-- both editions.
 use mathlib.Core.Path.{_≡_}
 use Prim.Native.Nat.{ℕ, _+_, _*_}
-use Rattle.parameters.specs.declared.Edition.the-variants.{MlKem}
+use Rattle.parameters.specs.declared.Edition.{Edition}
 use Rattle.parameters.specs.declared.Parameters.{Parameters}
 use Rattle.parameters.specs.Lengths.{ekBytes, dkBytes, ctBytes}
 use Rattle.parameters.specs.Fits.{Within}
@@ -14,9 +15,9 @@ pub record Between (k ek₀ dk₀ ct₀ words₀ coeffs₀ steps₀ : ℕ) : Typ
   pub ek : Within 800 1568 ek₀
   pub dk : Within 1632 3168 dk₀
   pub ct : Within 768 1568 ct₀
-  pub words : Within 9588 15192 words₀
+  pub words : Within 6588 15192 words₀
   pub coeffs : Within 6400 9472 coeffs₀
-  pub steps : Within 155928 242052 steps₀
+  pub steps : Within 116638 242052 steps₀
 
 -- so do these; the coefficients of a share and the bytes of the public key with h are what the rank says
 pub record Bounded (s : Sizes) : Type 0 where
@@ -24,6 +25,6 @@ pub record Bounded (s : Sizes) : Type 0 where
   pub coefficients : s .coefficients ≡ 256 * s .k
   pub public : s .public ≡ 384 * s .k + 64
 
--- the bounds of the set, whose sizes these are
-abbrev pub SetBounded : Parameters → Type 0
-SetBounded p = Between (p .k) (ekBytes p) (dkBytes p) (ctBytes p) (stripWords MlKem p) (stripCoeffs p) (steps MlKem p)
+-- the bounds of the set, whose sizes these are in an edition
+abbrev pub SetBounded : Edition → Parameters → Type 0
+SetBounded e p = Between (p .k) (ekBytes p) (dkBytes p) (ctBytes p) (stripWords e p) (stripCoeffs p) (steps e p)

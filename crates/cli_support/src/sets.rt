@@ -1,4 +1,4 @@
-// The parameter sets: their names on the command line, and the sizes of what their calls are lent.
+// The parameter sets of each edition: their names on the command line, and the sizes of what their calls are lent.
 ghost use Rattle.parameters.specs.Fits.{Fits};
 ghost use Rattle.cli_support.specs.Bounded.{Bounded, SetBounded};
 use crate::arguments::same;
@@ -12,33 +12,44 @@ use stages::entry_counts::steps;
 use stages::mask_counts::strip_coeffs;
 use stages::mask_counts::strip_words;
 
-pub enum Rank {
-    Is(u32),
+// An edition, and the rank of its set.
+pub enum Set {
+    Is(Edition, u32),
     None,
 }
 
-// The rank of the set that a word names.
-fn rank_named(word: &[u8]) -> Rank {
+// The set that a word names.
+fn set_named(word: &[u8]) -> Set {
     if same(word, b"ml-kem-512") {
-        return Rank::Is(2);
+        return Set::Is(Edition::MlKem, 2);
     }
     if same(word, b"ml-kem-768") {
-        return Rank::Is(3);
+        return Set::Is(Edition::MlKem, 3);
     }
     if same(word, b"ml-kem-1024") {
-        return Rank::Is(4);
+        return Set::Is(Edition::MlKem, 4);
     }
-    Rank::None
+    if same(word, b"kyber512") {
+        return Set::Is(Edition::Kyber, 2);
+    }
+    if same(word, b"kyber768") {
+        return Set::Is(Edition::Kyber, 3);
+    }
+    if same(word, b"kyber1024") {
+        return Set::Is(Edition::Kyber, 4);
+    }
+    Set::None
 }
 
-// The rank of the set that argument i names.
-pub fn rank_at(i: usize) -> Rank {
+// The set that argument i names.
+pub fn set_at(i: usize) -> Set {
     let mut word = [0u8; 16];
     let n = os::arg(i, &mut word);
-    rank_named(&word[..n])
+    set_named(&word[..n])
 }
 
 pub struct Sizes {
+    pub edition: Edition,
     pub k: usize, // the rank
     pub coefficients: usize, // of a share
     pub ek: usize, // bytes
@@ -50,25 +61,26 @@ pub struct Sizes {
     pub steps: u64,
 }
 
-fn measured(p: Parameters) -> Sizes
-    requires { ⌜ Fits p × SetBounded p ⌝ }
+fn measured(e: Edition, p: Parameters) -> Sizes
+    requires { ⌜ Fits p × SetBounded e p ⌝ }
     ensures { λ r. ⌜ Bounded r ⌝ }
 {
     Sizes {
+        edition: e,
         k: p.k,
         coefficients: 256 * p.k,
         ek: ek_bytes(p),
         dk: dk_bytes(p),
         ct: ct_bytes(p),
         public: ek_bytes(p) + 32,
-        words: strip_words(Edition::MlKem, p),
+        words: strip_words(e, p),
         coeffs: strip_coeffs(p),
-        steps: steps(Edition::MlKem, p) as u64,
+        steps: steps(e, p) as u64,
     }
 }
 
-pub fn sizes_of(rank: u32) -> Sizes
+pub fn sizes_of(e: Edition, rank: u32) -> Sizes
     ensures { λ r. ⌜ Bounded r ⌝ }
 {
-    measured(of_rank(rank))
+    measured(e, of_rank(rank))
 }

@@ -24,6 +24,7 @@ enum Asked {
 }
 
 fn write_shares(
+    e: Edition,
     rank: u32,
     s0: &[u16],
     s1: &[u16],
@@ -37,7 +38,7 @@ fn write_shares(
     let mut k0 = [0u64; 4];
     let mut k1 = [0u64; 4];
     let answer = decapsulation::decaps(
-        Edition::MlKem,
+        e,
         rank,
         s0,
         s1,
@@ -59,6 +60,7 @@ fn write_shares(
 }
 
 fn print_step(
+    e: Edition,
     rank: u32,
     s0: &[u16],
     s1: &[u16],
@@ -72,7 +74,7 @@ fn print_step(
 ) {
     let mut value: u64 = 0;
     let answer = decapsulation::trace(
-        Edition::MlKem,
+        e,
         rank,
         s0,
         s1,
@@ -96,6 +98,7 @@ fn print_step(
 
 // With the file of argument 5, a strip.
 fn run_strip(
+    e: Edition,
     rank: u32,
     asked: Asked,
     s0: &[u16],
@@ -113,8 +116,8 @@ fn run_strip(
         return;
     }
     match asked {
-        Asked::Shares => write_shares(rank, s0, s1, z0, z1, public, ct, words, coeffs),
-        Asked::Step(step) => print_step(rank, s0, s1, z0, z1, public, ct, words, coeffs, step),
+        Asked::Shares => write_shares(e, rank, s0, s1, z0, z1, public, ct, words, coeffs),
+        Asked::Step(step) => print_step(e, rank, s0, s1, z0, z1, public, ct, words, coeffs, step),
     }
 }
 
@@ -134,11 +137,13 @@ fn run_ciphertext(
     if !read_exact(4, ct) {
         return;
     }
+    let e = set.edition;
     let mut words = strip_file::words();
     let mut coeffs = strip_file::coefficients();
     let m = set.words;
     let n = set.coeffs;
     run_strip(
+        e,
         set.k as u32,
         asked,
         s0,

@@ -9,9 +9,9 @@ use cli_commands::keys;
 use cli_commands::sampling;
 use cli_commands::splitting;
 use cli_support::messages;
-use cli_support::sets::Rank;
+use cli_support::sets::Set;
 use cli_support::sets::Sizes;
-use cli_support::sets::rank_at;
+use cli_support::sets::set_at;
 use cli_support::sets::sizes_of;
 use libc::STDERR_FILENO;
 use libc::STDOUT_FILENO;
@@ -33,11 +33,11 @@ fn run_call(call: Call, set: Sizes)
 
 // For the parameter set that argument 2 names.
 fn run_named(call: Call) {
-    let Rank::Is(rank) = rank_at(2) else {
+    let Set::Is(e, rank) = set_at(2) else {
         commands::print_form_line(Command::Calling(call));
         return;
     };
-    run_call(call, sizes_of(rank));
+    run_call(call, sizes_of(e, rank));
 }
 
 fn run(command: Command) {
