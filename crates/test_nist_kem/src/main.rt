@@ -4,29 +4,20 @@ ghost use mathlib.Core.Path.{_≡_};
 ghost use Prim.Native.Nat.{_+_, _≤_};
 ghost use lib.ListN.{length};
 ghost use Rattle.test_support.specs.Sizes.{Bounded};
-use masked::decaps;
 use parameters::Edition;
 use refusals::conditions::same;
 use refusals::number;
+use test_known_answers::Function;
+use test_known_answers::masked::decaps;
 use test_records::Found;
 use test_records::Tally;
 use test_records::add;
 use test_records::agrees;
 use test_records::fill;
 use test_records::finish;
-use test_records::open;
 use test_support::masks::Masks;
 use test_support::sizes::Sizes;
 use test_support::sizes::of_rank;
-use test_support::sizes::print_name;
-
-mod masked; // masked decapsulation under a key as bytes
-
-enum Function {
-    KeyGen,
-    Encapsulation,
-    Decapsulation(Masks),
-}
 
 // ---- the calls, held to what is published
 
@@ -213,36 +204,25 @@ fn take_file(s: Sizes, function: Function, fd: i32, count: usize, dk: &mut [u8])
     take_all(s, function, dk, fd, count)
 }
 
-// Of three files the one of the rank's set.
-fn open_one(rank: u32, name: &[u8], of_512: &[u8], of_768: &[u8], of_1024: &[u8]) -> i32 {
-    if rank == 2 {
-        return open(name, of_512);
-    }
-    if rank == 3 {
-        return open(name, of_768);
-    }
-    open(name, of_1024)
-}
-
-fn open_file(rank: u32, function: Function, name: &[u8]) -> i32 {
+fn open_file(s: Sizes, function: Function) -> i32 {
     match function {
-        Function::KeyGen => open_one(
-            rank,
-            name,
+        Function::KeyGen => test_known_answers::open_file(
+            s,
+            function,
             b"ML-KEM-512-keyGen",
             b"ML-KEM-768-keyGen",
             b"ML-KEM-1024-keyGen",
         ),
-        Function::Encapsulation => open_one(
-            rank,
-            name,
+        Function::Encapsulation => test_known_answers::open_file(
+            s,
+            function,
             b"ML-KEM-512-encapsulation",
             b"ML-KEM-768-encapsulation",
             b"ML-KEM-1024-encapsulation",
         ),
-        Function::Decapsulation(_) => open_one(
-            rank,
-            name,
+        Function::Decapsulation(_) => test_known_answers::open_file(
+            s,
+            function,
             b"ML-KEM-512-decapsulation",
             b"ML-KEM-768-decapsulation",
             b"ML-KEM-1024-decapsulation",
@@ -250,11 +230,10 @@ fn open_file(rank: u32, function: Function, name: &[u8]) -> i32 {
     }
 }
 
-fn line(s: Sizes, function: Function, name: &[u8])
+fn line(s: Sizes, function: Function)
     requires { ⌜ Bounded s ⌝ }
 {
-    print_name(s);
-    let fd = open_file(s.rank, function, name);
+    let fd = open_file(s, function);
     if fd < 0 {
         return;
     }
@@ -266,23 +245,11 @@ fn line(s: Sizes, function: Function, name: &[u8])
 
 fn set(rank: u32) {
     let s = of_rank(Edition::MlKem, rank);
-    line(s, Function::KeyGen, b", key making");
-    line(s, Function::Encapsulation, b", encapsulation");
-    line(
-        s,
-        Function::Decapsulation(Masks::Zero),
-        b", decapsulation, strip zero",
-    );
-    line(
-        s,
-        Function::Decapsulation(Masks::Full),
-        b", decapsulation, strip full",
-    );
-    line(
-        s,
-        Function::Decapsulation(Masks::Drawn(2)),
-        b", decapsulation, strip drawn",
-    );
+    line(s, Function::KeyGen);
+    line(s, Function::Encapsulation);
+    line(s, Function::Decapsulation(Masks::Zero));
+    line(s, Function::Decapsulation(Masks::Full));
+    line(s, Function::Decapsulation(Masks::Drawn(2)));
 }
 
 fn main() {

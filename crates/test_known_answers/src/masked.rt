@@ -33,6 +33,7 @@ fn import(
 
 // The number of decapsulation's. Where it is 0, out is what the shares of K stand for.
 fn decaps_joined(
+    e: Edition,
     rank: u32,
     s0: &[u16],
     s1: &[u16],
@@ -50,7 +51,7 @@ fn decaps_joined(
     let mut k1 = [0u64; 4];
     let mut k = [0u64; 4];
     let answer = decapsulation::decaps(
-        Edition::MlKem,
+        e,
         rank,
         s0,
         s1,
@@ -70,6 +71,7 @@ fn decaps_joined(
 
 // The strip goes to words and coeffs.
 fn decaps_strip(
+    e: Edition,
     rank: u32,
     s0: &[u16],
     s1: &[u16],
@@ -86,7 +88,7 @@ fn decaps_strip(
 {
     masks::words(kind, b'w', words);
     masks::coefficients(kind, b'c', coeffs);
-    decaps_joined(rank, s0, s1, z0, z1, public, ct, words, coeffs, out)
+    decaps_joined(e, rank, s0, s1, z0, z1, public, ct, words, coeffs, out)
 }
 
 fn decaps_split(
@@ -104,9 +106,11 @@ fn decaps_split(
 {
     let mut words = [0u64; 15192];
     let mut coeffs = [0u16; 9472];
+    let e = s.edition;
     let a = s.words;
     let b = s.coeffs;
     decaps_strip(
+        e,
         s.rank,
         s0,
         s1,
@@ -157,14 +161,7 @@ fn decaps_in(
     first_refusal(imported, opened)
 }
 
-pub(crate) fn decaps(
-    s: Sizes,
-    dk: &[u8],
-    split: Masks,
-    ct: &[u8],
-    strip: Masks,
-    out: &mut [u8],
-) -> u64
+pub fn decaps(s: Sizes, dk: &[u8], split: Masks, ct: &[u8], strip: Masks, out: &mut [u8]) -> u64
     requires { ⌜ Bounded s × (length (now out) ≡ 32) ⌝ }
 {
     let mut mask_coeffs = [0u16; 1024];
