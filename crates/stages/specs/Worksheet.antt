@@ -83,22 +83,10 @@ stage10 b g rejected = selectAll 4 b g rejected
 abbrev pub lastHash : SharedList → List ℕ → Prog SharedList
 lastHash w c = maskedJ w (H c)
 
--- ---- what stages 1 to 8 hand on, and the rest, for z and the ciphertext
-
--- the equal bit, and stage 3's words
+-- what stages 1 to 8 hand on: the equal bit, and stage 3's words
 pub record Compared : Type 0 where
   pub equal : Shares
   pub g : SharedList
-
--- FIPS 203, Algorithm 18: line 7 is stage 9; lines 9 to 12 are stage 10, which gives K' or the rejected words.
--- Kyber, algorithm 9, lines 7 to 10: K' or z, selected as in stage 10, is hashed with the ciphertext's hash.
-unfoldable pub ending : Edition → Compared → SharedList → List ℕ → Prog SharedList
-ending MlKem o z c = do
-  rejected ← stage9 z c
-  stage10 (o .equal) (o .g) rejected
-ending Kyber o z c = do
-  w ← stage10 (o .equal) (o .g) z
-  lastHash w c
 
 module _ (p : Parameters) where
   -- ---- stage 1: w, the noisy message; the ciphertext's second part enters share 0
@@ -181,7 +169,18 @@ module _ (p : Parameters) where
     b ← stage8 c w
     ret (record { equal = b; g = g })
 
--- with the edition's ending
+-- What follows stage 8, for z and the ciphertext. FIPS 203, Algorithm 18: line 7 is stage 9; lines 9 to 12 are stage 10,
+-- which gives K' or the rejected words. Kyber, algorithm 9, lines 7 to 10: K' or z, selected as in stage 10, is hashed
+-- with the ciphertext's hash.
+unfoldable pub ending : Edition → Compared → SharedList → List ℕ → Prog SharedList
+ending MlKem o z c = do
+  rejected ← stage9 z c
+  stage10 (o .equal) (o .g) rejected
+ending Kyber o z c = do
+  w ← stage10 (o .equal) (o .g) z
+  lastHash w c
+
+-- stages 1 to 8 and the edition's ending
 unfoldable pub worksheet : Edition → Parameters → SplitKey → List ℕ → Prog SharedList
 worksheet e p key c = do
   o ← compared p key c
