@@ -12,6 +12,7 @@ use test_support::edges::Edge;
 use test_support::edges::Lengths;
 use test_support::edges::exact;
 use test_support::sizes::Sizes;
+use test_support::sizes::of_rank;
 use text::print;
 use text::print_decimal;
 
@@ -47,7 +48,15 @@ fn fault_at(rank: u32, part: Part, at: usize, v: u16) {
         v: v,
     };
     print_fault(fault);
-    lines(wrong(rank, fault, exact(Edition::MlKem, rank), rank), 0);
+    lines(
+        wrong(
+            of_rank(Edition::MlKem, rank),
+            fault,
+            exact(Edition::MlKem, rank),
+            rank,
+        ),
+        0,
+    );
 }
 
 // At the first and at the last place.
@@ -65,7 +74,7 @@ fn at_hundred(rank: u32, part: Part, lengths: Lengths) -> Case {
         at: 100,
         v: 3329,
     };
-    wrong(rank, fault, lengths, rank)
+    wrong(of_rank(Edition::MlKem, rank), fault, lengths, rank)
 }
 
 fn step(rank: u32, step: u64) {

@@ -1,6 +1,7 @@
 // Calls whose outputs hold 238 in each byte before, and whether they still do.
 ghost use mathlib.Core.Path.{_≡_};
 ghost use lib.ListN.{length};
+use parameters::Edition;
 use test_decaps_support::calls::decaps;
 use test_decaps_support::calls::trace;
 use test_decaps_support::case::Case;
@@ -11,6 +12,7 @@ use test_support::answers::print_refusal;
 use test_support::bytes::unchanged_words;
 use test_support::edges::Lengths;
 use test_support::edges::length_at;
+use test_support::sizes::of_rank;
 
 pub enum Call {
     Decaps,
@@ -47,7 +49,7 @@ pub fn print_spoiled(call: Call, rank: u32, lengths: Lengths, told: u32) {
         at: 0,
         v: 65535,
     };
-    let case = wrong(rank, fault, lengths, told);
+    let case = wrong(of_rank(Edition::MlKem, rank), fault, lengths, told);
     match call {
         Call::Decaps => print_decaps(case),
         Call::Trace => print_trace(case, 0xffff_ffff_ffff_ffff),

@@ -19,6 +19,7 @@ enum Asked {
 
 fn call(
     asked: Asked,
+    e: Edition,
     rank: u32,
     s0: &[u16],
     s1: &[u16],
@@ -34,24 +35,11 @@ fn call(
 ) -> Answer {
     match asked {
         Asked::Shares => {
-            decapsulation::decaps(
-                Edition::MlKem,
-                rank,
-                s0,
-                s1,
-                z0,
-                z1,
-                public,
-                ct,
-                words,
-                coeffs,
-                k0,
-                k1,
-            )
+            decapsulation::decaps(e, rank, s0, s1, z0, z1, public, ct, words, coeffs, k0, k1)
         }
         Asked::Step(step) => {
             decapsulation::trace(
-                Edition::MlKem,
+                e,
                 rank,
                 s0,
                 s1,
@@ -87,8 +75,10 @@ fn cut_strip(
     let a = lengths::length(case, 5);
     let b = lengths::length(case, 6);
     let c = lengths::length(case, 7);
+    let e = case.edition;
     call(
         asked,
+        e,
         case.told,
         s0,
         s1,

@@ -1,10 +1,13 @@
-// A case of decapsulation, told in numbers: the set, the turn whose key and ciphertext are taken, what is raised of the
-// key, the masks, what is wrong.
+// A case of decapsulation, told in numbers: the edition's set, the turn whose key and ciphertext are taken, what is
+// raised of the key, the masks, what is wrong.
+ghost use Rattle.test_support.specs.Sizes.{Bounded};
 use parameters::Edition;
 use test_keys::elsewhere::Raised;
 use test_support::edges::Lengths;
 use test_support::edges::exact;
 use test_support::masks::Masks;
+use test_support::sizes::Sizes;
+use test_support::sizes::of_rank;
 
 // The turn's own, its random one, or its own with byte .0 exclusive or .1.
 pub enum Ciphertext {
@@ -30,8 +33,9 @@ pub struct Fault {
     pub v: u16,
 }
 
-// The key is of the rank's set, and split under masks of one kind; the strip is of another.
+// The key is of the edition's set of the rank, and split under masks of one kind; the strip is of another.
 pub struct Case {
+    pub edition: Edition,
     pub rank: u32,
     pub turn: usize,
     pub raised: Raised,
@@ -43,9 +47,17 @@ pub struct Case {
     pub told: u32, // the rank that the call is told
 }
 
+// That set.
+pub fn sizes(case: Case) -> Sizes
+    ensures { λ r. ⌜ Bounded r ⌝ }
+{
+    let e = case.edition;
+    of_rank(e, case.rank)
+}
+
 // Nothing is wrong.
 pub fn right(
-    rank: u32,
+    s: Sizes,
     turn: usize,
     raised: Raised,
     ciphertext: Ciphertext,
@@ -57,9 +69,11 @@ pub fn right(
         at: 0,
         v: 0,
     };
-    let lengths = exact(Edition::MlKem, rank);
+    let e = s.edition;
+    let lengths = exact(e, s.rank);
     Case {
-        rank: rank,
+        edition: e,
+        rank: s.rank,
         turn: turn,
         raised: raised,
         ciphertext: ciphertext,
@@ -67,14 +81,16 @@ pub fn right(
         strip: strip,
         fault: fault,
         lengths: lengths,
-        told: rank,
+        told: s.rank,
     }
 }
 
 // Turn 0's key and ciphertext, with something wrong.
-pub fn wrong(rank: u32, fault: Fault, lengths: Lengths, told: u32) -> Case {
+pub fn wrong(s: Sizes, fault: Fault, lengths: Lengths, told: u32) -> Case {
+    let e = s.edition;
     Case {
-        rank: rank,
+        edition: e,
+        rank: s.rank,
         turn: 0,
         raised: Raised::None,
         ciphertext: Ciphertext::True,

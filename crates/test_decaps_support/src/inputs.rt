@@ -7,7 +7,7 @@ use crate::case::Case;
 use crate::case::Ciphertext;
 use crate::case::Fault;
 use crate::case::Part;
-use parameters::Edition;
+use crate::case::sizes;
 use refusals::Answer;
 use test_keys::elsewhere::raise_key;
 use test_keys::turn;
@@ -15,7 +15,6 @@ use test_support::bytes::set_coefficients;
 use test_support::masks;
 use test_support::masks::Masks;
 use test_support::sizes::Sizes;
-use test_support::sizes::of_rank;
 
 fn damage(ct: &mut [u8], at: usize, bits: u8) {
     if at < ct.len() {
@@ -194,7 +193,7 @@ pub fn make(
     requires { ⌜ Longest (now s0) (now s1) (now z0) (now z1) (now public) (now ct) (now words) (now coeffs) ⌝ }
 {
     let mut dk = [0u8; 3168];
-    let s = of_rank(Edition::MlKem, case.rank);
+    let s = sizes(case);
     let n = s.dk;
     let strip = case.strip;
     let fault = case.fault;

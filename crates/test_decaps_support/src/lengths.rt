@@ -2,11 +2,10 @@
 ghost use Prim.Native.Nat.{_<_};
 ghost use Rattle.test_support.specs.Sizes.{Bounded};
 use crate::case::Case;
-use parameters::Edition;
+use crate::case::sizes;
 use test_support::edges::length_at;
 use test_support::edges::set_of;
 use test_support::sizes::Sizes;
-use test_support::sizes::of_rank;
 
 // What buffer i should have.
 pub fn right_length(s: Sizes, i: usize) -> usize
@@ -26,7 +25,7 @@ pub fn right_length(s: Sizes, i: usize) -> usize
 // What the case says.
 pub fn length(case: Case, i: usize) -> usize {
     let lengths = case.lengths;
-    let n = right_length(of_rank(Edition::MlKem, case.rank), i);
+    let n = right_length(sizes(case), i);
     let m = right_length(set_of(lengths), i);
     length_at(lengths, i, n, m, 20000)
 }

@@ -4,14 +4,17 @@ ghost use mathlib.Core.Path.{_≡_};
 ghost use Prim.Native.Nat.{_≤_};
 ghost use lib.ListN.{length};
 ghost use Rattle.test_support.specs.Sizes.{Bounded};
+use parameters::Edition;
 use refusals::conditions::same;
 use test_decaps_support::calls::decaps_joined;
 use test_decaps_support::case::Case;
 use test_decaps_support::case::Ciphertext;
 use test_decaps_support::case::right;
+use test_decaps_support::case::sizes;
 use test_keys::elsewhere::Raised;
 use test_support::masks::Masks;
 use test_support::sizes::Sizes;
+use test_support::sizes::of_rank;
 use text::print;
 use text::print_decimal;
 use text::print_hex;
@@ -31,7 +34,7 @@ fn masked(case: Case, i: usize) -> Case {
     let raised = case.raised;
     let ciphertext = case.ciphertext;
     right(
-        case.rank,
+        sizes(case),
         case.turn,
         raised,
         ciphertext,
@@ -77,7 +80,7 @@ fn line(name: &[u8], case: Case) {
 
 fn drawn(rank: u32, turn: usize, raised: Raised, ciphertext: Ciphertext) -> Case {
     right(
-        rank,
+        of_rank(Edition::MlKem, rank),
         turn,
         raised,
         ciphertext,

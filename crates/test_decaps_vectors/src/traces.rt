@@ -148,7 +148,7 @@ fn print_traces(case: Case) {
 
 fn drawn(rank: u32, raised: Raised, ciphertext: Ciphertext) -> Case {
     right(
-        rank,
+        of_rank(Edition::MlKem, rank),
         0,
         raised,
         ciphertext,

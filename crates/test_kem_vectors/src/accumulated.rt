@@ -18,10 +18,10 @@ use text::print_decimal;
 use text::print_hex;
 
 // The turn's key, under masks that have the turn's number.
-fn drawn(rank: u32, turn: usize, ciphertext: Ciphertext) -> Case {
+fn drawn(s: Sizes, turn: usize, ciphertext: Ciphertext) -> Case {
     let n = (turn % 100) as u8;
     right(
-        rank,
+        s,
         turn,
         Raised::None,
         ciphertext,
@@ -31,12 +31,12 @@ fn drawn(rank: u32, turn: usize, ciphertext: Ciphertext) -> Case {
 }
 
 // 1 where decapsulation of the turn's ciphertext gives its secret.
-fn decaps_own(rank: u32, turn: usize, k: &[u8]) -> usize
+fn decaps_own(s: Sizes, turn: usize, k: &[u8]) -> usize
     requires { ⌜ length (now k) ≡ 32 ⌝ }
     ensures { λ r. ⌜ r ≤ 1 ⌝ }
 {
     let mut out = [0u8; 32];
-    decaps_joined(drawn(rank, turn, Ciphertext::True), &mut out);
+    decaps_joined(drawn(s, turn, Ciphertext::True), &mut out);
     if same(&out, k) { 1 } else { 0 }
 }
 
@@ -68,7 +68,7 @@ fn put_own_in(
     let mut k = [0u8; 32];
     make(s, turn, ek, dk, ct, &mut k);
     put(s, ek, ct, &k, feed);
-    decaps_own(s.rank, turn, &k)
+    decaps_own(s, turn, &k)
 }
 
 fn put_own(s: Sizes, turn: usize, feed: &mut [u8]) -> usize
@@ -91,7 +91,7 @@ fn take_turn(s: Sizes, turn: usize, feed: &mut [u8]) -> usize
 {
     let c = s.ek + s.ct + 32;
     let found = put_own(s, turn, feed);
-    decaps_joined(drawn(s.rank, turn, Ciphertext::Random), &mut feed[c..]);
+    decaps_joined(drawn(s, turn, Ciphertext::Random), &mut feed[c..]);
     found
 }
 

@@ -1,5 +1,5 @@
-// The calls of the three parameter sets on public seeds, and sampling from streams at the edges. What it prints is held
-// to the file stdout, whose values come from another implementation (tools/kem_vectors).
+// The calls of each edition's parameter sets on public seeds, and sampling from streams at the edges. What it prints is
+// held to the file stdout, whose values come from another implementation (tools/kem_vectors).
 use parameters::Edition;
 use test_support::sizes::of_rank;
 use test_support::sizes::print_name;
@@ -9,17 +9,22 @@ mod accumulated;
 mod sampling;
 mod turns;
 
-fn set(rank: u32) {
-    let s = of_rank(Edition::MlKem, rank);
+fn set(e: Edition, rank: u32) {
+    let s = of_rank(e, rank);
     print_name(s);
     print(b"\n");
     turns::run(s);
     accumulated::run(s);
 }
 
+fn edition(e: Edition) {
+    for rank in 2..5 {
+        set(e, rank);
+    }
+}
+
 fn main() {
     sampling::run();
-    for rank in 2..5 {
-        set(rank);
-    }
+    edition(Edition::MlKem);
+    edition(Edition::Kyber);
 }
