@@ -36,4 +36,5 @@ bounded Kyber =
     each-set (SetBounded Kyber)
     (listed Kyber mlKem512 (t .words512 .kyberStrip) (t .coeffs512 .strip) (t .entries512 .kyberSteps) (search needs))
     (listed Kyber mlKem768 (t .words768 .kyberStrip) (t .coeffs768 .strip) (t .entries768 .kyberSteps) (search needs))
-    (listed Kyber mlKem1024 (t .words1024 .kyberStrip) (t .coeffs1024 .strip) (t .entries1024 .kyberSteps) (search needs))
+    (listed Kyber mlKem1024 (t .words1024 .kyberStrip) (t .coeffs1024 .strip) (t .entries1024 .kyberSteps)
+    (search needs))
