@@ -13,15 +13,19 @@ def print_lengths(calls):
                 print(f"{call}, buffer {at} {edge}: refused 1, unchanged")
 
 
-def print_sisters(p, calls):
+def print_other(p, other, calls):
     """Each buffer with the length that it has in another set, where that is another length; then all buffers."""
+    for call in calls:
+        for at, (ours, theirs) in enumerate(zip(p.lent[call], other.lent[call])):
+            if ours != theirs:
+                print(f"{call}, buffer {at} as in {other.name}: refused 1, unchanged")
+    for call in calls:
+        print(f"{call}, all buffers as in {other.name}: refused 1, unchanged")
+
+
+def print_sisters(p, calls):
     for sister in sisters(p):
-        for call in calls:
-            for at, (ours, theirs) in enumerate(zip(p.lent[call], sister.lent[call])):
-                if ours != theirs:
-                    print(f"{call}, buffer {at} as in {sister.name}: refused 1, unchanged")
-        for call in calls:
-            print(f"{call}, all buffers as in {sister.name}: refused 1, unchanged")
+        print_other(p, sister, calls)
 
 
 def print_no_ranks(calls):

@@ -229,3 +229,8 @@ NAMED = {p.name.lower(): p for p in ALL_SETS}  # as the program mlkem names them
 def sisters(p):
     """The edition's other sets."""
     return [sister for sister in ALL_SETS if sister.edition == p.edition and sister != p]
+
+
+def twin(p):
+    """The other edition's set of the same rank."""
+    return next(other for other in ALL_SETS if other.edition != p.edition and other.k == p.k)

@@ -2,7 +2,6 @@
 ghost use Rattle.test_support.specs.Sizes.{Bounded};
 use crate::refused::print_decaps;
 use crate::refused::print_trace;
-use parameters::Edition;
 use test_decaps_support::case::Case;
 use test_decaps_support::case::Fault;
 use test_decaps_support::case::Part;
@@ -12,7 +11,6 @@ use test_support::edges::Edge;
 use test_support::edges::Lengths;
 use test_support::edges::exact;
 use test_support::sizes::Sizes;
-use test_support::sizes::of_rank;
 use text::print;
 use text::print_decimal;
 
@@ -41,83 +39,70 @@ fn print_fault(fault: Fault) {
     print(b"\n");
 }
 
-fn fault_at(rank: u32, part: Part, at: usize, v: u16) {
+fn fault_at(s: Sizes, part: Part, at: usize, v: u16) {
+    let e = s.edition;
     let fault = Fault {
         part: part,
         at: at,
         v: v,
     };
     print_fault(fault);
-    lines(
-        wrong(
-            of_rank(Edition::MlKem, rank),
-            fault,
-            exact(Edition::MlKem, rank),
-            rank,
-        ),
-        0,
-    );
+    lines(wrong(s, fault, exact(e, s.rank), s.rank), 0);
 }
 
 // At the first and at the last place.
-fn faults(rank: u32, part: Part, last: usize) {
-    fault_at(rank, part, 0, 3329);
-    fault_at(rank, part, 0, 65535);
-    fault_at(rank, part, last, 3329);
-    fault_at(rank, part, last, 65535);
+fn faults(s: Sizes, part: Part, last: usize) {
+    fault_at(s, part, 0, 3329);
+    fault_at(s, part, 0, 65535);
+    fault_at(s, part, last, 3329);
+    fault_at(s, part, last, 65535);
 }
 
 // Coefficient 100 of the part is out of range.
-fn at_hundred(rank: u32, part: Part, lengths: Lengths) -> Case {
+fn at_hundred(s: Sizes, part: Part, lengths: Lengths) -> Case {
     let fault = Fault {
         part: part,
         at: 100,
         v: 3329,
     };
-    wrong(of_rank(Edition::MlKem, rank), fault, lengths, rank)
+    wrong(s, fault, lengths, s.rank)
 }
 
-fn step(rank: u32, step: u64) {
+fn step(s: Sizes, step: u64) {
+    let e = s.edition;
     print(b"step ");
     print_decimal(step);
     print(b"\n");
-    lines(
-        at_hundred(rank, Part::None, exact(Edition::MlKem, rank)),
-        step,
-    );
+    lines(at_hundred(s, Part::None, exact(e, s.rank)), step);
 }
 
 // The step is past the end; further faults come one after the other.
-fn rows(rank: u32, past: u64) {
-    step(rank, past);
-    print(b"and a share\n");
-    lines(
-        at_hundred(rank, Part::SecondShare, exact(Edition::MlKem, rank)),
-        past,
-    );
-    print(b"and a mask\n");
-    lines(
-        at_hundred(rank, Part::Both, exact(Edition::MlKem, rank)),
-        past,
-    );
-    print(b"and a length\n");
+fn rows(s: Sizes, past: u64) {
+    let e = s.edition;
+    let right = exact(e, s.rank);
     let short = Lengths {
         at: At::Buffer(5),
         edge: Edge::Short,
-        edition: Edition::MlKem,
-        of: rank,
+        edition: e,
+        of: s.rank,
     };
-    lines(at_hundred(rank, Part::Both, short), past);
+    step(s, past);
+    print(b"and a share\n");
+    lines(at_hundred(s, Part::SecondShare, right), past);
+    print(b"and a mask\n");
+    lines(at_hundred(s, Part::Both, right), past);
+    print(b"and a length\n");
+    lines(at_hundred(s, Part::Both, short), past);
 }
 
 pub fn run(s: Sizes)
     requires { ⌜ Bounded s ⌝ }
 {
     let last = s.coefficients - 1;
-    faults(s.rank, Part::Strip, s.coeffs - 1);
-    faults(s.rank, Part::FirstShare, last);
-    faults(s.rank, Part::SecondShare, last);
-    step(s.rank, s.steps - 1);
-    step(s.rank, 0xffff_ffff_ffff_ffff);
-    rows(s.rank, s.steps);
+    faults(s, Part::Strip, s.coeffs - 1);
+    faults(s, Part::FirstShare, last);
+    faults(s, Part::SecondShare, last);
+    step(s, s.steps - 1);
+    step(s, 0xffff_ffff_ffff_ffff);
+    rows(s, s.steps);
 }

@@ -1,5 +1,5 @@
-// Ranks that no parameter set has, with buffers as ML-KEM-768 asks for and with empty ones: the rank is refused before
-// all else.
+// Ranks that no parameter set has, with buffers as the edition's set of rank 3 asks for and with empty ones: the rank
+// is refused before all else.
 use crate::refused::Call;
 use crate::refused::print_spoiled;
 use parameters::Edition;
@@ -8,36 +8,39 @@ use test_support::edges::Edge;
 use test_support::edges::Lengths;
 use test_support::edges::exact;
 use test_support::edges::print_rank;
+use test_support::sizes::Sizes;
+use test_support::sizes::of_rank;
 use text::print;
 
-fn line(call: Call, rank: u32, lengths: Lengths) {
+fn line(s: Sizes, call: Call, rank: u32, lengths: Lengths) {
     match call {
         Call::Decaps => print_rank(b"decaps", rank, lengths),
         Call::Trace => print_rank(b"trace", rank, lengths),
     }
-    print_spoiled(call, 3, lengths, rank);
+    print_spoiled(call, s, lengths, rank);
 }
 
-fn lines(call: Call, rank: u32) {
+fn lines(e: Edition, call: Call, rank: u32) {
+    let s = of_rank(e, 3);
     let empty = Lengths {
         at: At::All,
         edge: Edge::Empty,
-        edition: Edition::MlKem,
+        edition: e,
         of: 3,
     };
-    line(call, rank, exact(Edition::MlKem, 3));
-    line(call, rank, empty);
+    line(s, call, rank, exact(e, 3));
+    line(s, call, rank, empty);
 }
 
-fn calls(rank: u32) {
-    lines(Call::Decaps, rank);
-    lines(Call::Trace, rank);
+fn calls(e: Edition, rank: u32) {
+    lines(e, Call::Decaps, rank);
+    lines(e, Call::Trace, rank);
 }
 
-pub fn run() {
+pub fn run(e: Edition) {
     print(b"no such rank\n");
-    calls(0);
-    calls(1);
-    calls(5);
-    calls(0xffff_ffff);
+    calls(e, 0);
+    calls(e, 1);
+    calls(e, 5);
+    calls(e, 0xffff_ffff);
 }

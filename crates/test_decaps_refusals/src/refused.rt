@@ -1,7 +1,6 @@
 // Calls whose outputs hold 238 in each byte before, and whether they still do.
 ghost use mathlib.Core.Path.{_≡_};
 ghost use lib.ListN.{length};
-use parameters::Edition;
 use test_decaps_support::calls::decaps;
 use test_decaps_support::calls::trace;
 use test_decaps_support::case::Case;
@@ -12,7 +11,7 @@ use test_support::answers::print_refusal;
 use test_support::bytes::unchanged_words;
 use test_support::edges::Lengths;
 use test_support::edges::length_at;
-use test_support::sizes::of_rank;
+use test_support::sizes::Sizes;
 
 pub enum Call {
     Decaps,
@@ -43,13 +42,13 @@ pub fn print_trace(case: Case, step: u64) {
 }
 
 // Shares, masks and the step are out of range: a wrong rank and a wrong length are refused before them.
-pub fn print_spoiled(call: Call, rank: u32, lengths: Lengths, told: u32) {
+pub fn print_spoiled(call: Call, s: Sizes, lengths: Lengths, told: u32) {
     let fault = Fault {
         part: Part::All,
         at: 0,
         v: 65535,
     };
-    let case = wrong(of_rank(Edition::MlKem, rank), fault, lengths, told);
+    let case = wrong(s, fault, lengths, told);
     match call {
         Call::Decaps => print_decaps(case),
         Call::Trace => print_trace(case, 0xffff_ffff_ffff_ffff),

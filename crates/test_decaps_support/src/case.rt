@@ -1,5 +1,5 @@
-// A case of decapsulation, told in numbers: the edition's set, the turn whose key and ciphertext are taken, what is
-// raised of the key, the masks, what is wrong.
+// A case of decapsulation, told in numbers: the edition and the set, the turn whose key and ciphertext are taken, what
+// is raised of the key, the masks, what is wrong.
 ghost use Rattle.test_support.specs.Sizes.{Bounded};
 use parameters::Edition;
 use test_keys::elsewhere::Raised;

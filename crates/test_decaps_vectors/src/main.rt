@@ -1,5 +1,5 @@
-// Masked decapsulation and its trace on public seeds, for each parameter set. What it prints is held to the file
-// stdout, whose values come from other implementations (tools/decaps_vectors).
+// Masked decapsulation and its trace on public seeds, for the parameter sets of both editions. What it prints is held
+// to the file stdout, whose values come from other implementations (tools/decaps_vectors).
 use parameters::Edition;
 use test_support::sizes::of_rank;
 use test_support::sizes::print_name;
@@ -9,16 +9,21 @@ mod secrets;
 mod stage_edges; // where each stage begins
 mod traces;
 
-fn set(rank: u32) {
-    let s = of_rank(Edition::MlKem, rank);
+fn set(e: Edition, rank: u32) {
+    let s = of_rank(e, rank);
     print_name(s);
     print(b"\n");
     secrets::run(s);
-    traces::run(rank);
+    traces::run(s);
+}
+
+fn edition(e: Edition) {
+    for rank in 2..5 {
+        set(e, rank);
+    }
 }
 
 fn main() {
-    for rank in 2..5 {
-        set(rank);
-    }
+    edition(Edition::MlKem);
+    edition(Edition::Kyber);
 }

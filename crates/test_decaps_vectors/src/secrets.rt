@@ -4,7 +4,6 @@ ghost use mathlib.Core.Path.{_≡_};
 ghost use Prim.Native.Nat.{_≤_};
 ghost use lib.ListN.{length};
 ghost use Rattle.test_support.specs.Sizes.{Bounded};
-use parameters::Edition;
 use refusals::conditions::same;
 use test_decaps_support::calls::decaps_joined;
 use test_decaps_support::case::Case;
@@ -14,7 +13,6 @@ use test_decaps_support::case::sizes;
 use test_keys::elsewhere::Raised;
 use test_support::masks::Masks;
 use test_support::sizes::Sizes;
-use test_support::sizes::of_rank;
 use text::print;
 use text::print_decimal;
 use text::print_hex;
@@ -78,9 +76,9 @@ fn line(name: &[u8], case: Case) {
     print_hex(&secret);
 }
 
-fn drawn(rank: u32, turn: usize, raised: Raised, ciphertext: Ciphertext) -> Case {
+fn drawn(s: Sizes, turn: usize, raised: Raised, ciphertext: Ciphertext) -> Case {
     right(
-        of_rank(Edition::MlKem, rank),
+        s,
         turn,
         raised,
         ciphertext,
@@ -90,40 +88,34 @@ fn drawn(rank: u32, turn: usize, raised: Raised, ciphertext: Ciphertext) -> Case
 }
 
 // The key's own ciphertext, changed.
-fn damaged(name: &[u8], rank: u32, turn: usize, at: usize, bits: u8) {
+fn damaged(name: &[u8], s: Sizes, turn: usize, at: usize, bits: u8) {
     line(
         name,
-        drawn(rank, turn, Raised::None, Ciphertext::Damaged(at, bits)),
+        drawn(s, turn, Raised::None, Ciphertext::Damaged(at, bits)),
     );
 }
 
 fn key(s: Sizes, turn: usize)
     requires { ⌜ Bounded s ⌝ }
 {
-    line(b"true", drawn(s.rank, turn, Raised::None, Ciphertext::True));
-    damaged(b"first byte", s.rank, turn, 0, 255);
-    damaged(b"last byte", s.rank, turn, s.ct - 1, 255);
-    damaged(b"one bit", s.rank, turn, 500, 16);
-    line(
-        b"random",
-        drawn(s.rank, turn, Raised::None, Ciphertext::Random),
-    );
+    line(b"true", drawn(s, turn, Raised::None, Ciphertext::True));
+    damaged(b"first byte", s, turn, 0, 255);
+    damaged(b"last byte", s, turn, s.ct - 1, 255);
+    damaged(b"one bit", s, turn, 500, 16);
+    line(b"random", drawn(s, turn, Raised::None, Ciphertext::Random));
 }
 
 // Key 0 with coefficients raised; raised in its secret part alone it is the same key.
-fn elsewhere(rank: u32) {
+fn elsewhere(s: Sizes) {
     line(
         b"raised secret",
-        drawn(rank, 0, Raised::Secret, Ciphertext::True),
+        drawn(s, 0, Raised::Secret, Ciphertext::True),
     );
     line(
         b"raised public",
-        drawn(rank, 0, Raised::Public, Ciphertext::True),
+        drawn(s, 0, Raised::Public, Ciphertext::True),
     );
-    line(
-        b"raised both",
-        drawn(rank, 0, Raised::Both, Ciphertext::True),
-    );
+    line(b"raised both", drawn(s, 0, Raised::Both, Ciphertext::True));
 }
 
 pub fn run(s: Sizes)
@@ -132,5 +124,5 @@ pub fn run(s: Sizes)
     key(s, 0);
     key(s, 1);
     key(s, 2);
-    elsewhere(s.rank);
+    elsewhere(s);
 }

@@ -12,12 +12,12 @@ use test_decaps_support::calls::trace;
 use test_decaps_support::case::Case;
 use test_decaps_support::case::Ciphertext;
 use test_decaps_support::case::right;
+use test_decaps_support::case::sizes;
 use test_keys::elsewhere::Raised;
 use test_support::answers::print_number;
 use test_support::hashes::print_hash;
 use test_support::masks::Masks;
 use test_support::sizes::Sizes;
-use test_support::sizes::of_rank;
 use text::print;
 use text::print_decimal;
 
@@ -43,7 +43,7 @@ fn last_before(step: u64) -> u64 {
 
 // The first and the last step of each stage.
 fn print_steps(case: Case) {
-    let starts = stage_starts(case.rank);
+    let starts = stage_starts(sizes(case));
     for i in 0..10 {
         print_step(case, starts[i]);
         print_step(case, last_before(starts[i + 1]));
@@ -83,7 +83,7 @@ fn multiples(s: Sizes) -> usize
 fn print_hashes(case: Case) {
     let mut stage1 = [0u8; 4096];
     let mut all = [0u8; 5400];
-    let n = multiples(of_rank(Edition::MlKem, case.rank));
+    let n = multiples(sizes(case));
     let e = 8 * n;
     put_all(case, 1, 512, &mut stage1);
     print(b"steps 0 to 511 ");
@@ -102,21 +102,38 @@ fn entered(case: Case, step: u64, v: u64) -> u64
     if value == v { 1 } else { 0 }
 }
 
-// The last two of the twelve entries that word j of K has begin here. The words' entries are the last 48.
-fn share_step(s: Sizes, j: u64) -> u64
-    requires { ⌜ Bounded s × (j < 4) ⌝ }
-    ensures { λ r. ⌜ r < 242052 ⌝ }
+// Kyber's last round has 11 entries for each of 25 lanes, of which the last two are the lane's shares, and then one for
+// share 0 of lane 0 with the round constant.
+fn lane_step(steps: u64, j: u64, share: u64) -> u64
+    requires { ⌜ (276 ≤ steps) × (steps ≤ 242052) × (j < 4) × (share < 2) ⌝ }
 {
-    s.steps - 48 + 12 * j + 10
+    if j + share == 0 {
+        return steps - 1;
+    }
+    steps - 276 + 11 * j + 9 + share
 }
 
-// How many of the two shares of word j of K are the last two of its entries.
+// The step that enters a share of word j of K. ML-KEM's selection has the last 48 entries, 12 for each word, of which
+// the last two are the word's shares.
+fn share_step(s: Sizes, j: u64, share: u64) -> u64
+    requires { ⌜ Bounded s × (j < 4) × (share < 2) ⌝ }
+{
+    let e = s.edition;
+    match e {
+        Edition::MlKem => s.steps - 48 + 12 * j + 10 + share,
+        Edition::Kyber => lane_step(s.steps, j, share),
+    }
+}
+
+// How many of the two shares of word j of K their steps enter.
 fn entered_word(case: Case, j: usize, k0: &[u64], k1: &[u64]) -> u64
     requires { ⌜ (j < 4) × (length (now k0) ≡ 4) × (length (now k1) ≡ 4) ⌝ }
     ensures { λ r. ⌜ r ≤ 2 ⌝ }
 {
-    let step = share_step(of_rank(Edition::MlKem, case.rank), j as u64);
-    entered(case, step, k0[j]) + entered(case, step + 1, k1[j])
+    let s = sizes(case);
+    let a = share_step(s, j as u64, 0);
+    let b = share_step(s, j as u64, 1);
+    entered(case, a, k0[j]) + entered(case, b, k1[j])
 }
 
 // How many of the eight shares.
@@ -130,12 +147,12 @@ fn entered_shares(case: Case, k0: &[u64], k1: &[u64]) -> u64
     found
 }
 
-// The shares that decapsulation hands back are entered last.
+// The shares that decapsulation hands back.
 fn print_shares(case: Case) {
     let mut k0 = [0u64; 4];
     let mut k1 = [0u64; 4];
     decaps(case, &mut k0, &mut k1);
-    print(b"shares entered last: ");
+    print(b"shares entered: ");
     print_decimal(entered_shares(case, &k0, &k1));
     print(b" equal\n");
 }
@@ -146,22 +163,15 @@ fn print_traces(case: Case) {
     print_shares(case);
 }
 
-fn drawn(rank: u32, raised: Raised, ciphertext: Ciphertext) -> Case {
-    right(
-        of_rank(Edition::MlKem, rank),
-        0,
-        raised,
-        ciphertext,
-        Masks::Drawn(9),
-        Masks::Drawn(9),
-    )
+fn drawn(s: Sizes, raised: Raised, ciphertext: Ciphertext) -> Case {
+    right(s, 0, raised, ciphertext, Masks::Drawn(9), Masks::Drawn(9))
 }
 
-pub fn run(rank: u32) {
+pub fn run(s: Sizes) {
     print(b"trace, true\n");
-    print_traces(drawn(rank, Raised::None, Ciphertext::True));
+    print_traces(drawn(s, Raised::None, Ciphertext::True));
     print(b"trace, random\n");
-    print_traces(drawn(rank, Raised::None, Ciphertext::Random));
+    print_traces(drawn(s, Raised::None, Ciphertext::Random));
     print(b"trace, edged\n");
-    print_traces(drawn(rank, Raised::Edged, Ciphertext::True));
+    print_traces(drawn(s, Raised::Edged, Ciphertext::True));
 }

@@ -13,6 +13,7 @@ use hash_functions::hash_g;
 use hash_functions::hash_h;
 use kpke::encrypt::encrypt;
 use kpke::matrix::expand;
+use parameters::Edition;
 use parameters::Parameters;
 use parameters::ct_bytes;
 use parameters::ek_bytes;
@@ -72,7 +73,7 @@ fn encrypt_with(p: Parameters, r: &[u8], ek: &[u8], m: &[u8], ct: &mut [u8])
     encrypt_in(p, r, ek, m, &mut a[0..n], ct);
 }
 
-// Algorithm 17's ciphertext for a public key that the modulus check (section 7.2) refuses.
+// Algorithm 17's ciphertext of m for a public key that the modulus check (section 7.2) refuses.
 fn encapsulate(p: Parameters, ek: &[u8], m: &[u8], ct: &mut [u8])
     requires { ⌜ Fits p × (length (now ek) ≡ ekBytes p) × (length (now m) ≡ 32) × (length (now ct) ≡ ctBytes p) ⌝ }
 {
@@ -97,6 +98,19 @@ fn encapsulate_by(rank: u32, ek: &[u8], m: &[u8], ct: &mut [u8])
     encapsulate(p, ek, m, ct);
 }
 
+// What the turn encrypts: its message, or in Kyber the message's hash (algorithm 8, line 2).
+fn encrypted_message(s: Sizes, turn: usize, out: &mut [u8])
+    requires { ⌜ Bounded s × (length (now out) ≡ 32) ⌝ }
+{
+    let e = s.edition;
+    let mut m = [0u8; 32];
+    message(s, turn, &mut m);
+    match e {
+        Edition::MlKem => copy_bytes(&m, out),
+        Edition::Kyber => hash_h(&m, out),
+    }
+}
+
 // The turn's ciphertext is then for the key as it is.
 fn raise_public(s: Sizes, edged: bool, turn: usize, dk: &mut [u8], ct: &mut [u8])
     requires { ⌜ Bounded s × (length (now dk) ≡ s .dk) ⌝ }
@@ -105,7 +119,7 @@ fn raise_public(s: Sizes, edged: bool, turn: usize, dk: &mut [u8], ct: &mut [u8]
     let a = s.vector;
     let rho = a + s.vector;
     let h = a + s.ek;
-    message(s, turn, &mut m);
+    encrypted_message(s, turn, &mut m);
     raise_part(edged, s.coefficients, &mut dk[a..rho]);
     fit_hash(s, dk);
     encapsulate_by(s.rank, &dk[a..h], &m, ct);

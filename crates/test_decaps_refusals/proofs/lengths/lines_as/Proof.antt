@@ -5,10 +5,10 @@ use Rattle.test_decaps_refusals.proofs.lengths.lines_as.Statement.{stat
 use Rattle.test_decaps_refusals.proofs.lengths.lines_as.Tie as tie
 
 abbrev Inv-loop : tie.InvT-loop
-Inv-loop call rank n of i₀ i = Unit {0}
+Inv-loop s call n of i₀ i = Unit {0}
 
 abbrev μ-loop : tie.MeasureT-loop
-μ-loop call rank n of i₀ i = n - i
+μ-loop s call n of i₀ i = n - i
 
 pub lines-as-spec : {M : Type 1} → statement M
 lines-as-spec =

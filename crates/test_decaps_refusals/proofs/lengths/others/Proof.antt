@@ -5,10 +5,10 @@ use Rattle.test_decaps_refusals.proofs.lengths.others.Statement.{statem
 use Rattle.test_decaps_refusals.proofs.lengths.others.Tie as tie
 
 abbrev Inv-loop : tie.InvT-loop
-Inv-loop rank of₀ of = of ≤ 5
+Inv-loop s of₀ of = of ≤ 5
 
 abbrev μ-loop : tie.MeasureT-loop
-μ-loop rank of₀ of = 5 - of
+μ-loop s of₀ of = 5 - of
 
 pub others-spec : {M : Type 1} → statement M
 others-spec =

@@ -1,17 +1,17 @@
 -- The loop ends since its turns count up to the last rank.
 use Prim.Native.Nat.{_-_, _≤_}
 use borrow.Author.Needs.{needs}
-use Rattle.test_decaps_refusals.proofs.main.Statement.{statement}
-use Rattle.test_decaps_refusals.proofs.main.Tie as tie
+use Rattle.test_decaps_refusals.proofs.edition.Statement.{statement}
+use Rattle.test_decaps_refusals.proofs.edition.Tie as tie
 
 abbrev Inv-loop : tie.InvT-loop
-Inv-loop rank₀ rank = rank ≤ 5
+Inv-loop e rank₀ rank = rank ≤ 5
 
 abbrev μ-loop : tie.MeasureT-loop
-μ-loop rank₀ rank = 5 - rank
+μ-loop e rank₀ rank = 5 - rank
 
-pub main-spec : {M : Type 1} → statement M
-main-spec =
+pub edition-spec : {M : Type 1} → statement M
+edition-spec =
     tie.close
     (tie.spec
     Inv-loop
