@@ -1,5 +1,5 @@
-// What the programs that hold the calls on keys to known answers share: a line for each function of a set, its file, and
-// masked decapsulation.
+// What the programs that hold the calls on keys to known answers share: a line for each function of a set, its file,
+// and masked decapsulation.
 use test_records::open;
 use test_support::masks::Masks;
 use test_support::sizes::Sizes;
