@@ -63,7 +63,7 @@ uint32_t tifo_sample(const uint8_t *stream, size_t stream_len, uint16_t *out, si
 #define TIFO_KYBER768 3
 #define TIFO_KYBER1024 4
 
-/* Key making from the seeds d and z, 32 bytes each: the public key and the decapsulation key (9, 1, 7). The editions make other keys of one d. */
+/* Key making from the seeds d and z, 32 bytes each: the public key and the decapsulation key (9, 1, 7). From one d the two editions make different keys. */
 uint32_t tifo_keygen(uint32_t rank, const uint8_t *d, size_t d_len, const uint8_t *z, size_t z_len, uint8_t *ek, size_t ek_len,
                      uint8_t *dk, size_t dk_len);
 uint32_t tifo_kyber_keygen(uint32_t rank, const uint8_t *d, size_t d_len, const uint8_t *z, size_t z_len, uint8_t *ek, size_t ek_len,
@@ -87,7 +87,8 @@ uint32_t tifo_import(uint32_t rank, const uint8_t *dk, size_t dk_len, const uint
 
 /* Masked decapsulation of a split key, as import made it for the same rank, and a ciphertext (9, 1, 5, 6, 7). The strip is words and
  * coefficients below 3329. k0 and k1, four words each, are the shares of the secret: it is k0 xor k1, and a word takes eight bytes, the low one
- * first. A ciphertext that doesn't come from encapsulation isn't refused: its secret is the edition's rejection secret.
+ * first. A ciphertext that doesn't come from encapsulation isn't refused: its secret is the edition's rejection secret. Keys, split keys and
+ * ciphertexts don't tell their edition: the other edition's call, with a strip of its own length, isn't refused either, and gives another secret.
  * Strips are the caller's to make, as import's masks are: uniform, independent of all else, and fresh for each call. */
 uint32_t tifo_decaps(uint32_t rank, const uint16_t *s0, size_t s0_len, const uint16_t *s1, size_t s1_len, const uint64_t *z0, size_t z0_len,
                      const uint64_t *z1, size_t z1_len, const uint8_t *pub, size_t pub_len, const uint8_t *ct, size_t ct_len,

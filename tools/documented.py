@@ -58,6 +58,8 @@ def check_header():
             held(f"{HEADER}, {row}", [f"{of(p):,}" for p in sets], numbers)
     ranks = re.findall(r"^#define TIFO_ML_KEM_(\d+) (\d+)$", start.string, re.M)
     held(f"{HEADER}, names of ranks", [(str(p.coefficients), str(p.k)) for p in SETS], ranks)
+    ranks = re.findall(r"^#define TIFO_KYBER(\d+) (\d+)$", start.string, re.M)
+    held(f"{HEADER}, Kyber's names of ranks", [(str(p.coefficients), str(p.k)) for p in KYBER_SETS], ranks)
 
 
 # ---- docs/worksheet.md

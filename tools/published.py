@@ -1,4 +1,5 @@
-"""NIST's ACVP values for ML-KEM, case by case: from the published files, or as crates/test_nist_kem has them, made of those by tools/nist_vectors."""
+"""NIST's ACVP values for ML-KEM, case by case: from the published files, or as crates/test_nist_kem has them, made of those by tools/nist_vectors; and
+what the tools on published values share."""
 import gzip, json, os, sys
 
 ROOT = os.path.dirname(os.path.dirname(os.path.abspath(__file__)))

@@ -28,9 +28,9 @@ pub bounded : (e : Edition) (rank : ℕ) → SetBounded e (ofRank rank)
 bounded MlKem =
     let t = countsTable in
     each-set (SetBounded MlKem)
-    (listed MlKem mlKem512 (t .words512 .strip) (t .coeffs512 .strip) (t .entries512 .steps) (search needs))
-    (listed MlKem mlKem768 (t .words768 .strip) (t .coeffs768 .strip) (t .entries768 .steps) (search needs))
-    (listed MlKem mlKem1024 (t .words1024 .strip) (t .coeffs1024 .strip) (t .entries1024 .steps) (search needs))
+    (listed MlKem mlKem512 (t .words512 .mlkemStrip) (t .coeffs512 .strip) (t .entries512 .mlkemSteps) (search needs))
+    (listed MlKem mlKem768 (t .words768 .mlkemStrip) (t .coeffs768 .strip) (t .entries768 .mlkemSteps) (search needs))
+    (listed MlKem mlKem1024 (t .words1024 .mlkemStrip) (t .coeffs1024 .strip) (t .entries1024 .mlkemSteps) (search needs))
 bounded Kyber =
     let t = countsTable in
     each-set (SetBounded Kyber)

@@ -134,6 +134,7 @@ fn kyber_ending(
     last_hash(rec, &selected0, &selected1, c, &ws[4..], k0, k1)
 }
 
+// By the edition.
 pub fn ending(
     rec: Recorder,
     e: Edition,

@@ -43,8 +43,8 @@ pub fn hash_g(m: &[u8], h: &[u8], out: &mut [u8])
     fips202::sha3_512(&t, out);
 }
 
-// J (4.4), which is Kyber's KDF, of k and H(c), as Kyber's algorithms 8 and 9 call it on their last lines.
-pub fn hash_j(k: &[u8], c: &[u8], out: &mut [u8])
+// Kyber's KDF, which is J (4.4), of k and H(c), as Kyber's algorithm 8 calls it on line 5.
+pub fn hash_kdf(k: &[u8], c: &[u8], out: &mut [u8])
     requires { ⌜ (length (now k) ≡ 32) × (length (now out) ≡ 32) ⌝ }
     ensures { λ _. ⌜ now (out .exit) ≡ J (now (k .entry) ++ sha3-256 (now (c .entry))) ⌝ }
 {

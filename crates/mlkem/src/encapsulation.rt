@@ -12,7 +12,7 @@ ghost use Rattle.refusals.specs.Reduced.{reduced as reducedOf};
 ghost use Rattle.refusals.specs.Refusals.{number};
 use hash_functions::hash_g;
 use hash_functions::hash_h;
-use hash_functions::hash_j;
+use hash_functions::hash_kdf;
 use kpke::encrypt::encrypt;
 use kpke::matrix::expand;
 use parameters::Edition;
@@ -73,9 +73,10 @@ fn write_kyber(p: Parameters, a: &[u16], ek: &[u8], m: &[u8], ct: &mut [u8], k: 
     let mut first = [0u8; 32];
     hash_h(m, &mut hashed);
     write_mlkem(p, a, ek, &hashed, ct, &mut first);
-    hash_j(&first, ct, k);
+    hash_kdf(&first, ct, k);
 }
 
+// By the edition.
 fn write_secret(
     e: Edition,
     p: Parameters,

@@ -12,34 +12,34 @@ use Rattle.silence.specs.TraceClaim.{demand3-trace}
 
 pub demand3-512 : Silent MlKem mlKem512 155928 (choices MlKem mlKem512 512 9588 6400)
 demand3-512 =
-    rw (countsTable .entries512 .steps, countsTable .words512 .strip, countsTable .coeffs512 .strip) at
+    rw (countsTable .entries512 .mlkemSteps, countsTable .words512 .mlkemStrip, countsTable .coeffs512 .strip) at
     (demand3 MlKem mlKem512 fits512)
 
 pub demand3-768 : Silent MlKem mlKem768 187794 (choices MlKem mlKem768 768 11750 7424)
 demand3-768 =
-    rw (countsTable .entries768 .steps, countsTable .words768 .strip, countsTable .coeffs768 .strip) at
+    rw (countsTable .entries768 .mlkemSteps, countsTable .words768 .mlkemStrip, countsTable .coeffs768 .strip) at
     (demand3 MlKem mlKem768 fits768)
 
 pub demand3-1024 : Silent MlKem mlKem1024 242052 (choices MlKem mlKem1024 1024 15192 9472)
 demand3-1024 =
-    rw (countsTable .entries1024 .steps, countsTable .words1024 .strip, countsTable .coeffs1024 .strip) at
+    rw (countsTable .entries1024 .mlkemSteps, countsTable .words1024 .mlkemStrip, countsTable .coeffs1024 .strip) at
     (demand3 MlKem mlKem1024 fits1024)
 
 -- ---- ML-KEM, by what the trace hands back
 
 pub demand3-trace-512 : Silent MlKem mlKem512 155928 (traceChoices MlKem mlKem512 512 9588 6400)
 demand3-trace-512 =
-    rw (countsTable .entries512 .steps, countsTable .words512 .strip, countsTable .coeffs512 .strip) at
+    rw (countsTable .entries512 .mlkemSteps, countsTable .words512 .mlkemStrip, countsTable .coeffs512 .strip) at
     (demand3-trace MlKem mlKem512 fits512)
 
 pub demand3-trace-768 : Silent MlKem mlKem768 187794 (traceChoices MlKem mlKem768 768 11750 7424)
 demand3-trace-768 =
-    rw (countsTable .entries768 .steps, countsTable .words768 .strip, countsTable .coeffs768 .strip) at
+    rw (countsTable .entries768 .mlkemSteps, countsTable .words768 .mlkemStrip, countsTable .coeffs768 .strip) at
     (demand3-trace MlKem mlKem768 fits768)
 
 pub demand3-trace-1024 : Silent MlKem mlKem1024 242052 (traceChoices MlKem mlKem1024 1024 15192 9472)
 demand3-trace-1024 =
-    rw (countsTable .entries1024 .steps, countsTable .words1024 .strip, countsTable .coeffs1024 .strip) at
+    rw (countsTable .entries1024 .mlkemSteps, countsTable .words1024 .mlkemStrip, countsTable .coeffs1024 .strip) at
     (demand3-trace MlKem mlKem1024 fits1024)
 
 -- ---- Kyber, round 3, by the worksheet

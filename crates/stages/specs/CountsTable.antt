@@ -62,8 +62,8 @@ pub record Entries (p : Parameters) (e5 e6 e7 e8 e9 n m : ℕ) : Type 0 where
   pub stage7 : stage7Entries p ≡ e7
   pub stage8 : stage8Entries p ≡ e8
   pub stage9 : stage9Entries p ≡ e9
+  pub mlkemSteps : steps MlKem p ≡ n
   pub kyberSteps : steps Kyber p ≡ m
-  pub steps : steps MlKem p ≡ n
 
 -- its mask words of stages 5, 7, 8 and 9, of a strip, and of Kyber's
 pub record Words (p : Parameters) (w5 w7 w8 w9 n m : ℕ) : Type 0 where
@@ -71,7 +71,7 @@ pub record Words (p : Parameters) (w5 w7 w8 w9 n m : ℕ) : Type 0 where
   pub stage7 : stage7Words p ≡ w7
   pub stage8 : stage8Words p ≡ w8
   pub stage9 : stage9Words p ≡ w9
-  pub strip : stripWords MlKem p ≡ n
+  pub mlkemStrip : stripWords MlKem p ≡ n
   pub kyberStrip : stripWords Kyber p ≡ m
 
 -- its mask coefficients of stage 5, and of a strip
@@ -92,8 +92,8 @@ pub record CountsTable : Type 0 where
 
 pub countsTable : CountsTable
 unfolding steps stripWords stripCoeffs endingEntries endingWords comparedEntries comparedWords
-    decryptEntries decryptWords encryptEntries encryptWords encryptCoeffs stage5Entries stage5Words stage5Coeffs stage6Entries
-    stage7Entries stage7Words stage8Entries stage8Words noiseEntries noiseWords noiseCoeffs
+    decryptEntries decryptWords encryptEntries encryptWords encryptCoeffs
+    stage5Entries stage5Words stage5Coeffs stage6Entries stage7Entries stage7Words stage8Entries stage8Words noiseEntries noiseWords noiseCoeffs
     compressPolyEntries compressPolyWords compressEntries adderEntries samplerEntries allZeroEntries
     sha3-512Entries sha3-512MaskWords shake256Entries shake256MaskWords
 countsTable =
@@ -104,7 +104,7 @@ countsTable =
         stage7 = refl;
         stage8 = refl;
         stage9 = refl;
-        steps = refl;
+        mlkemSteps = refl;
         kyberSteps = refl;
       };
       entries768 = record {
@@ -113,7 +113,7 @@ countsTable =
         stage7 = refl;
         stage8 = refl;
         stage9 = refl;
-        steps = refl;
+        mlkemSteps = refl;
         kyberSteps = refl;
       };
       entries1024 = record {
@@ -122,15 +122,15 @@ countsTable =
         stage7 = refl;
         stage8 = refl;
         stage9 = refl;
-        steps = refl;
+        mlkemSteps = refl;
         kyberSteps = refl;
       };
       words512 =
-          record { stage5 = refl; stage7 = refl; stage8 = refl; stage9 = refl; strip = refl; kyberStrip = refl };
+          record { stage5 = refl; stage7 = refl; stage8 = refl; stage9 = refl; mlkemStrip = refl; kyberStrip = refl };
       words768 =
-          record { stage5 = refl; stage7 = refl; stage8 = refl; stage9 = refl; strip = refl; kyberStrip = refl };
+          record { stage5 = refl; stage7 = refl; stage8 = refl; stage9 = refl; mlkemStrip = refl; kyberStrip = refl };
       words1024 =
-          record { stage5 = refl; stage7 = refl; stage8 = refl; stage9 = refl; strip = refl; kyberStrip = refl };
+          record { stage5 = refl; stage7 = refl; stage8 = refl; stage9 = refl; mlkemStrip = refl; kyberStrip = refl };
       coeffs512 = record { stage5 = refl; strip = refl };
       coeffs768 = record { stage5 = refl; strip = refl };
       coeffs1024 = record { stage5 = refl; strip = refl };

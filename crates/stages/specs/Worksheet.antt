@@ -169,9 +169,9 @@ module _ (p : Parameters) where
     b ← stage8 c w
     ret (record { equal = b; g = g })
 
--- What follows stage 8, for z and the ciphertext. FIPS 203, Algorithm 18: line 7 is stage 9; lines 9 to 12 are stage 10,
--- which gives K' or the rejected words. Kyber, algorithm 9, lines 7 to 10: K' or z, selected as in stage 10, is hashed
--- with the ciphertext's hash.
+-- What follows stage 8, for z and the ciphertext. FIPS 203, Algorithm 18: line 7 is stage 9; lines 9 to 12 are stage
+-- 10, which gives K' or the rejected words. Kyber, algorithm 9, lines 7 to 10: K' or z, selected as in stage 10, is
+-- hashed with the ciphertext's hash.
 unfoldable pub ending : Edition → Compared → SharedList → List ℕ → Prog SharedList
 ending MlKem o z c = do
   rejected ← stage9 z c

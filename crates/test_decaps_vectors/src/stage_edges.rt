@@ -1,5 +1,5 @@
-// The first step of each of the ten stages, and the number of steps, from the tables of docs/worksheet.md. In place of
-// stages 9 and 10 Kyber has selection and the last hash.
+// The first step of each of the ten parts of a worksheet, and the number of steps, from the tables of docs/worksheet.md:
+// stages 1 to 8, then ML-KEM's stages 9 and 10, or Kyber's selection and last hash.
 ghost use mathlib.Core.Path.{_≡_};
 ghost use lib.ListN.{length};
 ghost use Rattle.test_support.specs.Sizes.{Bounded};

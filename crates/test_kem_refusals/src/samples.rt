@@ -27,7 +27,7 @@ fn line(at: usize, edge: Edge) {
     sample_edge(Lengths {
         at: at,
         edge: edge,
-        edition: Edition::MlKem,
+        edition: Edition::MlKem, // sampling has none
         of: 0,
     });
 }

@@ -13,16 +13,16 @@ use Rattle.mlkem.proofs.encapsulation.write_kyber.Tie as tie
 
 -- ---- places: the calls from the last to the first, and the start
 
-abbrev derived : tie.After-slice-known4 → tie.After-hash-j
+abbrev derived : tie.After-slice-known4 → tie.After-hash-kdf
 derived c = c .before .before
 
-abbrev lent-first : tie.After-hash-j → tie.After-first3
+abbrev lent-first : tie.After-hash-kdf → tie.After-first3
 lent-first c = c .before .before .before
 
-abbrev left-ct : tie.After-hash-j → tie.After-ct
+abbrev left-ct : tie.After-hash-kdf → tie.After-ct
 left-ct c = lent-first c .before .before .before
 
-abbrev encapsulated : tie.After-hash-j → tie.After-write-mlkem
+abbrev encapsulated : tie.After-hash-kdf → tie.After-write-mlkem
 encapsulated c = left-ct c .before
 
 abbrev lent-m : tie.After-write-mlkem → tie.After-hashed3
@@ -52,7 +52,7 @@ returns c =
     let e = h .hash-h .ensures in
     let ct = w .write-mlkem .ensures .ct ∙ ap (encapsCt MlKem p ek) e in
     let first = w .write-mlkem .ensures .k ∙ ap (encapsKey MlKem p ek) e in
-    let k = j .hash-j .ensures ∙ ap₂ (λ (k ct : List ℕ). J (k ++ H ct)) first ct in
+    let k = j .hash-kdf .ensures ∙ ap₂ (λ (k ct : List ℕ). J (k ++ H ct)) first ct in
     record { ct = ct ∙ sym (encapsCt-hashed p ek m); k = k ∙ sym (encapsKey-hashed p ek m) }
 
 pub write-kyber-spec : {M : Type 1} → statement M

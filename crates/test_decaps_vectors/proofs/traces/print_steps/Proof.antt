@@ -1,4 +1,4 @@
--- There are ten stages and eleven numbers, so that a stage and the next are in range.
+-- A worksheet has ten parts, and there are eleven numbers, so that a part and the next are in range.
 use Prim.Native.Nat.{_-_, _≤_}
 use mathlib.Core.Path.{_≡_}
 use borrow.Author.Needs.{needs}

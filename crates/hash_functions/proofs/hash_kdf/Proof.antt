@@ -5,8 +5,8 @@ use Prim.Native.Nat.{ℕ}
 use native.Mathlib.Omega.{arith}
 use borrow.Author.Needs.{needs}
 use Rattle.fips202.specs.Sponge.{shake256}
-use Rattle.hash_functions.proofs.hash_j.Statement.{statement}
-use Rattle.hash_functions.proofs.hash_j.Tie as tie
+use Rattle.hash_functions.proofs.hash_kdf.Statement.{statement}
+use Rattle.hash_functions.proofs.hash_kdf.Tie as tie
 
 -- ---- places, backwards: the three calls, and the start
 
@@ -41,8 +41,8 @@ returns c =
     ∙ ap₂ shake256
     (t .concat-bytes .ensures ∙ ap (λ (l : List ℕ). s .args .k .now ++ l) (h .hash-h .ensures)) (s .pre .1)
 
-pub hash-j-spec : {M : Type 1} → statement M
-hash-j-spec =
+pub hash-kdf-spec : {M : Type 1} → statement M
+hash-kdf-spec =
     tie.close
     (tie.spec
     (λ c. omega arith)
