@@ -30,7 +30,8 @@ bounded MlKem =
     each-set (SetBounded MlKem)
     (listed MlKem mlKem512 (t .words512 .mlkemStrip) (t .coeffs512 .strip) (t .entries512 .mlkemSteps) (search needs))
     (listed MlKem mlKem768 (t .words768 .mlkemStrip) (t .coeffs768 .strip) (t .entries768 .mlkemSteps) (search needs))
-    (listed MlKem mlKem1024 (t .words1024 .mlkemStrip) (t .coeffs1024 .strip) (t .entries1024 .mlkemSteps) (search needs))
+    (listed MlKem mlKem1024 (t .words1024 .mlkemStrip) (t .coeffs1024 .strip) (t .entries1024 .mlkemSteps)
+    (search needs))
 bounded Kyber =
     let t = countsTable in
     each-set (SetBounded Kyber)

@@ -92,8 +92,8 @@ pub record CountsTable : Type 0 where
 
 pub countsTable : CountsTable
 unfolding steps stripWords stripCoeffs endingEntries endingWords comparedEntries comparedWords
-    decryptEntries decryptWords encryptEntries encryptWords encryptCoeffs
-    stage5Entries stage5Words stage5Coeffs stage6Entries stage7Entries stage7Words stage8Entries stage8Words noiseEntries noiseWords noiseCoeffs
+    decryptEntries decryptWords encryptEntries encryptWords encryptCoeffs stage5Entries stage5Words stage5Coeffs
+    stage6Entries stage7Entries stage7Words stage8Entries stage8Words noiseEntries noiseWords noiseCoeffs
     compressPolyEntries compressPolyWords compressEntries adderEntries samplerEntries allZeroEntries
     sha3-512Entries sha3-512MaskWords shake256Entries shake256MaskWords
 countsTable =

@@ -1,4 +1,4 @@
-// The first step of each of the ten parts of a worksheet, and the number of steps, from the tables of docs/worksheet.md:
+// The first step of each of a worksheet's ten parts, and the number of steps, from the tables of docs/worksheet.md:
 // stages 1 to 8, then ML-KEM's stages 9 and 10, or Kyber's selection and last hash.
 ghost use mathlib.Core.Path.{_≡_};
 ghost use lib.ListN.{length};
