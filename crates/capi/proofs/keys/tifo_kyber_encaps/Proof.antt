@@ -3,6 +3,16 @@ use borrow.Author.Needs.{needs}
 use Rattle.capi.proofs.keys.tifo_kyber_encaps.Statement.{statement}
 use Rattle.capi.proofs.keys.tifo_kyber_encaps.Tie as tie
 
+-- the buffers, once encapsulation has returned
+abbrev buffers : tie.After-refusal → tie.After-slice-known3
+buffers c = c .before .before .before
+
+abbrev encapsulated : tie.After-slice-known3 → tie.After-encaps
+encapsulated c = c .before .before
+
+returns : tie.Need-returns
+returns c = rw (c .refusal .ensures) (encapsulated (buffers c) .encaps .ensures)
+
 pub tifo-kyber-encaps-spec : {M : Type 1} → statement M
 tifo-kyber-encaps-spec =
     tie.close
@@ -11,4 +21,4 @@ tifo-kyber-encaps-spec =
     (λ c κs. search needs)
     (λ c. search needs)
     (λ c. search needs)
-    (λ c. rw (c .refusal .ensures) (search needs)))
+    returns)
