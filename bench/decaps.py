@@ -12,7 +12,7 @@ from models.parameters import ALL_SETS
 from openssl import PRIVATE_KEYS, key_pair
 from turns import compare, ready
 
-CALLS = 2
+CALLS, LIMIT = 2, 1000000
 lib = ctypes.CDLL(sys.argv[1])
 
 
@@ -30,10 +30,12 @@ def time_set(p):
     split = *((ctypes.c_uint16 * p.coefficients)() for _ in (0, 1)), *((ctypes.c_uint64 * 4)() for _ in (0, 1)), public
     strip, shares, value = (words(p.strip_words), coefficients(p.strip_coeffs)), (words(4), words(4)), ctypes.c_uint64()
     assert ready(lib, p, "keygen", d, z, ek, dk)() == 0 and ready(lib, p, "encaps", ek, m, ct, k)() == 0
-    assert ready(lib, p, "import", dk, coefficients(p.coefficients), words(4), *split)() == 0
-    decaps = ready(lib, p, "decaps", *split, ct, *strip, *shares)
-    trace = ready(lib, p, "trace", *split, ct, *strip, more=(ctypes.c_uint64(step), ctypes.byref(value)))
-    assert decaps() == 0 and trace() == 0
+    limit, count = ctypes.c_uint32(), ctypes.c_uint32()
+    masks, uses = (coefficients(p.coefficients), words(4)), (ctypes.byref(limit), ctypes.byref(count))
+    assert ready(lib, p, "import", dk, *masks, ctypes.c_uint32(LIMIT), *split, *uses)() == 0
+    decaps = ready(lib, p, "decaps", *split, limit, ctypes.byref(count), ct, *strip, *shares)
+    trace = ready(lib, p, "trace", *split, ct, *strip, ctypes.c_uint64(step), ctypes.byref(value))
+    assert decaps() == 0 and trace() == 0 and count.value == 1
     true_ct, (_, other_decaps) = ct.raw, key_pair(p, d + z)
     assert other_decaps(true_ct) == k.raw == b"".join((a ^ b).to_bytes(8, "little") for a, b in zip(*shares))
     other = (lambda: other_decaps(true_ct)) if p in PRIVATE_KEYS else None

@@ -4,9 +4,11 @@ import ctypes, time
 TURNS, CALLS = 201, 20
 
 
-def ready(lib, p, name, *buffers, more=()):
-    """A call in the set's edition, as a function of nothing: it is told the rank and each buffer with its length."""
-    call, words = getattr(lib, p.c_name(name)), [ctypes.c_uint32(p.k), *(x for b in buffers for x in (b, ctypes.c_size_t(len(b)))), *more]
+def ready(lib, p, name, *lent):
+    """A call in the set's edition, as a function of nothing: it is told the rank, each buffer with its length, and numbers as they are."""
+    call, words = getattr(lib, p.c_name(name)), [ctypes.c_uint32(p.k)]
+    for x in lent:
+        words += (x, ctypes.c_size_t(len(x))) if isinstance(x, (bytes, ctypes.Array)) else (x,)
     return lambda: call(*words)
 
 

@@ -1,4 +1,5 @@
-/* Makes a key, imports it split, encapsulates, decapsulates on the shares, and compares the two secrets; then looks at one step of the run. */
+/* Makes a key, imports it split for two uses, encapsulates, decapsulates on the shares, and compares the two secrets; refreshes the shares when
+ * they are used up; then looks at one step of the run. */
 #include <stdio.h>
 #include <stdlib.h>
 #include <string.h>
@@ -13,6 +14,7 @@ enum { COEFFS = 256 * RANK, EK_BYTES = 384 * RANK + 32, PUB_BYTES = EK_BYTES + 3
 static uint8_t d[32], z[32], m[32], ek[EK_BYTES], dk[DK_BYTES], ct[CT_BYTES], k[32], opened[32], pub[PUB_BYTES];
 static uint16_t mask_coeffs[COEFFS], s0[COEFFS], s1[COEFFS], coeffs[STRIP_COEFFS];
 static uint64_t mask_words[4], z0[4], z1[4], words[STRIP_WORDS], k0[4], k1[4];
+static uint32_t limit, count; /* kept with the split key */
 
 static void fill(void *out, size_t n) {
     for (uint8_t *at = out; n > 0;) {
@@ -47,10 +49,19 @@ static void new_strip(void) {
     fill_coeffs(coeffs, STRIP_COEFFS);
 }
 
-static void decapsulate(void) {
+static void new_masks(void) {
+    fill_coeffs(mask_coeffs, COEFFS);
+    fill(mask_words, sizeof mask_words);
+}
+
+static uint32_t decaps(void) {
     new_strip();
-    carried_out("tifo_decaps", tifo_decaps(RANK, s0, COEFFS, s1, COEFFS, z0, 4, z1, 4, pub, PUB_BYTES, ct, CT_BYTES, words, STRIP_WORDS,
-                                           coeffs, STRIP_COEFFS, k0, 4, k1, 4));
+    return tifo_decaps(RANK, s0, COEFFS, s1, COEFFS, z0, 4, z1, 4, pub, PUB_BYTES, limit, &count, ct, CT_BYTES, words, STRIP_WORDS,
+                       coeffs, STRIP_COEFFS, k0, 4, k1, 4);
+}
+
+static void decapsulate(void) {
+    carried_out("tifo_decaps", decaps());
     /* Joined here only to compare. */
     for (size_t i = 0; i < 32; i++) opened[i] = (uint8_t)((k0[i / 8] ^ k1[i / 8]) >> (8 * (i % 8)));
 }
@@ -72,15 +83,20 @@ int main(void) {
     fill(m, 32);
     carried_out("tifo_keygen", tifo_keygen(RANK, d, 32, z, 32, ek, EK_BYTES, dk, DK_BYTES));
     carried_out("tifo_encaps", tifo_encaps(RANK, ek, EK_BYTES, m, 32, ct, CT_BYTES, k, 32));
-    fill_coeffs(mask_coeffs, COEFFS);
-    fill(mask_words, sizeof mask_words);
-    carried_out("tifo_import", tifo_import(RANK, dk, DK_BYTES, mask_coeffs, COEFFS, mask_words, 4, s0, COEFFS, s1, COEFFS, z0, 4, z1, 4,
-                                           pub, PUB_BYTES));
+    new_masks();
+    carried_out("tifo_import", tifo_import(RANK, dk, DK_BYTES, mask_coeffs, COEFFS, mask_words, 4, 2, s0, COEFFS, s1, COEFFS, z0, 4, z1, 4,
+                                           pub, PUB_BYTES, &limit, &count));
     decapsulate();
     expect(memcmp(opened, k, 32) == 0, "decapsulation opens the secret of encapsulation");
     ct[0] ^= 1;
     decapsulate();
     expect(memcmp(opened, k, 32) != 0, "a changed ciphertext opens another secret");
+    expect(decaps() == 11, "a third use is refused");
+    new_masks();
+    carried_out("tifo_refresh", tifo_refresh(RANK, mask_coeffs, COEFFS, mask_words, 4, s0, COEFFS, s1, COEFFS, z0, 4, z1, 4, &count));
+    ct[0] ^= 1;
+    decapsulate();
+    expect(memcmp(opened, k, 32) == 0, "with fresh shares decapsulation opens the secret again");
     uint64_t value = 0;
     carried_out("tifo_trace", trace(STEPS - 1, &value));
     printf("trace of the last step, %d: %016llx\n", STEPS - 1, (unsigned long long)value);

@@ -1,6 +1,6 @@
 /* Tifolanzo: the outward calls for C.
  *
- * A call returns 0 where it is carried out and else the number of its refusal; a refused call changes no buffer.
+ * A call returns 0 where it is carried out and else the number of its refusal; a refused call changes no buffer and no number.
  *   1  a lent buffer hasn't its exact length
  *   2  a coefficient of the public key is 3329 or more
  *   3  h isn't SHA3-256 of the public key part
@@ -9,7 +9,10 @@
  *   7  an 840-byte stream yields fewer than 256 coefficients
  *   8  the step number isn't below the worksheet's count
  *   9  the rank isn't 2, 3 or 4: tried first, whatever the lengths are
- * A slice passes as a pointer and a number of elements. A buffer that is written overlaps no other buffer of its call.
+ *  10  the use limit isn't from 1 to 1,000,000
+ *  11  the count of uses has reached the limit
+ * A slice passes as a pointer and a number of elements, a lent number as a pointer to one. What is written, a buffer or a number, overlaps
+ * nothing else that its call is lent.
  */
 #ifndef TIFOLANZO_H
 #define TIFOLANZO_H
@@ -79,28 +82,42 @@ uint32_t tifo_kyber_encaps(uint32_t rank, const uint8_t *ek, size_t ek_len, cons
 /* Import splits a decapsulation key of either edition whose h is the public key part's hash, as FIPS 203 asks. Coefficients from 3329 to 4095 are
  * read modulo 3329, as the standard reads them: the split stands for the key with its secret coefficients reduced. The first shares are the lent
  * masks, coefficients below 3329 and four words; the second shares are what is left of the key; pub is the public key and its hash, as they stand in
- * the key (9, 1, 3, 5). */
+ * the key (9, 1, 3, 10, 5).
+ *
+ * A split key has a use limit and a count of its uses: so many decapsulations are carried out with it until it is refreshed. Import hands back the
+ * limit in *limit_out and 0 in *count_out, both written only where it returns 0. They are the caller's to keep with the split key and to lend with
+ * it. Decapsulation raises the count and refreshing sets it to 0; the caller raises nothing itself, and keeps what the call has left. */
 uint32_t tifo_import(uint32_t rank, const uint8_t *dk, size_t dk_len, const uint16_t *mask_coeffs, size_t mask_coeffs_len,
-                     const uint64_t *mask_words, size_t mask_words_len,
+                     const uint64_t *mask_words, size_t mask_words_len, uint32_t limit,
                      uint16_t *s0, size_t s0_len, uint16_t *s1, size_t s1_len, uint64_t *z0, size_t z0_len, uint64_t *z1, size_t z1_len,
-                     uint8_t *pub, size_t pub_len);
+                     uint8_t *pub, size_t pub_len, uint32_t *limit_out, uint32_t *count_out);
 
-/* Masked decapsulation of a split key, as import made it for the same rank, and a ciphertext (9, 1, 5, 6, 7). The strip is words and
- * coefficients below 3329. k0 and k1, four words each, are the shares of the secret: it is k0 xor k1, and a word takes eight bytes, the low one
- * first. A ciphertext that doesn't come from encapsulation isn't refused: its secret is the edition's rejection secret. Keys, split keys and
- * ciphertexts don't tell their edition: the other edition's call, with a strip of its own length, isn't refused either, and gives another secret.
- * Strips are the caller's to make, as import's masks are: uniform, independent of all else, and fresh for each call. */
+/* Refreshing gives a split key of either edition fresh shares of the same key, in place, and sets *count to 0, whatever it was (9, 1, 5, 6). The lent
+ * masks, as import's are, are added to the first shares and taken from the second. pub and the limit stay. It has no worksheet. The masks are the
+ * caller's to make: uniform, independent of all else, and fresh for each call. The shares and *count are written only where it returns 0. */
+uint32_t tifo_refresh(uint32_t rank, const uint16_t *mask_coeffs, size_t mask_coeffs_len, const uint64_t *mask_words, size_t mask_words_len,
+                      uint16_t *s0, size_t s0_len, uint16_t *s1, size_t s1_len, uint64_t *z0, size_t z0_len, uint64_t *z1, size_t z1_len,
+                      uint32_t *count);
+
+/* Masked decapsulation of a split key, as import made it for the same rank, and a ciphertext (9, 1, 11, 5, 6, 7). It is refused where *count is at or
+ * above limit, of which nothing else is asked; where it returns 0 it has added 1 to *count, for a true ciphertext and a false one alike, and else
+ * *count is as it was. The strip is words and coefficients below 3329. k0 and k1, four words each, are the shares of the secret: it is k0 xor k1,
+ * and a word takes eight bytes, the low one first. A ciphertext that doesn't come from encapsulation isn't refused: its secret is the edition's
+ * rejection secret. Keys, split keys and ciphertexts don't tell their edition: the other edition's call, with a strip of its own length, isn't
+ * refused either, and gives another secret. Strips are the caller's to make, as import's masks are: uniform, independent of all else, and fresh for
+ * each call. */
 uint32_t tifo_decaps(uint32_t rank, const uint16_t *s0, size_t s0_len, const uint16_t *s1, size_t s1_len, const uint64_t *z0, size_t z0_len,
-                     const uint64_t *z1, size_t z1_len, const uint8_t *pub, size_t pub_len, const uint8_t *ct, size_t ct_len,
-                     const uint64_t *words, size_t words_len, const uint16_t *coeffs, size_t coeffs_len,
+                     const uint64_t *z1, size_t z1_len, const uint8_t *pub, size_t pub_len, uint32_t limit, uint32_t *count,
+                     const uint8_t *ct, size_t ct_len, const uint64_t *words, size_t words_len, const uint16_t *coeffs, size_t coeffs_len,
                      uint64_t *k0, size_t k0_len, uint64_t *k1, size_t k1_len);
 uint32_t tifo_kyber_decaps(uint32_t rank, const uint16_t *s0, size_t s0_len, const uint16_t *s1, size_t s1_len, const uint64_t *z0, size_t z0_len,
-                           const uint64_t *z1, size_t z1_len, const uint8_t *pub, size_t pub_len, const uint8_t *ct, size_t ct_len,
-                           const uint64_t *words, size_t words_len, const uint16_t *coeffs, size_t coeffs_len,
+                           const uint64_t *z1, size_t z1_len, const uint8_t *pub, size_t pub_len, uint32_t limit, uint32_t *count,
+                           const uint8_t *ct, size_t ct_len, const uint64_t *words, size_t words_len, const uint16_t *coeffs, size_t coeffs_len,
                            uint64_t *k0, size_t k0_len, uint64_t *k1, size_t k1_len);
 
 /* The same run, told a step, from 0 on as docs/worksheet.md counts: *value takes that step's value, and nothing else is handed back
- * (9, 1, 5, 6, 7, 8). value points to one word, and is written only where the call returns 0. */
+ * (9, 1, 5, 6, 7, 8). value points to one word, and is written only where the call returns 0. It is no use of the split key: it takes neither limit
+ * nor count. */
 uint32_t tifo_trace(uint32_t rank, const uint16_t *s0, size_t s0_len, const uint16_t *s1, size_t s1_len, const uint64_t *z0, size_t z0_len,
                     const uint64_t *z1, size_t z1_len, const uint8_t *pub, size_t pub_len, const uint8_t *ct, size_t ct_len,
                     const uint64_t *words, size_t words_len, const uint16_t *coeffs, size_t coeffs_len, uint64_t step, uint64_t *value);

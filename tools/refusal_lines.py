@@ -1,13 +1,22 @@
-"""Lines of the test programs on refusals that depend on the rank and on lengths alone."""
+"""Lines of the test programs on refusals, those whole that depend on the rank and on lengths alone."""
 from models.parameters import sisters
 
 EDGES = "empty", "short", "long"
 NO_RANKS = 0, 1, 5, 2**32 - 1
 
 
-def print_lengths(calls):
+def answered(answer):
+    return f"refused {answer}" if answer else "done"
+
+
+def outcome(answer):
+    """With what becomes of the outputs."""
+    return answered(answer) + (", unchanged" if answer else ", changed")
+
+
+def print_lengths(calls, edges=EDGES):
     """Each buffer at wrong lengths. calls: pairs of a call's name and its number of buffers."""
-    for edge in EDGES:
+    for edge in edges:
         for call, buffers in calls:
             for at in range(buffers):
                 print(f"{call}, buffer {at} {edge}: refused 1, unchanged")

@@ -1,4 +1,5 @@
-/* Masked decapsulation and a trace with both shares of the secret and of z marked undefined, for valgrind's memcheck: secret_branches [branch | index] */
+/* Masked decapsulation, a trace and refreshing, with both shares of the secret and of z marked undefined, for valgrind's memcheck:
+ * secret_branches [branch | index] */
 #include <valgrind/memcheck.h>
 #include "masked_run.h"
 
@@ -23,16 +24,21 @@ static void hide(void) {
     VALGRIND_MAKE_MEM_UNDEFINED(z1, sizeof z1);
 }
 
+static void carry_out(void (*call)(void)) {
+    call();
+    VALGRIND_MAKE_MEM_DEFINED(&answer, sizeof answer);
+    if (answer != 0) exit(2);
+}
+
 int main(int argc, char **argv) {
     hide();
     if (argc > 1 && strcmp(argv[1], "branch") == 0) planted_branch();
     if (argc > 1 && strcmp(argv[1], "index") == 0) planted_index();
-    decaps();
-    VALGRIND_MAKE_MEM_DEFINED(&answer, sizeof answer);
-    if (answer != 0) return 2;
-    hide();
     step = 100000;
-    trace();
-    VALGRIND_MAKE_MEM_DEFINED(&answer, sizeof answer);
-    return answer ? 2 : 0;
+    carry_out(decaps);
+    hide();
+    carry_out(trace);
+    hide();
+    carry_out(refresh);
+    return 0;
 }

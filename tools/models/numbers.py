@@ -11,6 +11,11 @@ def word_bytes(words):
     return b"".join(w.to_bytes(8, "little") for w in words)
 
 
+def number_bytes(n):
+    """32 bits."""
+    return n.to_bytes(4, "little")
+
+
 def coefficient_bytes(coefficients):
     """16 bits for each."""
     return b"".join(x.to_bytes(2, "little") for x in coefficients)
@@ -19,6 +24,11 @@ def coefficient_bytes(coefficients):
 def mask_coefficients(data):
     """Of 16 bits each, modulo q."""
     return [int.from_bytes(data[i:i + 2], "little") % Q for i in range(0, len(data), 2)]
+
+
+def key_masks(data):
+    """For a split key: coefficients, and at the end four words."""
+    return mask_coefficients(data[:-32]), words(data[-32:])
 
 
 def coefficients(data):

@@ -108,7 +108,8 @@ class Parameters:
 
     @property
     def split_bytes(self):
-        return 2 * self.mask_bytes + self.public_bytes
+        """With the limit and the count."""
+        return 2 * self.mask_bytes + self.public_bytes + 2 * 4
 
     @property
     def strip_bytes(self):
@@ -117,19 +118,21 @@ class Parameters:
     # ---- the buffers of each call, in order, by their counts of elements
     @property
     def lent(self):
-        split = self.coefficients, self.coefficients, 4, 4, self.public_bytes
+        masks, shares = (self.coefficients, 4), (self.coefficients, self.coefficients, 4, 4)
+        split = *shares, self.public_bytes
         run = *split, self.ct_bytes, self.strip_words, self.strip_coeffs
         return {
             "keygen": (32, 32, self.ek_bytes, self.dk_bytes),
             "encaps": (self.ek_bytes, 32, self.ct_bytes, 32),
-            "import": (self.dk_bytes, self.coefficients, 4, *split),
+            "import": (self.dk_bytes, *masks, *split),
+            "refresh": (*masks, *shares),
             "decaps": (*run, 4, 4),
             "trace": run,
         }
 
     def c_name(self, call):
-        """The call's in C. Import is one for both editions."""
-        return (Edition.ML_KEM if call == "import" else self.edition).value + call
+        """The call's in C. Import and refreshing are one for both editions."""
+        return (Edition.ML_KEM if call in ("import", "refresh") else self.edition).value + call
 
     @property
     def defines(self):

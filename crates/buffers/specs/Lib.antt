@@ -1,2 +1,4 @@
 pub mod LittleEndian
 pub mod Split
+pub mod SplitLaws
+pub mod State

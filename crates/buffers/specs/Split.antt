@@ -1,4 +1,4 @@
--- The file of a split key of rank k.
+-- A split key of rank k as a string of bytes.
 use mathlib.Core.Path.{_≡_}
 use mathlib.Core.List.{List, _++_}
 use Prim.Native.Nat.{ℕ, _+_, _*_}
@@ -21,16 +21,16 @@ pub record RestSized (z0 z1 pub-h out : List ℕ) : Type 0 where
   pub z1-long : length z1 ≡ 4
   pub bytes : length out ≡ 64 + length pub-h
 
--- how many bytes the file holds
+-- how many bytes it has
 abbrev pub splitLength : ℕ → ℕ
 splitLength k = 1408 * k + 128
 
--- what the file holds, in this order
+-- these, in this order
 unfoldable pub splitBytes : List ℕ → List ℕ → List ℕ → List ℕ → List ℕ → List ℕ
 splitBytes s0 s1 z0 z1 public =
     (wordsToBytes 2 s0 ++ wordsToBytes 2 s1) ++ ((wordsToBytes 8 z0 ++ wordsToBytes 8 z1) ++ public)
 
--- what the file b of a split key is read into
+-- what the bytes b are read into
 pub record Unpacked (k : ℕ) (b s0 s1 z0 z1 public₁ : List ℕ) : Type 0 where
   pub secret0 : s0 ≡ numbers 2 (256 * k) (take (512 * k) b)
   pub secret1 : s1 ≡ numbers 2 (256 * k) (take (512 * k) (drop (512 * k) b))

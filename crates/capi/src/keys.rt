@@ -1,8 +1,11 @@
-// Sampling, key making, encapsulation and import for C.
+// Sampling, key making, encapsulation, import and refreshing for C.
 ghost use Rattle.parameters.specs.declared.Edition.the-variants.{MlKem, Kyber};
 ghost use Rattle.split_key.specs.SplitKey.{splitKey};
 ghost use Rattle.mlkem.specs.Calls.{StreamSampled, KeysMadeBy, EncapsulatedBy};
+ghost use Rattle.split_key.specs.KeyState.{keyState};
 ghost use Rattle.split_key.specs.Import.{ImportedBy};
+ghost use Rattle.split_key.specs.Refresh.{RefreshedBy};
+ghost use Rattle.worksheet.specs.SharedList.{sharedList};
 use crate::refusal;
 use parameters::Edition;
 
@@ -102,25 +105,68 @@ pub extern "C" fn tifo_kyber_encaps(
     refusal(mlkem::encaps(Edition::Kyber, rank, ek, m, ct, k))
 }
 
-// A key in two shares.
+// A key in two shares, with a use limit and a count.
 #[no_mangle]
 pub extern "C" fn tifo_import(
     rank: u32,
     dk: &[u8],
     mask_coeffs: &[u16],
     mask_words: &[u64],
+    limit: u32,
     s0: &mut [u16],
     s1: &mut [u16],
     z0: &mut [u64],
     z1: &mut [u64],
     public: &mut [u8],
+    limit_out: &mut u32,
+    count_out: &mut u32,
 ) -> u32
     ensures { λ r. ⌜
-        ImportedBy rank (now (dk .entry)) (now («mask_coeffs» .entry)) (now («mask_words» .entry))
+        ImportedBy rank (now (dk .entry)) (now («mask_coeffs» .entry)) (now («mask_words» .entry)) limit
+        (keyState
         (splitKey (now (s0 .entry)) (now (s1 .entry)) (now (z0 .entry)) (now (z1 .entry)) (now (public .entry)))
+        (now («limit_out» .entry)) (now («count_out» .entry)))
         r
+        (keyState
         (splitKey (now (s0 .exit)) (now (s1 .exit)) (now (z0 .exit)) (now (z1 .exit)) (now (public .exit)))
+        (now («limit_out» .exit)) (now («count_out» .exit)))
         ⌝ }
 {
-    refusal(split_key::import(rank, dk, mask_coeffs, mask_words, s0, s1, z0, z1, public))
+    refusal(split_key::import(
+        rank,
+        dk,
+        mask_coeffs,
+        mask_words,
+        limit,
+        s0,
+        s1,
+        z0,
+        z1,
+        public,
+        limit_out,
+        count_out,
+    ))
+}
+
+// Fresh shares of the same key, and the count 0.
+#[no_mangle]
+pub extern "C" fn tifo_refresh(
+    rank: u32,
+    mask_coeffs: &[u16],
+    mask_words: &[u64],
+    s0: &mut [u16],
+    s1: &mut [u16],
+    z0: &mut [u64],
+    z1: &mut [u64],
+    count: &mut u32,
+) -> u32
+    ensures { λ r. ⌜
+        RefreshedBy rank (now («mask_coeffs» .entry)) (now («mask_words» .entry))
+        (sharedList (now (s0 .entry)) (now (s1 .entry))) (sharedList (now (z0 .entry)) (now (z1 .entry)))
+        (now (count .entry)) r
+        (sharedList (now (s0 .exit)) (now (s1 .exit))) (sharedList (now (z0 .exit)) (now (z1 .exit)))
+        (now (count .exit))
+        ⌝ }
+{
+    refusal(split_key::refresh(rank, mask_coeffs, mask_words, s0, s1, z0, z1, count))
 }

@@ -12,6 +12,8 @@ pub extern "C" fn tifo_decaps(
     z0: &[u64],
     z1: &[u64],
     public: &[u8],
+    limit: u32,
+    count: &mut u32,
     ct: &[u8],
     words: &[u64],
     coeffs: &[u16],
@@ -22,7 +24,8 @@ pub extern "C" fn tifo_decaps(
         DecapsulatedBy MlKem rank
         (input (now (s0 .entry)) (now (s1 .entry)) (now (z0 .entry)) (now (z1 .entry)) (now (public .entry))
         (now (ct .entry)) (now (words .entry)) (now (coeffs .entry)))
-        (now (k0 .entry)) (now (k1 .entry)) r (now (k0 .exit)) (now (k1 .exit)) ⌝ }
+        limit (now (count .entry)) (now (k0 .entry)) (now (k1 .entry)) r
+        (now (count .exit)) (now (k0 .exit)) (now (k1 .exit)) ⌝ }
 {
     refusal(decapsulation::decaps(
         Edition::MlKem,
@@ -32,6 +35,8 @@ pub extern "C" fn tifo_decaps(
         z0,
         z1,
         public,
+        limit,
+        count,
         ct,
         words,
         coeffs,
@@ -84,6 +89,8 @@ pub extern "C" fn tifo_kyber_decaps(
     z0: &[u64],
     z1: &[u64],
     public: &[u8],
+    limit: u32,
+    count: &mut u32,
     ct: &[u8],
     words: &[u64],
     coeffs: &[u16],
@@ -94,7 +101,8 @@ pub extern "C" fn tifo_kyber_decaps(
         DecapsulatedBy Kyber rank
         (input (now (s0 .entry)) (now (s1 .entry)) (now (z0 .entry)) (now (z1 .entry)) (now (public .entry))
         (now (ct .entry)) (now (words .entry)) (now (coeffs .entry)))
-        (now (k0 .entry)) (now (k1 .entry)) r (now (k0 .exit)) (now (k1 .exit)) ⌝ }
+        limit (now (count .entry)) (now (k0 .entry)) (now (k1 .entry)) r
+        (now (count .exit)) (now (k0 .exit)) (now (k1 .exit)) ⌝ }
 {
     refusal(decapsulation::decaps(
         Edition::Kyber,
@@ -104,6 +112,8 @@ pub extern "C" fn tifo_kyber_decaps(
         z0,
         z1,
         public,
+        limit,
+        count,
         ct,
         words,
         coeffs,

@@ -8,6 +8,7 @@ pub enum Call {
     KeyGen,
     Encaps,
     Import,
+    Refresh,
     Decaps,
     Trace,
     Demo,
@@ -46,6 +47,9 @@ fn call_named(word: &[u8]) -> Command {
     }
     if same(word, b"import") {
         return Command::Calling(Call::Import);
+    }
+    if same(word, b"refresh") {
+        return Command::Calling(Call::Refresh);
     }
     if same(word, b"decaps") {
         return Command::Calling(Call::Decaps);
@@ -86,7 +90,8 @@ fn call_word_count(call: Call) -> usize {
     match call {
         Call::KeyGen => 7,
         Call::Encaps => 7,
-        Call::Import => 6,
+        Call::Import => 7,
+        Call::Refresh => 5,
         Call::Decaps => 7,
         Call::Trace => 7,
         Call::Demo => 3,
@@ -121,7 +126,8 @@ fn print_call_form(fd: i32, call: Call) {
     match call {
         Call::KeyGen => write(fd, b"keygen SET D Z EK DK"),
         Call::Encaps => write(fd, b"encaps SET EK M CT K"),
-        Call::Import => write(fd, b"import SET DK MASKS SPLIT"),
+        Call::Import => write(fd, b"import SET DK MASKS LIMIT SPLIT"),
+        Call::Refresh => write(fd, b"refresh SET MASKS SPLIT"),
         Call::Decaps => write(fd, b"decaps SET SPLIT CT STRIP SHARES"),
         Call::Trace => write(fd, b"trace SET SPLIT CT STRIP STEP"),
         Call::Demo => write(fd, b"demo SET"),
@@ -180,6 +186,10 @@ fn print_mask_files(fd: i32) {
     );
     write(
         fd,
+        b"               and the use limit and the count of uses, 4 bytes each\n",
+    );
+    write(
+        fd,
         b"  STRIP        9588/11750/15192 words (Kyber's 6588/6950/8592), 6400/7424/9472 coefficients\n",
     );
     write(
@@ -200,9 +210,20 @@ fn print_files(fd: i32) {
         fd,
         b"  STREAM, OUT  840 bytes, 256 coefficients of 16 bits\n",
     );
+}
+
+fn print_numbers(fd: i32) {
     write(
         fd,
-        b"STEP is decimal, and trace prints the value in decimal.\n",
+        b"LIMIT, from 1 to 1000000, is how often SPLIT decapsulates until it is refreshed.\n",
+    );
+    write(
+        fd,
+        b"LIMIT and STEP are decimal, and trace prints the value in decimal.\n",
+    );
+    write(
+        fd,
+        b"decaps replaces SPLIT by one with the raised count, refresh by one with fresh shares and the count 0.\n",
     );
 }
 
@@ -218,6 +239,7 @@ pub fn print_usage(fd: i32) {
     print_entry(fd, Command::Calling(Call::KeyGen));
     print_entry(fd, Command::Calling(Call::Encaps));
     print_entry(fd, Command::Calling(Call::Import));
+    print_entry(fd, Command::Calling(Call::Refresh));
     print_entry(fd, Command::Calling(Call::Decaps));
     print_entry(fd, Command::Calling(Call::Trace));
     print_entry(fd, Command::Calling(Call::Demo));
@@ -225,4 +247,5 @@ pub fn print_usage(fd: i32) {
     print_sets(fd);
     write(fd, b".\n");
     print_files(fd);
+    print_numbers(fd);
 }

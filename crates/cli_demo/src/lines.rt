@@ -28,3 +28,12 @@ pub fn print_step(step: u64, value: u64) {
     print_decimal(value);
     print(b"\n");
 }
+
+// How often the split key has been used, of how often it may be.
+pub fn print_uses(count: u32, limit: u32) {
+    print(b"uses of the split key: ");
+    print_decimal(count as u64);
+    print(b" of ");
+    print_decimal(limit as u64);
+    print(b"\n");
+}

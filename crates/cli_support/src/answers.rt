@@ -16,6 +16,8 @@ fn say_condition(answer: Answer) {
         Answer::ShortStream => say(b"an 840-byte stream yields fewer than 256 coefficients\n"),
         Answer::NoSuchStep => say(b"the step number isn't below the worksheet's count\n"),
         Answer::NoSuchRank => say(b"the rank isn't 2, 3 or 4\n"),
+        Answer::LimitRange => say(b"the use limit isn't from 1 to 1000000\n"),
+        Answer::LimitReached => say(b"the count of uses has reached the limit\n"),
     }
 }
 

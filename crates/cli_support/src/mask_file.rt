@@ -1,4 +1,4 @@
-// The file of import's masks: 256 coefficients for each of the rank's polynomials, then 4 words.
+// The file of masks for import and refreshing: 256 coefficients for each of the rank's polynomials, then 4 words.
 ghost use mathlib.Core.Path.{_≡_};
 ghost use Prim.Native.Nat.{_+_, _*_, _≤_};
 ghost use lib.ListN.{length};

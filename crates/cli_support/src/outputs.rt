@@ -6,7 +6,7 @@ use crate::arguments::same;
 use crate::messages;
 
 // A descriptor, negative where the file can't be opened, and whether the file was made.
-struct Output {
+pub struct Output {
     fd: i32,
     made: bool,
 }
@@ -40,7 +40,7 @@ fn open_secret(path: &[u8]) -> Output {
     output
 }
 
-// Closes what nothing was written to.
+// Closes what nothing was written to; a file that was made is removed.
 fn give_up(output: Output, path: &[u8]) {
     libc::close(output.fd);
     if output.made {
@@ -94,19 +94,67 @@ pub fn write_public(i: usize, bytes: &[u8]) {
     put_opened(open(&path[..n]), &path[..n], bytes);
 }
 
-pub fn write_secret(i: usize, bytes: &[u8]) {
+// A file of secrets, opened before it is known whether it will be written.
+pub fn open_secret_at(i: usize) -> Output {
     let mut path = io::buffer();
     let n = os::arg(i, &mut path);
     if n == 0 {
         messages::bad_argument(i);
-        return;
+        return Output {
+            fd: -1,
+            made: false,
+        };
     }
-    put_opened(open_secret(&path[..n]), &path[..n], bytes);
+    let output = open_secret(&path[..n]);
+    if output.fd < 0 {
+        messages::failed(&path[..n]);
+    }
+    output
+}
+
+pub fn is_open(output: Output) -> bool {
+    output.fd >= 0
+}
+
+pub fn put_at(i: usize, output: Output, bytes: &[u8]) {
+    let mut path = io::buffer();
+    let n = os::arg(i, &mut path);
+    put(output, &path[..n], bytes);
+}
+
+pub fn give_up_at(i: usize, output: Output) {
+    let mut path = io::buffer();
+    let n = os::arg(i, &mut path);
+    give_up(output, &path[..n]);
+}
+
+pub fn write_secret(i: usize, bytes: &[u8]) {
+    let output = open_secret_at(i);
+    if is_open(output) {
+        put_at(i, output, bytes);
+    }
+}
+
+// Whether two outputs have one name; a line then says so.
+fn are_same(p: &[u8], q: &[u8]) -> bool {
+    if !same(p, q) {
+        return false;
+    }
+    messages::same_name(p);
+    true
+}
+
+// Of those that arguments i and j name.
+pub fn are_same_at(i: usize, j: usize) -> bool {
+    let mut p = io::buffer();
+    let m = os::arg(i, &mut p);
+    let mut q = io::buffer();
+    let n = os::arg(j, &mut q);
+    are_same(&p[..m], &q[..n])
 }
 
 fn write_paths(p: &[u8], public: &[u8], q: &[u8], secret: &[u8]) {
-    if same(p, q) {
-        messages::same_name(p);
+    if are_same(p, q) {
         return;
     }
     let first = open(p);

@@ -18,6 +18,7 @@ use Rattle.split_key.specs.Import.{Imported}
 use Rattle.split_key.specs.ImportLaws.{imported-importable}
 use Rattle.refusals.specs.ReducedLaws.{reduced-below}
 use Rattle.split_key.specs.SplitKey.{SplitKey}
+use Rattle.split_key.specs.KeyState.{KeyState, keyState}
 use Rattle.stages.specs.Worksheet.{worksheet}
 use Rattle.meaning.specs.JoinedDk.{joinedDk}
 use Rattle.meaning.specs.ReducedDk.{reducedDk}
@@ -25,18 +26,19 @@ use Rattle.meaning.specs.SplitValue.{joinedDk-split, run-split}
 use Rattle.decapsulation.specs.Calls.{Input, decapsShares, Decapsulated}
 use Rattle.decapsulation.specs.Demand2.{decapsulated-tested}
 
-pub imported-joins : {p : Parameters} {dk maskCoeffs maskWords : List ℕ} {key₀ key : SplitKey}
-    → Imported p dk maskCoeffs maskWords key₀ 0 key
+pub imported-joins : {p : Parameters} {dk maskCoeffs maskWords : List ℕ} {limit : ℕ} {state₀ state : KeyState}
+    → Imported p dk maskCoeffs maskWords limit state₀ 0 state
     → Below 256 dk → Below (2 ^ 64) maskWords
-    → joinedDk p key ≡ reducedDk p dk
+    → joinedDk p (state .key) ≡ reducedDk p dk
 imported-joins {p} i dk-bytes mask-words =
-    ap (joinedDk p) (i .key) ∙ joinedDk-split (imported-importable i dk-bytes mask-words)
+    ap (λ (state : KeyState). joinedDk p (state .key)) (i .state)
+    ∙ joinedDk-split (imported-importable i dk-bytes mask-words)
 
--- import of dk leaves the split key in g, and decapsulation of g leaves k0 and k1
-module _ {e : Edition} {p : Parameters} {dk maskCoeffs maskWords k0₀ k1₀ k0 k1 : List ℕ} {key₀ : SplitKey}
-    {g : Input} where
-  pub imported-decaps : Fits p → Imported p dk maskCoeffs maskWords key₀ 0 (g .key)
-      → Decapsulated e p g k0₀ k1₀ 0 k0 k1
+-- import of dk, told the limit, leaves the split key in g, and decapsulation of g leaves k0 and k1
+module _ {e : Edition} {p : Parameters} {dk maskCoeffs maskWords k0₀ k1₀ k0 k1 : List ℕ} {told : ℕ}
+    {state₀ : KeyState} {g : Input} {limit count₀ count : ℕ} where
+  pub imported-decaps : Fits p → Imported p dk maskCoeffs maskWords told state₀ 0 (keyState (g .key) limit count₀)
+      → Decapsulated e p g limit count₀ k0₀ k1₀ 0 count k0 k1
       → Below 256 dk → Below (2 ^ 64) maskWords → Below 256 (g .ct) → Below (2 ^ 64) (g .words)
       → wordsToBytes 8 (joinedList (sharedList k0 k1)) ≡ kem.decaps e p dk (g .ct)
   unfolding decapsShares
@@ -45,6 +47,6 @@ module _ {e : Edition} {p : Parameters} {dk maskCoeffs maskWords k0₀ k1₀ k0 
       ap₂ (λ (x y : List ℕ). wordsToBytes 8 (joinedList (sharedList x y))) (d .share0) (d .share1)
       ∙ ap (λ (key : SplitKey).
       wordsToBytes 8 (joinedList (run (worksheet e p key (g .ct)) (g .words) (g .coeffs) .value)))
-      (i .key)
+      (ap (λ (state : KeyState). state .key) (i .state))
       ∙ run-split (imported-importable i dk-bytes mask-words) e fits (g .ct) (t .long .ct) ct-bytes strip-words
       (reduced-below (g .coeffs) (t .masks))

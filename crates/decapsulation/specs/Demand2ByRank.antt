@@ -12,29 +12,29 @@ use Rattle.parameters.specs.FitsLaws.{fits-ofRank}
 use Rattle.parameters.specs.ByRankLaws.{byRank-done}
 use Rattle.mlkem.specs.Editions as kem
 use Rattle.split_key.specs.Import.{ImportedBy}
-use Rattle.split_key.specs.SplitKey.{SplitKey}
+use Rattle.split_key.specs.KeyState.{KeyState, keyState}
 use Rattle.meaning.specs.JoinedDk.{joinedDk}
 use Rattle.meaning.specs.ReducedDk.{reducedDk}
 use Rattle.decapsulation.specs.Calls.{Input, Typed, DecapsulatedBy}
 use Rattle.decapsulation.specs.Demand2.{decaps-joins}
 use Rattle.decapsulation.specs.CallToCall.{imported-joins, imported-decaps}
 
-pub imported-joins-by : {rank : ℕ} {dk maskCoeffs maskWords : List ℕ} {key₀ key : SplitKey}
-    → ImportedBy rank dk maskCoeffs maskWords key₀ 0 key
+pub imported-joins-by : {rank : ℕ} {dk maskCoeffs maskWords : List ℕ} {limit : ℕ} {state₀ state : KeyState}
+    → ImportedBy rank dk maskCoeffs maskWords limit state₀ 0 state
     → Below 256 dk → Below (2 ^ 64) maskWords
-    → joinedDk (ofRank rank) key ≡ reducedDk (ofRank rank) dk
+    → joinedDk (ofRank rank) (state .key) ≡ reducedDk (ofRank rank) dk
 imported-joins-by i = imported-joins (byRank-done i)
 
-module _ {e : Edition} {rank : ℕ} {g : Input} {k0₀ k1₀ k0 k1 : List ℕ}
-    (d : DecapsulatedBy e rank g k0₀ k1₀ 0 k0 k1) where
+module _ {e : Edition} {rank : ℕ} {g : Input} {limit count₀ count : ℕ} {k0₀ k1₀ k0 k1 : List ℕ}
+    (d : DecapsulatedBy e rank g limit count₀ k0₀ k1₀ 0 count k0 k1) where
   pub decaps-joins-by : Typed g
       → wordsToBytes 8 (joinedList (sharedList k0 k1))
       ≡ kem.decaps e (ofRank rank) (joinedDk (ofRank rank) (g .key)) (g .ct)
   decaps-joins-by types = decaps-joins (byRank-done d) (fits-ofRank rank) types
 
   -- import of dk, told the same rank, has left the split key in g
-  pub imported-decaps-by : {dk maskCoeffs maskWords : List ℕ} {key₀ : SplitKey}
-      → ImportedBy rank dk maskCoeffs maskWords key₀ 0 (g .key)
+  pub imported-decaps-by : {dk maskCoeffs maskWords : List ℕ} {told : ℕ} {state₀ : KeyState}
+      → ImportedBy rank dk maskCoeffs maskWords told state₀ 0 (keyState (g .key) limit count₀)
       → Below 256 dk → Below (2 ^ 64) maskWords → Below 256 (g .ct) → Below (2 ^ 64) (g .words)
       → wordsToBytes 8 (joinedList (sharedList k0 k1)) ≡ kem.decaps e (ofRank rank) dk (g .ct)
   imported-decaps-by i = imported-decaps (fits-ofRank rank) (byRank-done i) (byRank-done d)

@@ -1,12 +1,11 @@
 // Masked decapsulation and its trace, of either edition: one function runs the worksheet, told a step number or none.
-ghost use mathlib.Core.Bool.{_&&_};
+ghost use mathlib.Core.Bool.{true};
 ghost use mathlib.Core.Path.{_≡_};
 ghost use Prim.Native.Nat.{_*_};
 ghost use lib.ListN.{length};
 ghost use Rattle.parameters.specs.Fits.{Fits};
 ghost use Rattle.worksheet.specs.SharedList.{sharedList};
 ghost use Rattle.refusals.specs.Refusals.{number};
-ghost use Rattle.refusals.specs.Reduced.{reduced as reducedOf};
 ghost use Rattle.decapsulation.specs.Calls.{input, Decapsulated, Traced, DecapsulatedBy, TracedBy};
 ghost use Rattle.decapsulation.specs.Told.{Told};
 ghost use Rattle.decapsulation.specs.Sized.{CallSized};
@@ -20,6 +19,7 @@ use parameters::is_rank;
 use parameters::of_rank;
 use parameters::vector_bytes;
 use refusals::Answer;
+use refusals::conditions::both_reduced;
 use refusals::conditions::reduced;
 use refusals::exact;
 use stages::entry_counts::steps;
@@ -27,15 +27,6 @@ use stages::mask_counts::strip_coeffs;
 use stages::mask_counts::strip_words;
 use tracing::left_of;
 use worksheet::Recorder;
-
-// Both are read, whatever the first holds.
-fn both_reduced(f: &[u16], g: &[u16]) -> bool
-    ensures { λ r. ⌜ r ≡ (reducedOf (now (f .entry)) && reducedOf (now (g .entry))) ⌝ }
-{
-    let first = reduced(f);
-    let second = reduced(g);
-    first & second
-}
 
 // Rows 5 to 8, then the worksheet; a becomes the matrix A-hat.
 fn decapsulate_in(
@@ -62,7 +53,7 @@ fn decapsulate_in(
         (sharedList (now k0) (now k1))
         × (length (now a) ≡ 256 * p .k * p .k) ⌝ }
     ensures { λ r. ⌜
-        Told e p left
+        Told e p left true
         (input (now (s0 .entry)) (now (s1 .entry)) (now (z0 .entry)) (now (z1 .entry)) (now (public .entry))
         (now (ct .entry)) (now (words .entry)) (now (coeffs .entry)))
         (now (k0 .entry)) (now (k1 .entry)) (now (value .entry)) (number r)
@@ -103,9 +94,11 @@ fn decapsulate_in(
     Answer::Done
 }
 
-// Refusals first, then the worksheet; `left` is 0 for no step and t + 1 for step t.
+// Refusals first, then the worksheet; `left` is 0 for no step and t + 1 for step t. A split key that isn't usable is
+// refused behind row 1.
 fn decapsulate(
     left: u64,
+    usable: bool,
     e: Edition,
     p: Parameters,
     s0: &[u16],
@@ -122,7 +115,7 @@ fn decapsulate(
 ) -> Answer
     requires { ⌜ Fits p ⌝ }
     ensures { λ r. ⌜
-        Told e p left
+        Told e p left usable
         (input (now (s0 .entry)) (now (s1 .entry)) (now (z0 .entry)) (now (z1 .entry)) (now (public .entry))
         (now (ct .entry)) (now (words .entry)) (now (coeffs .entry)))
         (now (k0 .entry)) (now (k1 .entry)) (now (value .entry)) (number r)
@@ -148,6 +141,9 @@ fn decapsulate(
     if !exact(&has, &wants) {
         return Answer::WrongLength;
     }
+    if !usable {
+        return Answer::LimitReached;
+    }
     let mut a = [0u16; 4096];
     decapsulate_in(
         left,
@@ -168,7 +164,7 @@ fn decapsulate(
     )
 }
 
-// Told no step.
+// Told no step; what is carried out is counted.
 fn decaps_at(
     e: Edition,
     p: Parameters,
@@ -177,6 +173,8 @@ fn decaps_at(
     z0: &[u64],
     z1: &[u64],
     public: &[u8],
+    limit: u32,
+    count: &mut u32,
     ct: &[u8],
     words: &[u64],
     coeffs: &[u16],
@@ -188,11 +186,14 @@ fn decaps_at(
         Decapsulated e p
         (input (now (s0 .entry)) (now (s1 .entry)) (now (z0 .entry)) (now (z1 .entry)) (now (public .entry))
         (now (ct .entry)) (now (words .entry)) (now (coeffs .entry)))
-        (now (k0 .entry)) (now (k1 .entry)) (number r) (now (k0 .exit)) (now (k1 .exit)) ⌝ }
+        limit (now (count .entry)) (now (k0 .entry)) (now (k1 .entry)) (number r)
+        (now (count .exit)) (now (k0 .exit)) (now (k1 .exit)) ⌝ }
 {
     let mut value: u64 = 0;
-    decapsulate(
+    let used = *count;
+    let answer = decapsulate(
         0,
+        used < limit,
         e,
         p,
         s0,
@@ -206,7 +207,11 @@ fn decaps_at(
         k0,
         k1,
         &mut value,
-    )
+    );
+    if refusals::number(answer) == 0 {
+        *count = used + 1;
+    }
+    answer
 }
 
 // Masked decapsulation for the parameter set of a rank.
@@ -218,6 +223,8 @@ pub fn decaps(
     z0: &[u64],
     z1: &[u64],
     public: &[u8],
+    limit: u32,
+    count: &mut u32,
     ct: &[u8],
     words: &[u64],
     coeffs: &[u16],
@@ -228,7 +235,8 @@ pub fn decaps(
         DecapsulatedBy e rank
         (input (now (s0 .entry)) (now (s1 .entry)) (now (z0 .entry)) (now (z1 .entry)) (now (public .entry))
         (now (ct .entry)) (now (words .entry)) (now (coeffs .entry)))
-        (now (k0 .entry)) (now (k1 .entry)) (number r) (now (k0 .exit)) (now (k1 .exit)) ⌝ }
+        limit (now (count .entry)) (now (k0 .entry)) (now (k1 .entry)) (number r)
+        (now (count .exit)) (now (k0 .exit)) (now (k1 .exit)) ⌝ }
 {
     if !is_rank(rank) {
         return Answer::NoSuchRank;
@@ -241,6 +249,8 @@ pub fn decaps(
         z0,
         z1,
         public,
+        limit,
+        count,
         ct,
         words,
         coeffs,
@@ -276,6 +286,7 @@ fn trace_at(
     let left = left_of(step, steps(e, p) as u64);
     decapsulate(
         left,
+        true,
         e,
         p,
         s0,

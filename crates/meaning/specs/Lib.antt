@@ -2,6 +2,7 @@ pub mod WordBits
 pub mod JoinedDk
 pub mod InOrder
 pub mod JoinedDkLaws
+pub mod RefreshValue
 pub mod StageSharing
 pub mod StageSharingLaws
 pub mod JoinedLists

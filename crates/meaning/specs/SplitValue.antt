@@ -48,7 +48,7 @@ module _ {p : Parameters} {dk a w : List ℕ} (o : Importable p dk a w) where
   below-zPart : Below 256 (zPart p dk)
   below-zPart = below-take 32 (below-drop (vectorBytes p + ekBytes p + 32) (o .bytes))
 
-  split-inOrder : InOrder p (split p dk a w)
+  pub split-inOrder : InOrder p (split p dk a w)
   unfolding split secondWords
   split-inOrder =
       record {
@@ -134,7 +134,7 @@ module _ {p : Parameters} {dk a w : List ℕ} (o : Importable p dk a w) where
       ∙ ap (λ (l : List ℕ). byteEncode 1 (map (compress 1) (sub (secondDecoded p c) (inverseNtt l))))
       (dot-cong (p .k) joined-at (λ i h. refl))
 
-  decaps-split : (e : Edition) (c : List ℕ) → decaps e p (joinedDk p (split p dk a w)) c ≡ decaps e p dk c
+  pub decaps-split : (e : Edition) (c : List ℕ) → decaps e p (joinedDk p (split p dk a w)) c ≡ decaps e p dk c
   decaps-split e c =
       rw (
         decaps-by e p (joinedDk p (split p dk a w)) c,

@@ -3,18 +3,16 @@ ghost use Prim.Native.Nat.{_≤_};
 ghost use lib.ListN.{length};
 ghost use Rattle.buffers.specs.Split.{Sized};
 ghost use Rattle.cli_support.specs.Bounded.{Bounded};
-use buffers::split_key::pack_words;
-use cli_support::answers::is_refused;
+use crate::answering::print_step;
+use crate::answering::write_shares;
 use cli_support::arguments;
 use cli_support::arguments::Natural;
 use cli_support::inputs::read_exact;
-use cli_support::messages;
-use cli_support::outputs::write_secret;
+use cli_support::outputs;
 use cli_support::sets::Sizes;
 use cli_support::split_file::read_split;
 use cli_support::strip_file;
 use cli_support::strip_file::read_strip;
-use libc::STDOUT_FILENO;
 use parameters::Edition;
 
 // What is asked for: the shares of K, or the value of a step.
@@ -23,101 +21,56 @@ enum Asked {
     Step(u64),
 }
 
-fn write_shares(
-    e: Edition,
-    rank: u32,
-    s0: &[u16],
-    s1: &[u16],
-    z0: &[u64],
-    z1: &[u64],
-    public: &[u8],
-    ct: &[u8],
-    words: &[u64],
-    coeffs: &[u16],
-) {
-    let mut k0 = [0u64; 4];
-    let mut k1 = [0u64; 4];
-    let answer = decapsulation::decaps(
-        e,
-        rank,
-        s0,
-        s1,
-        z0,
-        z1,
-        public,
-        ct,
-        words,
-        coeffs,
-        &mut k0,
-        &mut k1,
-    );
-    if is_refused(answer) {
-        return;
-    }
-    let mut shares = [0u8; 64];
-    pack_words(&k0, &k1, &mut shares);
-    write_secret(6, &shares);
-}
-
-fn print_step(
-    e: Edition,
-    rank: u32,
-    s0: &[u16],
-    s1: &[u16],
-    z0: &[u64],
-    z1: &[u64],
-    public: &[u8],
-    ct: &[u8],
-    words: &[u64],
-    coeffs: &[u16],
-    step: u64,
-) {
-    let mut value: u64 = 0;
-    let answer = decapsulation::trace(
-        e,
-        rank,
-        s0,
-        s1,
-        z0,
-        z1,
-        public,
-        ct,
-        words,
-        coeffs,
-        step,
-        &mut value,
-    );
-    if is_refused(answer) {
-        return;
-    }
-    io::print_decimal(STDOUT_FILENO, value);
-    if !io::write_all(STDOUT_FILENO, b"\n") {
-        messages::failed(b"standard output");
-    }
-}
-
 // With the file of argument 5, a strip.
 fn run_strip(
     e: Edition,
-    rank: u32,
+    k: usize,
     asked: Asked,
     s0: &[u16],
     s1: &[u16],
     z0: &[u64],
     z1: &[u64],
     public: &[u8],
+    limit: u32,
+    count: u32,
     ct: &[u8],
     words: &mut [u64],
     coeffs: &mut [u16],
 )
-    requires { ⌜ (length (now words) ≤ 15192) × (length (now coeffs) ≤ 9472) ⌝ }
+    requires { ⌜ Sized k (now s0) (now s1) (now z0) (now z1) (now public) × (k ≤ 4)
+        × (length (now words) ≤ 15192) × (length (now coeffs) ≤ 9472) ⌝ }
 {
     if !read_strip(5, words, coeffs) {
         return;
     }
     match asked {
-        Asked::Shares => write_shares(e, rank, s0, s1, z0, z1, public, ct, words, coeffs),
-        Asked::Step(step) => print_step(e, rank, s0, s1, z0, z1, public, ct, words, coeffs, step),
+        Asked::Shares => write_shares(
+            e,
+            k,
+            s0,
+            s1,
+            z0,
+            z1,
+            public,
+            limit,
+            count,
+            ct,
+            words,
+            coeffs,
+        ),
+        Asked::Step(step) => print_step(
+            e,
+            k as u32,
+            s0,
+            s1,
+            z0,
+            z1,
+            public,
+            ct,
+            words,
+            coeffs,
+            step,
+        ),
     }
 }
 
@@ -130,9 +83,11 @@ fn run_ciphertext(
     z0: &[u64],
     z1: &[u64],
     public: &[u8],
+    limit: u32,
+    count: u32,
     ct: &mut [u8],
 )
-    requires { ⌜ Bounded set ⌝ }
+    requires { ⌜ Bounded set × Sized (set .k) (now s0) (now s1) (now z0) (now z1) (now public) ⌝ }
 {
     if !read_exact(4, ct) {
         return;
@@ -144,13 +99,15 @@ fn run_ciphertext(
     let n = set.coeffs;
     run_strip(
         e,
-        set.k as u32,
+        set.k,
         asked,
         s0,
         s1,
         z0,
         z1,
         public,
+        limit,
+        count,
         ct,
         &mut words[0..m],
         &mut coeffs[0..n],
@@ -169,12 +126,25 @@ fn run_split(
 )
     requires { ⌜ Bounded set × Sized (set .k) (now s0) (now s1) (now z0) (now z1) (now public) ⌝ }
 {
-    if !read_split(3, set.k, s0, s1, z0, z1, public) {
+    let mut limit: u32 = 0;
+    let mut count: u32 = 0;
+    if !read_split(3, set.k, s0, s1, z0, z1, public, &mut limit, &mut count) {
         return;
     }
     let mut ct = [0u8; 1568];
     let n = set.ct;
-    run_ciphertext(set, asked, s0, s1, z0, z1, public, &mut ct[0..n]);
+    run_ciphertext(
+        set,
+        asked,
+        s0,
+        s1,
+        z0,
+        z1,
+        public,
+        limit,
+        count,
+        &mut ct[0..n],
+    );
 }
 
 fn run(set: Sizes, asked: Asked)
@@ -202,6 +172,9 @@ fn run(set: Sizes, asked: Asked)
 pub fn decaps(set: Sizes)
     requires { ⌜ Bounded set ⌝ }
 {
+    if outputs::are_same_at(3, 6) {
+        return;
+    }
     run(set, Asked::Shares);
 }
 

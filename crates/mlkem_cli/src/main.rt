@@ -16,6 +16,7 @@ use cli_support::sets::sizes_of;
 use libc::STDERR_FILENO;
 use libc::STDOUT_FILENO;
 
+mod answering; // the shares of K, and the value of a step
 mod decapsulating; // decaps, trace
 
 fn run_call(call: Call, set: Sizes)
@@ -25,6 +26,7 @@ fn run_call(call: Call, set: Sizes)
         Call::KeyGen => keys::keygen(set),
         Call::Encaps => keys::encaps(set),
         Call::Import => splitting::import(set),
+        Call::Refresh => splitting::refresh(set),
         Call::Decaps => decapsulating::decaps(set),
         Call::Trace => decapsulating::trace(set),
         Call::Demo => cli_demo::demo(set),

@@ -10,7 +10,7 @@ use lib.ListN.{length}
 use Rattle.refusals.specs.declared.Answer.{Answer}
 use Rattle.refusals.specs.declared.Answer.the-variants.{Done, WrongLength, PublicKeyRange, WrongHash}
 use Rattle.refusals.specs.declared.Answer.the-variants.{MaskRange, ShareRange, ShortStream}
-use Rattle.refusals.specs.declared.Answer.the-variants.{NoSuchStep, NoSuchRank}
+use Rattle.refusals.specs.declared.Answer.the-variants.{NoSuchStep, NoSuchRank, LimitRange, LimitReached}
 use Rattle.refusals.specs.Refusals.{number, Row, row, answer, after, Lent, sized}
 use Rattle.refusals.specs.Same.{same}
 use Rattle.refusals.specs.SameLaws.{and-left, and-right}
@@ -49,6 +49,8 @@ number-done ShareRange e = absurd (omega arith)
 number-done ShortStream e = absurd (omega arith)
 number-done NoSuchStep e = absurd (omega arith)
 number-done NoSuchRank e = absurd (omega arith)
+number-done LimitRange e = absurd (omega arith)
+number-done LimitReached e = absurd (omega arith)
 
 pub after-done : {A : Type 0} (n : ℕ) (new old : A) → n ≡ 0 → after n new old ≡ new
 after-done {A} n new old e = ap (λ (b : Bool). cond b new old) (eq-eqb n 0 e)

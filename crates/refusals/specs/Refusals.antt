@@ -1,4 +1,4 @@
--- Document 01, Refusals by place, as asks 1 and 2 of document 02 change it: answers, their numbers, rows, and the
+-- Document 01, Refusals by place, as asks 1, 2 and 5 of document 02 change it: answers, their numbers, rows, and the
 -- condition of row 1.
 use mathlib.Core.Bool.{Bool, true, cond, _&&_}
 use mathlib.Core.List.{List, [], _∷_}
@@ -8,7 +8,7 @@ use lib.ListN.{length}
 use Rattle.refusals.specs.declared.Answer.{Answer}
 use Rattle.refusals.specs.declared.Answer.the-variants.{Done, WrongLength, PublicKeyRange, WrongHash}
 use Rattle.refusals.specs.declared.Answer.the-variants.{MaskRange, ShareRange, ShortStream}
-use Rattle.refusals.specs.declared.Answer.the-variants.{NoSuchStep, NoSuchRank}
+use Rattle.refusals.specs.declared.Answer.the-variants.{NoSuchStep, NoSuchRank, LimitRange, LimitReached}
 
 -- the number of a refusal; 0 where the call is carried out
 abbrev pub number : Answer → ℕ
@@ -21,6 +21,8 @@ number ShareRange = 6
 number ShortStream = 7
 number NoSuchStep = 8
 number NoSuchRank = 9
+number LimitRange = 10
+number LimitReached = 11
 
 -- a row of the table: its condition, and its refusal
 pub record Row : Type 0 where

@@ -1,4 +1,5 @@
 // The conditions of rows 2, 3, 5 and 6: coefficients below q, and equal strings.
+ghost use mathlib.Core.Bool.{_&&_};
 ghost use mathlib.Core.Path.{_≡_};
 ghost use lib.ListN.{length};
 ghost use Rattle.refusals.specs.Reduced.{reduced as reducedOf};
@@ -13,6 +14,15 @@ pub fn reduced(f: &[u16]) -> bool
         all = all & (f[i] < 3329);
     }
     all
+}
+
+// Both are read, whatever the first holds.
+pub fn both_reduced(f: &[u16], g: &[u16]) -> bool
+    ensures { λ r. ⌜ r ≡ (reducedOf (now (f .entry)) && reducedOf (now (g .entry))) ⌝ }
+{
+    let first = reduced(f);
+    let second = reduced(g);
+    first & second
 }
 
 // Two strings of one length are equal.

@@ -17,12 +17,14 @@ pub enum Answer {
     ShortStream,
     NoSuchStep,
     NoSuchRank,
+    LimitRange,
+    LimitReached,
 }
 
 // 0 where the call is carried out.
 pub fn number(answer: Answer) -> u64
     ensures { λ r. ⌜ r ≡ numberOf answer ⌝ }
-    ensures { λ r. ⌜ r ≤ 9 ⌝ }
+    ensures { λ r. ⌜ r ≤ 11 ⌝ }
 {
     match answer {
         Answer::Done => 0,
@@ -34,6 +36,8 @@ pub fn number(answer: Answer) -> u64
         Answer::ShortStream => 7,
         Answer::NoSuchStep => 8,
         Answer::NoSuchRank => 9,
+        Answer::LimitRange => 10,
+        Answer::LimitReached => 11,
     }
 }
 

@@ -128,6 +128,21 @@ part-add a n f g h =
     (sym (getD-take n (drop a f) i 0 l ∙ getD-drop a f i 0)) (sym (getD-take n (drop a g) i 0 l ∙ getD-drop a g i 0)))
     ∙ rw (length-part a n f h)
 
+-- what is taken away in turn is taken away at once
+pub sub-sub : (f g h : List ℕ) → length f ≡ length g → length g ≡ length h → sub (sub f g) h ≡ sub f (add g h)
+sub-sub f g h e e′ =
+    ext-getD 0 _ _ (length-sub (sub f g) h ∙ length-sub f g ∙ sym (length-sub f (add g h)))
+    (λ k l.
+    getD-sub (sub f g) h k (length-sub f g ∙ e ∙ e′)
+    ∙ ap (λ (x : ℕ). minus x (getD h k 0)) (getD-sub f g k e)
+    ∙ regroup (getD f k 0) (getD g k 0) (getD h k 0)
+    ∙ sym (getD-sub f (add g h) k (e ∙ sym (length-add g h)) ∙ ap (minus (getD f k 0)) (getD-add g h k e′)))
+  where
+    regroup : (x y z : ℕ) → minus (minus x y) z ≡ minus x ((y + z) % q)
+    regroup x y z =
+        let e : minus (minus x y) z ≡ minus x (y + z) = omega arith in
+        e ∙ sym (minus-mod x (y + z))
+
 -- a sum of two shares is taken away share by share
 pub sub-shares : (f g g′ : List ℕ) → length f ≡ length g → length g ≡ length g′
     → add (sub f g) (sub (replicate (length f) 0) g′) ≡ sub f (add g g′)

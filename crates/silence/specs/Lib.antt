@@ -1,4 +1,6 @@
 pub mod Claim
+pub mod ChoicesInRange
+pub mod ImportedAnswers
 pub mod Recount
 pub mod Pair
 pub mod HashSilence

@@ -1,9 +1,13 @@
 pub mod SplitKey
 pub mod SplitLaws
+pub mod KeyState
 pub mod Import
+pub mod Refresh
 pub mod Sized
+pub mod RefreshAnswerLaws
 pub mod SplitLengths
 pub mod ImportAnswerLaws
 pub mod AcceptedLaws
 pub mod Importable
 pub mod ImportLaws
+pub mod RefreshLaws

@@ -31,15 +31,13 @@ module _ (p : Parameters) where
   abbrev pub hOf : SplitKey → List ℕ
   hOf key = drop (ekBytes p) (key .public)
 
-  -- the lengths that the five buffers must have
+  -- the lengths that the buffers must have: those of the shares, and all five
+  abbrev pub shareLengths : SharedList → SharedList → List Lent
+  shareLengths s z =
+      lent (s .s0) (256 * p .k) ∷ lent (s .s1) (256 * p .k) ∷ lent (z .s0) 4 ∷ lent (z .s1) 4 ∷ []
+
   abbrev pub keyLengths : SplitKey → List Lent
-  keyLengths key =
-      lent (key .s .s0) (256 * p .k)
-      ∷ lent (key .s .s1) (256 * p .k)
-      ∷ lent (key .z .s0) 4
-      ∷ lent (key .z .s1) 4
-      ∷ lent (key .public) (ekBytes p + 32)
-      ∷ []
+  keyLengths key = shareLengths (key .s) (key .z) ++ lent (key .public) (ekBytes p + 32) ∷ []
 
   -- ---- import's split of dk: the first shares are the masks
 

@@ -1,15 +1,18 @@
-// Coefficients and steps out of range, alone and several at a time: document 01's rows are tried from top to bottom.
+// Coefficients and steps out of range and a limit that is reached, alone and several at a time: the rows are tried from
+// top to bottom. A trace has no limit.
 ghost use Rattle.test_support.specs.Sizes.{Bounded};
 use crate::refused::print_decaps;
 use crate::refused::print_trace;
 use test_decaps_support::case::Case;
-use test_decaps_support::case::Fault;
-use test_decaps_support::case::Part;
+use test_decaps_support::case::with_limit;
 use test_decaps_support::case::wrong;
 use test_support::edges::At;
 use test_support::edges::Edge;
 use test_support::edges::Lengths;
 use test_support::edges::exact;
+use test_support::faults::Fault;
+use test_support::faults::Part;
+use test_support::faults::print_fault;
 use test_support::sizes::Sizes;
 use text::print;
 use text::print_decimal;
@@ -22,23 +25,6 @@ fn lines(case: Case, step: u64) {
     print_trace(case, step);
 }
 
-fn print_fault(fault: Fault) {
-    let part = fault.part;
-    match part {
-        Part::None => print(b"none"),
-        Part::Strip => print(b"strip"),
-        Part::FirstShare => print(b"first share"),
-        Part::SecondShare => print(b"second share"),
-        Part::Both => print(b"second share and strip"),
-        Part::All => print(b"shares and strip"),
-    }
-    print(b", coefficient ");
-    print_decimal(fault.at as u64);
-    print(b" is ");
-    print_decimal(fault.v as u64);
-    print(b"\n");
-}
-
 fn fault_at(s: Sizes, part: Part, at: usize, v: u16) {
     let e = s.edition;
     let fault = Fault {
@@ -46,7 +32,8 @@ fn fault_at(s: Sizes, part: Part, at: usize, v: u16) {
         at: at,
         v: v,
     };
-    print_fault(fault);
+    print_fault(fault, b"strip");
+    print(b"\n");
     lines(wrong(s, fault, exact(e, s.rank), s.rank), 0);
 }
 
@@ -76,6 +63,18 @@ fn step(s: Sizes, step: u64) {
     lines(at_hundred(s, Part::None, exact(e, s.rank)), step);
 }
 
+// Every count has reached a limit of 0.
+fn reached(s: Sizes)
+    requires { ⌜ Bounded s ⌝ }
+{
+    let e = s.edition;
+    print(b"limit reached\n");
+    lines(
+        with_limit(at_hundred(s, Part::None, exact(e, s.rank)), 0),
+        s.steps - 1,
+    );
+}
+
 // The step is past the end; further faults come one after the other.
 fn rows(s: Sizes, past: u64) {
     let e = s.edition;
@@ -91,18 +90,21 @@ fn rows(s: Sizes, past: u64) {
     lines(at_hundred(s, Part::SecondShare, right), past);
     print(b"and a mask\n");
     lines(at_hundred(s, Part::Both, right), past);
+    print(b"and a count\n");
+    lines(with_limit(at_hundred(s, Part::Both, right), 0), past);
     print(b"and a length\n");
-    lines(at_hundred(s, Part::Both, short), past);
+    lines(with_limit(at_hundred(s, Part::Both, short), 0), past);
 }
 
 pub fn run(s: Sizes)
     requires { ⌜ Bounded s ⌝ }
 {
     let last = s.coefficients - 1;
-    faults(s, Part::Strip, s.coeffs - 1);
+    faults(s, Part::Masks, s.coeffs - 1);
     faults(s, Part::FirstShare, last);
     faults(s, Part::SecondShare, last);
     step(s, s.steps - 1);
     step(s, 0xffff_ffff_ffff_ffff);
+    reached(s);
     rows(s, s.steps);
 }

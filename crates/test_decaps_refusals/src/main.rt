@@ -1,6 +1,7 @@
 // Masked decapsulation and its trace, for the parameter sets of each edition, with wrong lengths, with coefficients and
-// steps out of range, and with several faults; then for ranks that no set has. What it prints is held to the file
-// stdout, written by tools/decaps_vectors. Refusal 7 isn't tried: no public part is known whose matrix streams run dry.
+// steps out of range, with several faults, and with limits and counts at their edges; then for ranks that no set has.
+// What it prints is held to the file stdout, written by tools/decaps_vectors. Refusal 7 isn't tried: no public part is
+// known whose matrix streams run dry.
 use parameters::Edition;
 use test_support::sizes::of_rank;
 use test_support::sizes::print_name;
@@ -10,6 +11,7 @@ mod faults;
 mod lengths;
 mod ranks;
 mod refused; // calls whose outputs hold 238 in each byte before
+mod uses;
 
 fn set(e: Edition, rank: u32) {
     let s = of_rank(e, rank);
@@ -17,6 +19,7 @@ fn set(e: Edition, rank: u32) {
     print(b"\n");
     lengths::run(s);
     faults::run(s);
+    uses::run(s);
 }
 
 fn edition(e: Edition) {

@@ -26,6 +26,8 @@ fn call(
     z0: &[u64],
     z1: &[u64],
     public: &[u8],
+    limit: u32,
+    count: &mut u32,
     ct: &[u8],
     words: &[u64],
     coeffs: &[u16],
@@ -35,7 +37,22 @@ fn call(
 ) -> Answer {
     match asked {
         Asked::Shares => {
-            decapsulation::decaps(e, rank, s0, s1, z0, z1, public, ct, words, coeffs, k0, k1)
+            decapsulation::decaps(
+                e,
+                rank,
+                s0,
+                s1,
+                z0,
+                z1,
+                public,
+                limit,
+                count,
+                ct,
+                words,
+                coeffs,
+                k0,
+                k1,
+            )
         }
         Asked::Step(step) => {
             decapsulation::trace(
@@ -65,6 +82,7 @@ fn cut_strip(
     z0: &[u64],
     z1: &[u64],
     public: &[u8],
+    count: &mut u32,
     ct: &[u8],
     words: &[u64],
     coeffs: &[u16],
@@ -85,6 +103,8 @@ fn cut_strip(
         z0,
         z1,
         public,
+        case.limit,
+        count,
         parts::bytes(ct, a),
         parts::words(words, b),
         parts::coefficients(coeffs, c),
@@ -103,6 +123,7 @@ fn cut(
     z0: &[u64],
     z1: &[u64],
     public: &[u8],
+    count: &mut u32,
     ct: &[u8],
     words: &[u64],
     coeffs: &[u16],
@@ -123,6 +144,7 @@ fn cut(
         parts::words(z0, c),
         parts::words(z1, d),
         parts::bytes(public, e),
+        count,
         ct,
         words,
         coeffs,
@@ -133,7 +155,14 @@ fn cut(
 }
 
 // The answer of the first call that is refused. Each buffer has one element more than the largest set asks for.
-fn run(asked: Asked, case: Case, k0: &mut [u64], k1: &mut [u64], value: &mut u64) -> Answer {
+fn run(
+    asked: Asked,
+    case: Case,
+    count: &mut u32,
+    k0: &mut [u64],
+    k1: &mut [u64],
+    value: &mut u64,
+) -> Answer {
     let mut s0 = [0u16; 1025];
     let mut s1 = [0u16; 1025];
     let mut z0 = [0u64; 5];
@@ -164,6 +193,7 @@ fn run(asked: Asked, case: Case, k0: &mut [u64], k1: &mut [u64], value: &mut u64
         &z0,
         &z1,
         &public,
+        count,
         &ct,
         &words,
         &coeffs,
@@ -173,24 +203,26 @@ fn run(asked: Asked, case: Case, k0: &mut [u64], k1: &mut [u64], value: &mut u64
     )
 }
 
-pub fn decaps(case: Case, k0: &mut [u64], k1: &mut [u64]) -> Answer {
+pub fn decaps(case: Case, count: &mut u32, k0: &mut [u64], k1: &mut [u64]) -> Answer {
     let mut value: u64 = 0;
-    run(Asked::Shares, case, k0, k1, &mut value)
+    run(Asked::Shares, case, count, k0, k1, &mut value)
 }
 
 pub fn trace(case: Case, step: u64, value: &mut u64) -> Answer {
+    let mut count: u32 = 0;
     let mut k0 = [0u64; 4];
     let mut k1 = [0u64; 4];
-    run(Asked::Step(step), case, &mut k0, &mut k1, value)
+    run(Asked::Step(step), case, &mut count, &mut k0, &mut k1, value)
 }
 
-// The number of the answer; where it is 0, out is what the shares of K stand for.
+// The number of the answer under a count of 0; where it is 0, out is what the shares of K stand for.
 pub fn decaps_joined(case: Case, out: &mut [u8]) -> u64
     requires { ⌜ length (now out) ≡ 32 ⌝ }
 {
+    let mut count: u32 = 0;
     let mut k0 = [0u64; 4];
     let mut k1 = [0u64; 4];
-    let n = number(decaps(case, &mut k0, &mut k1));
+    let n = number(decaps(case, &mut count, &mut k0, &mut k1));
     let mut k = [0u64; 4];
     xor_words(&k0, &k1, &mut k);
     put_words(&k, out);

@@ -1,10 +1,12 @@
 // A case of decapsulation, told in numbers: the edition and the set, the turn whose key and ciphertext are taken, what
-// is raised of the key, the masks, what is wrong.
+// is raised of the key, its use limit, the masks, what is wrong.
 ghost use Rattle.test_support.specs.Sizes.{Bounded};
 use parameters::Edition;
 use test_keys::elsewhere::Raised;
 use test_support::edges::Lengths;
 use test_support::edges::exact;
+use test_support::faults::Fault;
+use test_support::faults::Part;
 use test_support::masks::Masks;
 use test_support::sizes::Sizes;
 use test_support::sizes::of_rank;
@@ -16,29 +18,13 @@ pub enum Ciphertext {
     Damaged(usize, u8),
 }
 
-// Whose coefficient is out of range. Both: the second share's and the strip's. All: each one of shares and strip.
-pub enum Part {
-    None,
-    Strip,
-    FirstShare,
-    SecondShare,
-    Both,
-    All,
-}
-
-// Coefficient `at` of the part is v.
-pub struct Fault {
-    pub part: Part,
-    pub at: usize,
-    pub v: u16,
-}
-
 // The key is of the edition's set of the rank, and split under masks of one kind; the strip is of another.
 pub struct Case {
     pub edition: Edition,
     pub rank: u32,
     pub turn: usize,
     pub raised: Raised,
+    pub limit: u32,
     pub ciphertext: Ciphertext,
     pub split: Masks,
     pub strip: Masks,
@@ -55,7 +41,7 @@ pub fn sizes(case: Case) -> Sizes
     of_rank(e, case.rank)
 }
 
-// Nothing is wrong.
+// Nothing is wrong, and one use is left.
 pub fn right(
     s: Sizes,
     turn: usize,
@@ -76,6 +62,7 @@ pub fn right(
         rank: s.rank,
         turn: turn,
         raised: raised,
+        limit: 1,
         ciphertext: ciphertext,
         split: split,
         strip: strip,
@@ -85,7 +72,7 @@ pub fn right(
     }
 }
 
-// Turn 0's key and ciphertext, with something wrong.
+// Turn 0's key and ciphertext, with something wrong. No count but the largest reaches the limit.
 pub fn wrong(s: Sizes, fault: Fault, lengths: Lengths, told: u32) -> Case {
     let e = s.edition;
     Case {
@@ -93,6 +80,7 @@ pub fn wrong(s: Sizes, fault: Fault, lengths: Lengths, told: u32) -> Case {
         rank: s.rank,
         turn: 0,
         raised: Raised::None,
+        limit: 0xffff_ffff,
         ciphertext: Ciphertext::True,
         split: Masks::Drawn(9),
         strip: Masks::Drawn(9),
@@ -100,4 +88,11 @@ pub fn wrong(s: Sizes, fault: Fault, lengths: Lengths, told: u32) -> Case {
         lengths: lengths,
         told: told,
     }
+}
+
+// The same under another limit.
+pub fn with_limit(case: Case, limit: u32) -> Case {
+    let mut c = case;
+    c.limit = limit;
+    c
 }

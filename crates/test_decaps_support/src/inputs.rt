@@ -5,22 +5,15 @@ ghost use Rattle.test_support.specs.Sizes.{Bounded};
 ghost use Rattle.test_decaps_support.specs.Lengths.{LongestSplit, Longest};
 use crate::case::Case;
 use crate::case::Ciphertext;
-use crate::case::Fault;
-use crate::case::Part;
 use crate::case::sizes;
 use refusals::Answer;
 use test_keys::elsewhere::raise_key;
 use test_keys::turn;
-use test_support::bytes::set_coefficients;
+use test_support::bytes::damage;
+use test_support::faults::spoil;
 use test_support::masks;
 use test_support::masks::Masks;
 use test_support::sizes::Sizes;
-
-fn damage(ct: &mut [u8], at: usize, bits: u8) {
-    if at < ct.len() {
-        ct[at] = ct[at] ^ bits;
-    }
-}
 
 // The turn's own ciphertext is there already.
 fn take_ciphertext(s: Sizes, turn: usize, ciphertext: Ciphertext, ct: &mut [u8])
@@ -55,6 +48,7 @@ fn make_strip(s: Sizes, kind: Masks, words: &mut [u64], coeffs: &mut [u16])
     masks::coefficients(kind, b'c', &mut coeffs[0..c]);
 }
 
+// The limit and the count that it hands back aren't kept: the case has its own.
 fn import(
     rank: u32,
     dk: &[u8],
@@ -66,7 +60,22 @@ fn import(
     z1: &mut [u64],
     public: &mut [u8],
 ) -> Answer {
-    split_key::import(rank, dk, mask_coeffs, mask_words, s0, s1, z0, z1, public)
+    let mut limit: u32 = 0;
+    let mut count: u32 = 0;
+    split_key::import(
+        rank,
+        dk,
+        mask_coeffs,
+        mask_words,
+        1,
+        s0,
+        s1,
+        z0,
+        z1,
+        public,
+        &mut limit,
+        &mut count,
+    )
 }
 
 fn import_parts(
@@ -148,33 +157,6 @@ fn make_imported(
     let split = case.split;
     make_key(s, case, dk, &mut ct[0..c]);
     make_split(s, dk, split, s0, s1, z0, z1, public)
-}
-
-fn put(f: &mut [u16], at: usize, v: u16) {
-    if at < f.len() {
-        f[at] = v;
-    }
-}
-
-fn spoil(fault: Fault, s0: &mut [u16], s1: &mut [u16], coeffs: &mut [u16]) {
-    let part = fault.part;
-    let at = fault.at;
-    let v = fault.v;
-    match part {
-        Part::None => {}
-        Part::Strip => put(coeffs, at, v),
-        Part::FirstShare => put(s0, at, v),
-        Part::SecondShare => put(s1, at, v),
-        Part::Both => {
-            put(s1, at, v);
-            put(coeffs, at, v);
-        }
-        Part::All => {
-            set_coefficients(v, s0);
-            set_coefficients(v, s1);
-            set_coefficients(v, coeffs);
-        }
-    }
 }
 
 // Each buffer has one element more than the largest set asks for, and its first elements become what the set asks for.

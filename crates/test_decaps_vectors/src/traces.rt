@@ -149,9 +149,10 @@ fn entered_shares(case: Case, k0: &[u64], k1: &[u64]) -> u64
 
 // The shares that decapsulation hands back.
 fn print_shares(case: Case) {
+    let mut count: u32 = 0;
     let mut k0 = [0u64; 4];
     let mut k1 = [0u64; 4];
-    decaps(case, &mut k0, &mut k1);
+    decaps(case, &mut count, &mut k0, &mut k1);
     print(b"shares entered: ");
     print_decimal(entered_shares(case, &k0, &k1));
     print(b" equal\n");

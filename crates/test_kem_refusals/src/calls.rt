@@ -1,10 +1,12 @@
-// Calls of an edition for a rank, with buffers that have their lengths in a parameter set or others. Keys and masks
-// hold values that are out of range: a rank that no set has and a wrong length are refused before them.
+// Calls of an edition for a rank, with buffers that have their lengths in a parameter set or others. Keys, shares,
+// masks and import's limit are out of range: a rank that no set has and a wrong length are refused before them.
 ghost use Rattle.test_support.specs.Sizes.{Bounded};
 use parameters::Edition;
+use refusals::Answer;
 use test_support::answers::print_refusal;
 use test_support::bytes::unchanged;
 use test_support::bytes::unchanged_coefficients;
+use test_support::bytes::unchanged_number;
 use test_support::bytes::unchanged_words;
 use test_support::edges::Lengths;
 use test_support::edges::length_at;
@@ -17,6 +19,7 @@ pub enum Call {
     KeyGen,
     Encaps,
     Import,
+    Refresh,
 }
 
 fn keygen(e: Edition, rank: u32, d: &[u8], z: &[u8], ek: &mut [u8], dk: &mut [u8]) {
@@ -68,9 +71,21 @@ fn encaps_edge(s: Sizes, rank: u32, lengths: Lengths)
     encaps(e, rank, &ek[0..a], &m[0..b], &mut ct[0..c], &mut k[0..d]);
 }
 
-fn import_unchanged(s0: &[u16], s1: &[u16], z0: &[u64], z1: &[u64], public: &[u8]) -> bool {
+// Whether shares, public part and numbers are as before.
+fn print_split(
+    answer: Answer,
+    s0: &[u16],
+    s1: &[u16],
+    z0: &[u64],
+    z1: &[u64],
+    public: &[u8],
+    limit: u32,
+    count: u32,
+) {
     let coefficients = unchanged_coefficients(s0) & unchanged_coefficients(s1);
-    coefficients & unchanged_words(z0) & unchanged_words(z1) & unchanged(public)
+    let words = unchanged_words(z0) & unchanged_words(z1);
+    let numbers = unchanged_number(limit) & unchanged_number(count);
+    print_refusal(answer, coefficients & words & unchanged(public) & numbers);
 }
 
 fn import(
@@ -84,8 +99,23 @@ fn import(
     z1: &mut [u64],
     public: &mut [u8],
 ) {
-    let answer = split_key::import(rank, dk, mask_coeffs, mask_words, s0, s1, z0, z1, public);
-    print_refusal(answer, import_unchanged(s0, s1, z0, z1, public));
+    let mut limit: u32 = 0xeeee_eeee;
+    let mut count: u32 = 0xeeee_eeee;
+    let answer = split_key::import(
+        rank,
+        dk,
+        mask_coeffs,
+        mask_words,
+        0,
+        s0,
+        s1,
+        z0,
+        z1,
+        public,
+        &mut limit,
+        &mut count,
+    );
+    print_split(answer, s0, s1, z0, z1, public, limit, count);
 }
 
 // With the lengths of the outputs.
@@ -143,6 +173,56 @@ fn import_edge(s: Sizes, rank: u32, lengths: Lengths)
     );
 }
 
+fn refresh(
+    rank: u32,
+    mask_coeffs: &[u16],
+    mask_words: &[u64],
+    s0: &mut [u16],
+    s1: &mut [u16],
+    z0: &mut [u64],
+    z1: &mut [u64],
+) {
+    let mut count: u32 = 0xeeee_eeee;
+    let answer = split_key::refresh(rank, mask_coeffs, mask_words, s0, s1, z0, z1, &mut count);
+    print_split(answer, s0, s1, z0, z1, b"", 0xeeee_eeee, count);
+}
+
+// With the lengths of the shares.
+fn refresh_shares(s: Sizes, rank: u32, mask_coeffs: &[u16], mask_words: &[u64], lengths: Lengths)
+    requires { ⌜ Bounded s ⌝ }
+{
+    let o = set_of(lengths);
+    let mut s0 = [0xeeeeu16; 4096];
+    let mut s1 = [0xeeeeu16; 4096];
+    let mut z0 = [0xeeee_eeee_eeee_eeeeu64; 260];
+    let mut z1 = [0xeeee_eeee_eeee_eeeeu64; 260];
+    let a = length_at(lengths, 2, s.coefficients, o.coefficients, 4096);
+    let b = length_at(lengths, 3, s.coefficients, o.coefficients, 4096);
+    let c = length_at(lengths, 4, 4, 4, 260);
+    let d = length_at(lengths, 5, 4, 4, 260);
+    refresh(
+        rank,
+        mask_coeffs,
+        mask_words,
+        &mut s0[0..a],
+        &mut s1[0..b],
+        &mut z0[0..c],
+        &mut z1[0..d],
+    );
+}
+
+// A huge buffer has four times as many coefficients as the largest set asks for, or 260 words: in 8 bits that is 4.
+fn refresh_edge(s: Sizes, rank: u32, lengths: Lengths)
+    requires { ⌜ Bounded s ⌝ }
+{
+    let o = set_of(lengths);
+    let mask_coeffs = [65535u16; 4096];
+    let mask_words = [0u64; 260];
+    let a = length_at(lengths, 0, s.coefficients, o.coefficients, 4096);
+    let b = length_at(lengths, 1, 4, 4, 260);
+    refresh_shares(s, rank, &mask_coeffs[0..a], &mask_words[0..b], lengths);
+}
+
 fn call_edge(s: Sizes, call: Call, rank: u32, lengths: Lengths)
     requires { ⌜ Bounded s ⌝ }
 {
@@ -150,6 +230,7 @@ fn call_edge(s: Sizes, call: Call, rank: u32, lengths: Lengths)
         Call::KeyGen => keygen_edge(s, rank, lengths),
         Call::Encaps => encaps_edge(s, rank, lengths),
         Call::Import => import_edge(s, rank, lengths),
+        Call::Refresh => refresh_edge(s, rank, lengths),
     }
 }
 
@@ -158,6 +239,7 @@ fn print_edge(call: Call, lengths: Lengths) {
         Call::KeyGen => print_lengths(b"keygen", lengths),
         Call::Encaps => print_lengths(b"encaps", lengths),
         Call::Import => print_lengths(b"import", lengths),
+        Call::Refresh => print_lengths(b"refresh", lengths),
     }
 }
 
@@ -174,6 +256,7 @@ fn print_told(call: Call, rank: u32, lengths: Lengths) {
         Call::KeyGen => print_rank(b"keygen", rank, lengths),
         Call::Encaps => print_rank(b"encaps", rank, lengths),
         Call::Import => print_rank(b"import", rank, lengths),
+        Call::Refresh => print_rank(b"refresh", rank, lengths),
     }
 }
 

@@ -1,5 +1,5 @@
 // Each lent buffer empty, one element short, one element long and with its length in another set, the others having
-// their lengths; and all with their lengths in another set.
+// their lengths; and all with their lengths in another set. Refreshing's are huge, too.
 ghost use Rattle.test_support.specs.Sizes.{Bounded};
 use crate::calls::Call;
 use crate::calls::line;
@@ -42,6 +42,15 @@ fn edges(s: Sizes, edge: Edge)
     lines(s, Call::Encaps, 4, edge);
 }
 
+// The three edges, one after the other.
+fn each_edge(s: Sizes, call: Call, n: usize)
+    requires { ⌜ Bounded s ⌝ }
+{
+    lines(s, call, n, Edge::Empty);
+    lines(s, call, n, Edge::Short);
+    lines(s, call, n, Edge::Long);
+}
+
 // ---- lengths in the set of rank `of`
 
 // Seeds, messages, secrets and the words of z have one length in all sets.
@@ -50,6 +59,7 @@ fn differs(call: Call, at: usize) -> bool {
         Call::KeyGen => at >= 2,
         Call::Encaps => at % 2 == 0,
         Call::Import => (at <= 1) | (at == 3) | (at == 4) | (at == 7),
+        Call::Refresh => (at == 0) | (at == 2) | (at == 3),
     }
 }
 
@@ -80,17 +90,26 @@ fn lines_as(s: Sizes, call: Call, n: usize, of: u32)
     }
 }
 
-fn set_as(s: Sizes, of: u32)
+// All buffers.
+fn all_as(s: Sizes, of: u32)
     requires { ⌜ Bounded s ⌝ }
 {
     let e = s.edition;
     let all = exact(e, of);
-    lines_as(s, Call::KeyGen, 4, of);
-    lines_as(s, Call::Encaps, 4, of);
-    lines_as(s, Call::Import, 8, of);
     line(s, Call::KeyGen, all);
     line(s, Call::Encaps, all);
     line(s, Call::Import, all);
+    line(s, Call::Refresh, all);
+}
+
+fn set_as(s: Sizes, of: u32)
+    requires { ⌜ Bounded s ⌝ }
+{
+    lines_as(s, Call::KeyGen, 4, of);
+    lines_as(s, Call::Encaps, 4, of);
+    lines_as(s, Call::Import, 8, of);
+    lines_as(s, Call::Refresh, 6, of);
+    all_as(s, of);
 }
 
 fn other_as(s: Sizes, of: u32)
@@ -115,8 +134,8 @@ pub fn run(s: Sizes)
     edges(s, Edge::Empty);
     edges(s, Edge::Short);
     edges(s, Edge::Long);
-    lines(s, Call::Import, 8, Edge::Empty);
-    lines(s, Call::Import, 8, Edge::Short);
-    lines(s, Call::Import, 8, Edge::Long);
+    each_edge(s, Call::Import, 8);
+    each_edge(s, Call::Refresh, 6);
+    lines(s, Call::Refresh, 6, Edge::Huge);
     others(s);
 }

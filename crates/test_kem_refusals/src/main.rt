@@ -12,6 +12,7 @@ use text::print;
 
 mod calls; // calls with lengths of a kind
 mod lengths;
+mod limits;
 mod places;
 mod ranks;
 mod rows;
@@ -30,6 +31,7 @@ fn set_in(s: Sizes, ek: &mut [u8], dk: &mut [u8])
     make_keys(e, s.rank, ek, dk);
     lengths::run(s);
     places::run(s, dk);
+    limits::run(s, dk);
     rows::run(s, dk);
 }
 

@@ -96,7 +96,7 @@ fn call(s: Sizes, part: Part, key: &[u8], mask_coeffs: &[u16], out: &mut [u8]) -
         return encaps(s, key, out);
     }
     let mask_words = fixed_words();
-    import(s, key, mask_coeffs, &mask_words, out)
+    import(s, key, mask_coeffs, &mask_words, 1, out)
 }
 
 fn answer_in(

@@ -26,6 +26,7 @@ fn calls(e: Edition, rank: u32) {
     lines(e, Call::KeyGen, rank);
     lines(e, Call::Encaps, rank);
     lines(e, Call::Import, rank);
+    lines(e, Call::Refresh, rank);
 }
 
 pub fn run(e: Edition) {

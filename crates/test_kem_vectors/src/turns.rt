@@ -24,7 +24,7 @@ fn print_import(s: Sizes, dk: &[u8])
 {
     let mut out = [0u8; 32];
     print(b"import ");
-    print_number(import_masked(s, dk, &mut out));
+    print_number(import_masked(s, dk, 1, &mut out));
     print(b" ");
     print_hex(&out);
 }

@@ -44,7 +44,8 @@ fn take(s: Sizes, turn: usize, at: usize, out: &mut [u8])
     take_in(turn, at, &mut drawn[0..n], out);
 }
 
-fn make_from(
+// The keys, ciphertext and secret of seeds: d, z and m.
+pub fn make_from(
     e: Edition,
     rank: u32,
     seeds: &[u8],

@@ -1,4 +1,5 @@
-// Masked decapsulation of a ciphertext under a key as bytes. Split and strip are made from masks of a kind.
+// Masked decapsulation of a ciphertext under a key as bytes, which has one use. Split and strip are made from masks of
+// a kind.
 ghost use mathlib.Core.Path.{_≡_};
 ghost use Prim.Native.Nat.{_≤_};
 ghost use lib.ListN.{length};
@@ -12,7 +13,7 @@ use test_support::masks::Masks;
 use test_support::sizes::Sizes;
 
 // The number of import's answer. The masks go to coeffs.
-fn import(
+pub fn import(
     rank: u32,
     dk: &[u8],
     kind: Masks,
@@ -22,13 +23,28 @@ fn import(
     z0: &mut [u64],
     z1: &mut [u64],
     public: &mut [u8],
+    limit: &mut u32,
+    count: &mut u32,
 ) -> u64
     requires { ⌜ length (now coeffs) ≤ 9472 ⌝ }
 {
     let mut words = [0u64; 4];
     masks::coefficients(kind, b's', coeffs);
     masks::words(kind, b'z', &mut words);
-    number(split_key::import(rank, dk, coeffs, &words, s0, s1, z0, z1, public))
+    number(split_key::import(
+        rank,
+        dk,
+        coeffs,
+        &words,
+        1,
+        s0,
+        s1,
+        z0,
+        z1,
+        public,
+        limit,
+        count,
+    ))
 }
 
 // The number of decapsulation's. Where it is 0, out is what the shares of K stand for.
@@ -40,6 +56,8 @@ fn decaps_joined(
     z0: &[u64],
     z1: &[u64],
     public: &[u8],
+    limit: u32,
+    count: &mut u32,
     ct: &[u8],
     words: &[u64],
     coeffs: &[u16],
@@ -58,6 +76,8 @@ fn decaps_joined(
         z0,
         z1,
         public,
+        limit,
+        count,
         ct,
         words,
         coeffs,
@@ -78,6 +98,8 @@ fn decaps_strip(
     z0: &[u64],
     z1: &[u64],
     public: &[u8],
+    limit: u32,
+    count: &mut u32,
     ct: &[u8],
     kind: Masks,
     words: &mut [u64],
@@ -88,16 +110,33 @@ fn decaps_strip(
 {
     masks::words(kind, b'w', words);
     masks::coefficients(kind, b'c', coeffs);
-    decaps_joined(e, rank, s0, s1, z0, z1, public, ct, words, coeffs, out)
+    decaps_joined(
+        e,
+        rank,
+        s0,
+        s1,
+        z0,
+        z1,
+        public,
+        limit,
+        count,
+        ct,
+        words,
+        coeffs,
+        out,
+    )
 }
 
-fn decaps_split(
+// The same for a split key.
+pub fn decaps_split(
     s: Sizes,
     s0: &[u16],
     s1: &[u16],
     z0: &[u64],
     z1: &[u64],
     public: &[u8],
+    limit: u32,
+    count: &mut u32,
     ct: &[u8],
     strip: Masks,
     out: &mut [u8],
@@ -117,6 +156,8 @@ fn decaps_split(
         z0,
         z1,
         public,
+        limit,
+        count,
         ct,
         strip,
         &mut words[0..a],
@@ -146,6 +187,8 @@ fn decaps_in(
 {
     let mut z0 = [0u64; 4];
     let mut z1 = [0u64; 4];
+    let mut limit: u32 = 0;
+    let mut count: u32 = 0;
     let imported = import(
         s.rank,
         dk,
@@ -156,8 +199,22 @@ fn decaps_in(
         &mut z0,
         &mut z1,
         public,
+        &mut limit,
+        &mut count,
     );
-    let opened = decaps_split(s, s0, s1, &z0, &z1, public, ct, strip, out);
+    let opened = decaps_split(
+        s,
+        s0,
+        s1,
+        &z0,
+        &z1,
+        public,
+        limit,
+        &mut count,
+        ct,
+        strip,
+        out,
+    );
     first_refusal(imported, opened)
 }
 

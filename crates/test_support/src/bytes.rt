@@ -23,6 +23,13 @@ pub fn set_coefficients(v: u16, out: &mut [u16]) {
     }
 }
 
+// Byte `at`, exclusive or the bits.
+pub fn damage(bytes: &mut [u8], at: usize, bits: u8) {
+    if at < bytes.len() {
+        bytes[at] = bytes[at] ^ bits;
+    }
+}
+
 // Past its end a string is zero.
 fn byte_at(bytes: &[u8], i: usize) -> u8 {
     if i < bytes.len() {
@@ -38,7 +45,7 @@ pub fn xor_into(a: &mut [u8], b: &[u8]) {
     }
 }
 
-// ---- a buffer holds 238 in each byte before a call that must be refused
+// ---- buffers and numbers hold 238 in each byte before a call that must be refused
 
 pub fn unchanged(bytes: &[u8]) -> bool {
     for i in 0..bytes.len() {
@@ -56,6 +63,10 @@ pub fn unchanged_coefficients(f: &[u16]) -> bool {
         }
     }
     true
+}
+
+pub fn unchanged_number(n: u32) -> bool {
+    n == 0xeeee_eeee
 }
 
 pub fn unchanged_words(w: &[u64]) -> bool {

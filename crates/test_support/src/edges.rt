@@ -13,6 +13,7 @@ pub enum Edge {
     Empty,
     Short,
     Long,
+    Huge,
 }
 
 // Buffers of a call.
@@ -55,8 +56,8 @@ fn is_at(at: At, i: usize) -> bool {
     }
 }
 
-// The length of buffer i, which should be n, and m in the set of rank `of`. There is room for one element more than
-// either.
+// The length of buffer i, which should be n, and m in the set of rank `of`. There is room for at least one element more
+// than either; a huge one takes all of it.
 pub fn length_at(lengths: Lengths, i: usize, n: usize, m: usize, room: usize) -> usize
     requires { ⌜ (n < room) × (0 < m) × (m < room) ⌝ }
     ensures { λ r. ⌜ r ≤ room ⌝ }
@@ -71,6 +72,7 @@ pub fn length_at(lengths: Lengths, i: usize, n: usize, m: usize, room: usize) ->
         Edge::Empty => 0,
         Edge::Short => m - 1,
         Edge::Long => m + 1,
+        Edge::Huge => room,
     }
 }
 
@@ -99,6 +101,7 @@ pub fn print_lengths(call: &[u8], lengths: Lengths) {
         Edge::Empty => print(b" empty"),
         Edge::Short => print(b" short"),
         Edge::Long => print(b" long"),
+        Edge::Huge => print(b" huge"),
     }
     print(b": ");
 }

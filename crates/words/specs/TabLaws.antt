@@ -43,6 +43,11 @@ module _ {A : Type 0} where
   tab-add n (suc m) f =
       rw (add-suc n m, tab-add n m f) (append-assoc (tab n f) (tab m (λ i. f (n + i))) (f (n + m) ∷ []))
 
+  pub tab-cons : (n : ℕ) (f : ℕ → A) → tab (suc n) f ≡ f 0 ∷ tab n (λ i. f (suc i))
+  unfolding tab
+  tab-cons zero f = refl
+  tab-cons (suc n) f = ap (λ (l : List A). l ++ f (suc n) ∷ []) (tab-cons n f)
+
   -- a list is tabulated by its elements
   pub tab-of : (d : A) (l : List A) (n : ℕ) {f : ℕ → A} → length l ≡ n → ((i : ℕ) → i < n → getD l i d ≡ f i)
       → l ≡ tab n f

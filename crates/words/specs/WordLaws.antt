@@ -16,6 +16,9 @@ use Rattle.words.specs.Formula.{boole, at, _⊕_, _⊗_}
 pub xor-comm : (a b : ℕ) → xor a b ≡ xor b a
 xor-comm a b = boole (at 0 ⊕ at 1) (at 1 ⊕ at 0) (a ∷ b ∷ []) tt
 
+pub xor-assoc : (a b c : ℕ) → xor (xor a b) c ≡ xor a (xor b c)
+xor-assoc a b c = boole ((at 0 ⊕ at 1) ⊕ at 2) (at 0 ⊕ (at 1 ⊕ at 2)) (a ∷ b ∷ c ∷ []) tt
+
 pub xor-right-comm : (a b c : ℕ) → xor (xor a b) c ≡ xor (xor a c) b
 xor-right-comm a b c = boole (at 0 ⊕ at 1 ⊕ at 2) (at 0 ⊕ at 2 ⊕ at 1) (a ∷ b ∷ c ∷ []) tt
 

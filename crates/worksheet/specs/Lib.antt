@@ -15,6 +15,7 @@ pub mod SumLaws
 pub mod Count
 pub mod CountLaws
 pub mod InRange
+pub mod MovedLists
 pub mod Couple
 pub mod Places
 pub mod CoupleLoops

@@ -14,19 +14,19 @@ returned c = c .before .before .before
 abbrev called : tie.After-slice-known4 → tie.After-decaps-at
 called c = returned c .before
 
-abbrev chosen : tie.After-decaps-at → tie.After-of-rank
+abbrev chosen : tie.After-decaps-at-arg3 → tie.After-of-rank
 chosen c = c .before .before .before
 
 returns : tie.Need-returns
-returns c = byRank-refused _ (c .before .is-rank .ensures) (c .if1 .taken) refl (refl, refl)
+returns c = byRank-refused _ (c .before .is-rank .ensures) (c .if1 .taken) refl (refl, refl, refl)
 
 decaps-at-requires : tie.Need-decaps-at-requires
-decaps-at-requires c κs = c .before .before .of-rank .ensures .1
+decaps-at-requires c κs = chosen c .of-rank .ensures .1
 
 returns-2 : tie.Need-returns-2
 returns-2 c =
     let call = called c in
-    let set = chosen call in
+    let set = chosen (call .before) in
     let test = set .before in
     byRank-called _ (test .before .is-rank .ensures) (test .if1 .left) (set .of-rank .ensures .0)
     (call .decaps-at .ensures)

@@ -1,12 +1,14 @@
--- The test of lengths is row 1's; where it is passed the lengths are exact, as the rest asks.
+-- The tests are those of rows 1 and 11; where they are passed the lengths are exact, as the rest asks.
 use mathlib.Core.Path.{refl}
 use Prim.Native.Nat.{_*_, _≤_}
+use borrow.Author.Tests.{not-true, not-false}
 use native.Mathlib.Omega.{arith}
-use Rattle.refusals.specs.declared.Answer.the-variants.{WrongLength}
+use Rattle.refusals.specs.declared.Answer.the-variants.{WrongLength, LimitReached}
 use Rattle.refusals.specs.RefusalLaws.{LengthsTested, lengths-tested, row1-refused, row1-sized}
 use Rattle.parameters.specs.Largest.{matrix-most}
 use Rattle.decapsulation.specs.Calls.{Input, input}
-use Rattle.decapsulation.proofs.Outcome.{all, wanted, all-sized, shares-long, told-row}
+use Rattle.decapsulation.proofs.Outcome.{all, wanted, all-sized, shares-long, use-refused}
+use Rattle.decapsulation.proofs.Outcome.{told-usable, told-row}
 use Rattle.decapsulation.proofs.LentParts.{length-front}
 use borrow.Author.Needs.{needs}
 use Rattle.decapsulation.proofs.decapsulation.decapsulate.Statement.{statement}
@@ -41,8 +43,11 @@ start c = begun (set (lengths (counted c)))
 abbrev lent-a : tie.After-decapsulate-in-arg3 → tie.After-a
 lent-a c = c .before .before .before
 
-abbrev tested : tie.After-decapsulate-in-arg3 → tie.Else1
-tested c = lent-a c .before
+abbrev usable : tie.After-decapsulate-in-arg3 → tie.Else2
+usable c = lent-a c .before
+
+abbrev tested : tie.Else2 → tie.Else1
+tested c = c .before
 
 abbrev filled : tie.After-slice-known4 → tie.After-k0
 filled c = c .before .before .before
@@ -76,9 +81,18 @@ row1 c =
 returns : tie.Need-returns
 returns c = told-row WrongLength (omega arith) (row1-refused (row1 (c .before)) _ (c .if1 .taken))
 
+returns-2 : tie.Need-returns-2
+returns-2 c =
+    let t = c .before in
+    let s = start (t .before) in
+    let a = s .args in
+    told-row LimitReached (omega arith)
+    (use-refused (a .e) (a .p) (lent s) (a .k0 .now) (a .k1 .now) (row1-sized (row1 (t .before)) (t .if1 .left))
+    (a .usable) (not-true _ (c .if2 .taken)))
+
 decapsulate-in-requires : tie.Need-decapsulate-in-requires
 decapsulate-in-requires c κs =
-    let t = tested c in
+    let t = tested (usable c) in
     let s = start (t .before) in
     let a = s .args in
     let e = row1-sized (row1 (t .before)) (t .if1 .left) in (
@@ -89,6 +103,11 @@ decapsulate-in-requires c κs =
       },
       length-front _ refl (omega (arith, square s)),
     )
+
+returns-3 : tie.Need-returns-3
+returns-3 c =
+    let r = ran c in
+    told-usable (not-false _ (usable (r .before) .if2 .left)) (r .decapsulate-in .ensures)
 
 pub decapsulate-spec : {M : Type 1} → statement M
 decapsulate-spec =
@@ -105,10 +124,11 @@ decapsulate-spec =
     (λ c. omega arith)
     (λ c κs. search needs)
     returns
+    returns-2
     (λ c. search needs)
     (λ c. search needs)
-    (λ c. omega (arith, square (start (c .before))))
+    (λ c. omega (arith, square (start (tested c .before))))
     decapsulate-in-requires
     (λ c. search needs)
     (λ c. search needs)
-    (λ c. ran c .decapsulate-in .ensures))
+    returns-3)

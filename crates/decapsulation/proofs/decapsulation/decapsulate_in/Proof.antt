@@ -122,7 +122,7 @@ returns-3 c =
 
 passed : (c : tie.Else3)
     → (let s = origin (expanded c) in
-    answer (decapsRows (s .args .e) (s .args .p) (lent s) (s .args .k0 .now) (s .args .k1 .now)) ≡ Done)
+    answer (decapsRows (s .args .e) (s .args .p) true (lent s) (s .args .k0 .now) (s .args .k1 .now)) ≡ Done)
 passed c =
     let x = expanded c in
     let s = origin x in

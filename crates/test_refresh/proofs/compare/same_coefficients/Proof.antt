@@ -1,0 +1,31 @@
+-- The loop stops at the slices' length, so that each index is in range.
+use Prim.Native.Nat.{_-_}
+use mathlib.Core.Path.{_≡_}
+use borrow.Author.Needs.{needs}
+use lib.ListN.{length}
+use Rattle.test_refresh.proofs.compare.same_coefficients.Statement.{statement}
+use Rattle.test_refresh.proofs.compare.same_coefficients.Tie as tie
+
+-- i elements compared
+abbrev Inv-loop : tie.InvT-loop
+Inv-loop a b i₀ i-end i = i-end ≡ length a
+
+abbrev μ-loop : tie.MeasureT-loop
+μ-loop a b i₀ i-end i = length a - i
+
+pub same-coefficients-spec : {M : Type 1} → statement M
+same-coefficients-spec =
+    tie.close
+    (tie.spec
+    Inv-loop
+    μ-loop
+    (λ c. search needs)
+    (λ c. search needs)
+    (λ c. search needs)
+    (λ c. search needs)
+    (λ c. search needs)
+    (λ c. search needs)
+    (λ c. search needs)
+    (λ c. search needs)
+    (λ c. search needs)
+    (λ c. search needs))
