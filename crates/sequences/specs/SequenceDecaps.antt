@@ -45,7 +45,8 @@ record KeyTyped (key : SplitKey) : Type 0 where
 below-xorWords : {z masks : List ℕ} → Below (2 ^ 64) z → Below (2 ^ 64) masks → Below (2 ^ 64) (xorWords z masks)
 unfolding xorWords
 below-xorWords {z} b m =
-    below-tab (length z) (omega arith) (λ i h. xor-bits {n = 64} (record { lt = b .at i }) (record { lt = m .at i }) .lt)
+    below-tab (length z) (omega arith) (λ i h.
+    xor-bits {n = 64} (record { lt = b .at i }) (record { lt = m .at i }) .lt)
 
 typed-carriedOut : (h : KeyState) (c : Call) → Typed c → KeyTyped (h .key) → KeyTyped (carriedOut h c .key)
 unfolding carriedOut freshKey

@@ -1,5 +1,5 @@
--- Lengths of the masks of a refreshing, of the shares before it and of those after it: of a vector's coefficients, and of
--- z's words.
+-- Lengths of the masks of a refreshing, of the shares before it and of those after it: of a vector's coefficients, and
+-- of z's words.
 use mathlib.Core.Path.{_≡_}
 use mathlib.Core.List.{List}
 use Prim.Native.Nat.{ℕ}

@@ -1,4 +1,5 @@
--- The draws are cut where the strip begins and where it ends: what is before it and what is behind it have their lengths.
+-- The draws are cut where the strip begins and where it ends: what is before it and what is behind it have their
+-- lengths.
 use borrow.Author.Needs.{needs}
 use native.Mathlib.Omega.{arith}
 use Rattle.cli_demo.proofs.run_strip.Statement.{statement}
