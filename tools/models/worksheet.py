@@ -126,9 +126,12 @@ class Worksheet:
     def hash(self, rate, last, shared, public, length):
         """Of words on two shares, then public bytes: the first words, as many as length says."""
         data = [b"".join(v[i].to_bytes(8, "little") for v in shared) for i in (0, 1)]
-        data[0] += public + bytes([last])
-        size = -(-len(data[0]) // rate) * rate
-        data = [d.ljust(size, b"\0") for d in data]
+        return self.sponge(rate, last, (data[0] + public, data[1]), length)
+
+    def sponge(self, rate, last, data, length):
+        """The same of two shares in bytes; where the second ends, the rest is public."""
+        size = (len(data[0]) // rate + 1) * rate
+        data = [d.ljust(size, b"\0") for d in (data[0] + bytes([last]), data[1])]
         data[0] = data[0][:-1] + bytes([data[0][-1] ^ 0x80])
         start = [next(self.words) for _ in range(25)]
         s = [list(start), list(start)]
