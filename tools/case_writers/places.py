@@ -124,6 +124,7 @@ def key_places(file):
     restore_key(file)
     for value, answer in (3328, 0), (3329, 5), (65535, 5):
         at_each(file, f"import, each mask coefficient {value}", n, set_coefficient("mask_coeffs", MASKS, n, value), "import", answer)
+    restore_key(file)
 
 
 def restore_key(file):
