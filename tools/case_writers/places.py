@@ -128,7 +128,6 @@ def key_places(file):
 
 
 def restore_key(file):
-    file.case(f"{file.p.name}, the key and the masks again")
     file.copy(place("dk"), KEY, file.p.dk_bytes)
     file.load("mask_coeffs", MASKS, file.p.coefficients)
 
@@ -173,8 +172,9 @@ def rows(file):
 def share_places(file):
     """Of each place 3329: of the masks, of either share, and of a strip."""
     p, n = file.p, file.p.coefficients
-    file.case(f"{p.name}, a split key and a strip")
+    file.case(f"{p.name}, import, to have its shares and a strip changed")
     file.call("import")
+    file.left("import")
     file.strip(9)
     file.store(STRIP, "coeffs", p.strip_coeffs)
     shares = {"s0": POOL, "s1": POOL + 2 * n}

@@ -23,9 +23,10 @@ def made(file):
     file.strip(9)
 
 
-def right_or_refused(file, name, call, limit=MOST, wanted=0, **how):
+def tried(file, name, call, limit=MOST, wanted=0, before=lambda file: None, **how):
     """One case, from drawn contents of what the call changes."""
     file.case(f"{file.p.name}, {call}, {name}")
+    before(file)
     file.fresh(call)
     file.call(call, wanted, limit=limit, **how)
     file.left(call)
@@ -38,11 +39,7 @@ def ranges(file):
         for at in 0, end:
             for value in Q, 65535:
                 for call in CALLS:
-                    file.case(f"{file.p.name}, {call}, {buffer}[{at}] is {value}")
-                    file.set_one(buffer, at, value)
-                    file.fresh(call)
-                    file.call(call, answer, limit=MOST)
-                    file.left(call)
+                    tried(file, f"{buffer}[{at}] is {value}", call, MOST, answer, lambda file: file.set_one(buffer, at, value))
                     file.restore_one(buffer, at)
 
 
@@ -50,51 +47,38 @@ def steps(file):
     """A trace's steps; decapsulation has none."""
     n = file.p.steps
     for step in 0, n - 1, n, n + 1, 2**32, 2**32 + n - 1, 2**63, 2**64 - 2, 2**64 - 1:
-        file.case(f"{file.p.name}, trace, step {step}")
-        file.fresh("trace")
-        file.number("step", step)
-        file.call("trace", wanted=0 if step < n else 8)
-        file.left("trace")
+        tried(file, f"step {step}", "trace", wanted=0 if step < n else 8, before=lambda file: file.number("step", step))
 
 
 def rows(file):
     """From the step past the end on, one fault after the other; the first row answers. A trace has no limit."""
-    file.case(f"{file.p.name}, the step past the end")
     file.number("step", file.p.steps)
     short = {"ct": file.p.ct_bytes - 1}
     rows = (
-        ("no fault but the step", (0, 8), None, MOST, {}),
-        ("and a share", (6, 6), "s1", MOST, {}),
-        ("and a mask", (5, 5), "coeffs", MOST, {}),
-        ("and the limit reached", (11, 5), None, 0, {}),
-        ("and a length", (1, 1), None, 0, {"lengths": short}),
-        ("and the rank", (9, 9), None, 0, {"lengths": short, "rank": 5}),
+        ("no fault but the step", (0, 8), MOST, {}),
+        (f"and s1[100] is {Q}", (6, 6), MOST, {"before": lambda file: file.set_one("s1", 100, Q)}),
+        (f"and coeffs[100] is {Q}", (5, 5), MOST, {"before": lambda file: file.set_one("coeffs", 100, Q)}),
+        ("and the limit reached", (11, 5), 0, {}),
+        ("and a length", (1, 1), 0, {"lengths": short}),
+        ("and the rank", (9, 9), 0, {"lengths": short, "rank": 5}),
     )
-    for name, answers, spoiled, limit, how in rows:
-        if spoiled:
-            file.case(f"{file.p.name}, {spoiled}[100] is {Q} from here on")
-            file.set_one(spoiled, 100, Q)
+    for name, answers, limit, how in rows:
         for call, answer in zip(CALLS, answers):
-            right_or_refused(file, name, call, limit, answer, **how)
+            tried(file, name, call, limit, answer, **how)
 
 
 def restored(file):
     """The split and the strip again, and that a trace asks for no limit."""
-    file.case(f"{file.p.name}, split and strip again")
     file.import_as(9)
     file.strip(9)
     file.number("step", file.p.steps - 1)
-    right_or_refused(file, "limit reached", "decaps", 0, 11)
-    right_or_refused(file, "limit reached, which it has none of", "trace", 0)
+    tried(file, "limit reached", "decaps", 0, 11)
+    tried(file, "limit reached, which it has none of", "trace", 0)
 
 
 def uses(file):
     """Limits with counts below, at and above them. A call that is carried out is counted, whatever its ciphertext is."""
     for kind in "true", "false":
-        if kind == "false":
-            file.case(f"{file.p.name}, the ciphertext with a bit changed")
-            file.write(place("constants"), b"\1")
-            file.join(place("ct"), place("constants"), 1)
         for limit in (*LIMITS, 2, 2**31):
             for count in counts(limit):
                 answer, after = counted(limit, count)
@@ -103,6 +87,8 @@ def uses(file):
                 file.number("count", count)
                 file.call("decaps", answer, limit=limit)
                 file.left("decaps")
+        file.write(place("constants"), b"\1")
+        file.join(place("ct"), place("constants"), 1)
 
 
 def refusals(p):
