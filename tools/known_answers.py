@@ -1,11 +1,9 @@
-"""The known answers of Kyber round 3's reference implementation: its answer files made again, turn by turn, and their stored form in
-crates/test_kyber_answers, which tools/kyber_vectors writes."""
-import sys
-from hashlib import sha256, sha3_256
+"""The known answers of Kyber round 3's reference implementation: its answer files made again, turn by turn."""
+from hashlib import sha256
 
 from cryptography.hazmat.primitives.ciphers import Cipher, algorithms, modes
 from models.kem import encaps, keygen
-from published import ROOT, held, number, read, set_number
+from published import held, read
 
 TURNS = 100
 # SHA-256 of the published answer files
@@ -14,7 +12,6 @@ FILES = {
     "Kyber768": "a1e122cad3c24bc51622e4c242d8b8acbcd3f618fee4220400605ca8f9ea02c2",
     "Kyber1024": "89248f2f33f7f4f7051729111f3049c409a933ec904aedadf035f30fa5646cd5",
 }
-CRATE = "test_kyber_answers"
 
 
 class Generator:
@@ -78,21 +75,3 @@ def check_hashes(folder, p, turns):
         hashes = {name: sha256(turn[field]) for name, field in (("pk", "ek"), ("sk", "dk"), ("ct", "c"))}
         has = {"d": turn["d"].hex(), "z": turn["z"].hex(), "m": turn["m"].hex(), "ss": turn["k"].hex()}
         held(f"{p.name}, turn {i}", want, {"count": str(i), **has, **{name: hash.hexdigest() for name, hash in hashes.items()}})
-
-
-# ---- as stored, in the layout of crates/test_kyber_answers/README.md
-def data_name(p):
-    return f"data/{p.name}"
-
-
-def encoded(p, turns):
-    def record(turn):
-        hashes = [sha3_256(turn[name]).digest() for name in ("ek", "dk", "c")]
-        return b"".join([number(set_number(p)), turn["d"], turn["z"], turn["m"], *hashes, turn["k"]])
-
-    return number(len(turns)) + b"".join(record(turn) for turn in turns)
-
-
-def check_stored(p, turns):
-    if read(ROOT, "crates", CRATE, data_name(p)) != encoded(p, turns):
-        sys.exit(f"crates/{CRATE}/{data_name(p)} isn't what tools/kyber_vectors writes")

@@ -1,5 +1,4 @@
-"""NIST's ACVP values for ML-KEM, case by case: from the published files, or as crates/test_nist_kem has them, made of those by tools/nist_vectors; and
-what the tools on published values share."""
+"""NIST's ACVP values for ML-KEM, case by case, from the published files; and what the tools on published values share."""
 import gzip, json, os, sys
 
 ROOT = os.path.dirname(os.path.dirname(os.path.abspath(__file__)))
@@ -15,13 +14,6 @@ def read(*path):
     return gzip.open(path + ".gz").read()
 
 
-def write(crate, name, data):
-    path = os.path.join(ROOT, "crates", crate, name)
-    os.makedirs(os.path.dirname(path), exist_ok=True)
-    with open(path, "wb") as file:
-        file.write(data)
-
-
 def held(name, want, has):
     if want != has:
         sys.exit(f"{name}: {has} where {want} should be")
@@ -29,11 +21,6 @@ def held(name, want, has):
 
 def length(p, field):
     return {"ek": p.ek_bytes, "dk": p.dk_bytes, "c": p.ct_bytes}.get(field, 32)
-
-
-def set_number(p):
-    """512, 768 or 1024."""
-    return p.coefficients
 
 
 # ---- as published
@@ -60,43 +47,4 @@ def published(folder, p, function):
             case = {name: bytes.fromhex(test[name]) for name in ONCE[function] + EACH[function]}
             held(function, {name: length(p, name) for name in case}, {name: len(value) for name, value in case.items()})
             cases.append(case)
-    return cases
-
-
-# ---- as stored, in the layout of crates/test_nist_kem/README.md
-def number(n):
-    return n.to_bytes(2, "little")
-
-
-def data_name(p, function):
-    return f"data/{p.name}-{function}"
-
-
-def encoded(p, function, cases):
-    def values(case, names):
-        return b"".join(case[name] for name in names)
-
-    once = {values(case, ONCE[function]) for case in cases}
-    held(function, 1, len(once))
-    return number(len(cases)) + once.pop() + b"".join(number(set_number(p)) + values(case, EACH[function]) for case in cases)
-
-
-def stored(p, function):
-    data = read(ROOT, "crates/test_nist_kem", data_name(p, function))
-
-    def take(n):
-        nonlocal data
-        taken, data = data[:n], data[n:]
-        held(function, n, len(taken))
-        return taken
-
-    def values(names):
-        return {name: take(length(p, name)) for name in names}
-
-    count = int.from_bytes(take(2), "little")
-    once, cases = values(ONCE[function]), []
-    for _ in range(count):
-        held(function, number(set_number(p)), take(2))
-        cases.append({**once, **values(EACH[function])})
-    held(function, b"", data)
     return cases

@@ -22,8 +22,8 @@ NOTHING = [(0, 0)] * 5 + [(place("unused"), 0)] * 2  # outputs that a hash hasn'
 
 
 class HashFile(CaseFile):
-    def call(self, hash, n, size, wanted=0, message=MESSAGE):
-        self.add(f.HASH, (wanted, 0), (place("out"), size), *NOTHING, (hash, 0), (message, n))
+    def call(self, hash, n, size, wanted=0, message=MESSAGE, out=place("out")):
+        self.add(f.HASH, (wanted, 0), (out, size), *NOTHING, (hash, 0), (message, n))
 
     def masked(self, hash, lent, wanted=0):
         """lent: in0, in1, masks, out0 and out1, by their places and numbers of elements."""

@@ -2,7 +2,7 @@
 from models.parameters import Edition
 from . import format as f
 from .book import SHAKE128, CaseFile
-from .layout import place
+from .layout import place, room
 
 RUN = "s0", "s1", "z0", "z1", "public", "ct", "words", "coeffs"
 # the buffers of each call, in the order of Parameters.lent
@@ -33,7 +33,7 @@ INPUTS = {
 }
 KINDS = {"keygen": f.KEYGEN, "encaps": f.ENCAPS, "import": f.IMPORT, "refresh": f.REFRESH, "decaps": f.DECAPS, "trace": f.TRACE}
 BUFFERS = 6  # outputs that are buffers; the others are numbers
-MOST_TURNS = 100
+SECRET = place("scratch")  # what the shares of K join to
 
 
 def right_lengths(p, call):
@@ -109,13 +109,11 @@ class KeyFile(CaseFile):
         self.left("import")
 
     # ---- the secret that two shares stand for
-    def opened(self, limit=1, at="", **how):
-        """Decapsulation from a count of 0, on a strip that lies elsewhere; what the shares join to is put to secret."""
-        self.number("count", 0)
-        self.call("decaps", limit=limit, at={"words": place("words" + at), "coeffs": place("coeffs" + at)}, **how)
+    def opened(self, at=""):
+        """Decapsulation, on a strip that lies elsewhere and whatever the count is; what the shares join to is put to SECRET."""
+        self.call("decaps", limit=2**32 - 1, at={"words": place("words" + at), "coeffs": place("coeffs" + at)})
         self.join_shares()
 
     def join_shares(self):
-        self.store(place("secret"), "k0", 4)
-        self.store(place("secret") + 32, "k1", 4)
-        self.join(place("secret"), place("secret") + 32, 32)
+        self.store(SECRET, "k0", room("k0") + 4)
+        self.join(SECRET, SECRET + 8 * room("k0"), 32)

@@ -2,12 +2,13 @@
 ML-KEM, the decapsulations masked. Every value in them is as published; the models have to give it."""
 import re
 from hashlib import shake_256
+from itertools import groupby
 from models.parameters import SETS
-from published import EACH, held, published, read
+from published import EACH, ONCE, held, published, read
 from . import format as f
 from .hashes import NAMES, SHARES, HashFile
 from .calls import MASKED, hash_masks
-from .key_book import KeyFile
+from .key_book import SECRET, KeyFile
 from .layout import place
 
 PUBLISHED_NAMES = dict(zip(NAMES, ("SHA3_256", "SHA3_512", "SHAKE128", "SHAKE256")))
@@ -15,6 +16,8 @@ MASKED_NUMBER = {"SHA3-512": 0, "SHAKE256": 1}
 PARTS = {"short": "ShortMsg", "long": "LongMsg", "variable": "VariableOut", "monte-carlo": "Monte"}
 MOST_MESSAGE, MOST_OUTPUT = 272, 250  # of masked hashes
 FUNCTIONS = {"keyGen": "keygen", "encapsulation": "encaps", "decapsulation": "decaps"}
+MANY_MESSAGES, MANY_OUTPUTS = (place("area") + at for at in (10000, 30000))
+FIELDS = {"d": "d", "z": "z", "m": "m", "ek": "ek", "dk": "dk", "ct": "c", "k": "k"} | {"scratch": "k"}  # where a field lies
 STRIP_KINDS = {"": 2, "_zero": "zero", "_full": "full"}
 
 
@@ -68,32 +71,68 @@ def chain(folder, name):
 
 
 # ---- CAVP, as cases
-def masked_twice(file, hash, n, size):
-    """The message in the memory becomes its first share; under zero and drawn masks the shares join to the published output."""
+def masked_twice(file, hash, n, size, wanted):
+    """The message in the memory becomes its first share; under zero and drawn masks the shares join to the output that is wanted."""
     if n:
         file.join(SHARES[0], SHARES[1], n)
     count = hash_masks(MASKED[hash][0], n, size)
     for masks in "words_zero", "words":
         file.masked(hash, ((SHARES[0], n), (SHARES[1], n), (place(masks), count), (place("out0"), size), (place("out1"), size)))
         file.join(place("out0"), place("out1"), size)
-        file.same(place("out0"), place("out"), size)
+        file.same(place("out0"), wanted, size)
+
+
+def masked_masks(file):
+    file.draw("words", hash_masks(72, MOST_MESSAGE, MOST_OUTPUT), b"h\1")
+    file.write(SHARES[1], shake_256(b"shares").digest(MOST_MESSAGE))
 
 
 def message_file(folder, name, part):
     pairs, hash = messages(folder, PUBLISHED_NAMES[name] + PARTS[part]), NAMES.index(name)
-    file, masked = HashFile(hash_file_name(name, part), exact=False), part != "long" and name in MASKED_NUMBER
+    file, masked = HashFile(hash_file_name(name, part), exact=False), part == "short" and name in MASKED_NUMBER
     for i, (message, output) in enumerate(pairs):
         file.case(f"{name}, {part} {i}: {len(message)} bytes to {len(output)}")
         if masked and i == 0:
-            file.draw("words", hash_masks(72, MOST_MESSAGE, MOST_OUTPUT), b"h\1")
-            file.write(SHARES[1], shake_256(b"shares").digest(MOST_MESSAGE))
+            masked_masks(file)
         if message:
             file.write(SHARES[0], message)
         file.call(hash, len(message), len(output), message=SHARES[0])
         file.want(place("out"), output)
         if masked:
-            masked_twice(file, MASKED_NUMBER[name], len(message), len(output))
+            masked_twice(file, MASKED_NUMBER[name], len(message), len(output), place("out"))
     return file
+
+
+def together(pairs):
+    """Vectors behind each other whose messages and outputs are alike in length, with their numbers."""
+    return [list(group) for _, group in groupby(enumerate(pairs), lambda pair: tuple(map(len, pair[1])))]
+
+
+def variable_file(folder, name):
+    """Messages and outputs of one length stay in the memory; where there is a masked hash, they are put through it behind them."""
+    file, hash = HashFile(hash_file_name(name, "variable"), exact=False), NAMES.index(name)
+    for group in together(messages(folder, PUBLISHED_NAMES[name] + PARTS["variable"])):
+        n, size = (len(part) for part in group[0][1])
+        for i, (number, (message, output)) in enumerate(group):
+            file.case(f"{name}, variable {number}: {n} bytes to {size}")
+            file.write(MANY_MESSAGES + n * i, message)
+            file.call(hash, n, size, message=MANY_MESSAGES + n * i, out=MANY_OUTPUTS + size * i)
+            file.want(MANY_OUTPUTS + size * i, output)
+        if name in MASKED_NUMBER:
+            file.case(f"masked {name}, variable {group[0][0]} to {group[-1][0]}: {n} bytes to {size}")
+            if group[0][0] == 0:
+                masked_masks(file)
+            masked_group(file, MASKED_NUMBER[name], n, size, len(group))
+    return file
+
+
+def masked_group(file, hash, n, size, count):
+    file.number("counter", 0)
+    with file.repeat(count):
+        file.copy(SHARES[0], MANY_MESSAGES, n, since_stride=n)
+        file.copy(place("out"), MANY_OUTPUTS, size, since_stride=size)
+        masked_twice(file, hash, n, size, place("out"))
+        file.count("counter")
 
 
 def chain_file(folder, name):
@@ -118,7 +157,10 @@ def chain_file(folder, name):
 def hash_files(folder):
     for name in NAMES:
         for part in parts_of(name):
-            yield chain_file(folder, name) if part == "monte-carlo" else message_file(folder, name, part)
+            if part == "monte-carlo":
+                yield chain_file(folder, name)
+            else:
+                yield variable_file(folder, name) if part == "variable" else message_file(folder, name, part)
 
 
 # ---- ACVP
@@ -171,7 +213,7 @@ def opened_thrice(file, secret):
     """On a strip of zeros, on one as large as may be, and on a drawn one."""
     for at in STRIP_KINDS:
         file.opened(at=at)
-        file.want(place("secret"), secret)
+        file.want(SECRET, secret)
 
 
 def decaps_file(p, cases):
@@ -196,6 +238,21 @@ def key_files(folder):
     for p in SETS:
         for function in EACH:
             yield KEY_FILES[function](p, published(folder, p, function))
+
+
+def fields(p, records):
+    """What a case gives and wants, by the field of the published file: the place says which it is."""
+    found = {record.operands[0][0]: record.body for record in records if record.kind in (f.WRITE, f.WANT)}
+    at = {place(name): field for name, field in FIELDS.items()}
+    case = {at[start]: data for start, data in found.items() if start in at}
+    return {**case, "ek": case.get("ek") or p.ek(case["dk"])} if "dk" in case else case
+
+
+def stored(p, function, read_cases):
+    """NIST's cases as the case files have them; the key of the decapsulations stands in the first alone."""
+    cases = [fields(p, records) for _, records in read_cases(key_file_name(p, function))]
+    kept = {name: value for name, value in cases[0].items() if name in ONCE[function]}
+    return [{name: (case | kept)[name] for name in ONCE[function] + EACH[function]} for case in cases]
 
 
 def names():

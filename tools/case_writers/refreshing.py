@@ -1,7 +1,7 @@
 """Refreshing: what it leaves of drawn shares and of the count, coefficients that it refuses, and decapsulation under a limit of 1, before and after it."""
 from models.kem import decaps, encaps, keygen
 from models.parameters import Q
-from .key_book import KeyFile
+from .key_book import SECRET, KeyFile
 from .layout import place
 
 COUNTS = 0, 1, 2**32 - 1
@@ -83,7 +83,7 @@ def used(file, dk):
     """Carried out: the count, and the secret that the shares stand for."""
     file.call("decaps")
     file.join_shares()
-    file.want(place("secret"), decaps(file.p, dk, file.memory.get(place("ct"), file.p.ct_bytes)))
+    file.want(SECRET, decaps(file.p, dk, file.memory.get(place("ct"), file.p.ct_bytes)))
     want_count(file, 1)
 
 

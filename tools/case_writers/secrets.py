@@ -4,7 +4,7 @@ from hashlib import shake_128
 from models.elsewhere import raised, with_both, with_public, with_secret
 from models.kem import decaps, encaps, keygen
 from openssl import key_pair
-from .key_book import KeyFile
+from .key_book import SECRET, KeyFile
 from .layout import STRIPS, place
 
 KEYS, KINDS, LAST = 3, ("zero", "full", 2, 3), 4
@@ -48,12 +48,12 @@ def sixteen(file, secret):
         take_split(file)
         for at in STRIPS:
             file.opened(at=at)
-            file.same(place("secret"), WANTED, 32)
+            file.same(SECRET, WANTED, 32)
         file.count("counter")
     take_split(file)
     file.strip(LAST, STRIPS[-1])
     file.opened(at=STRIPS[-1])
-    file.want(place("secret"), secret)
+    file.want(SECRET, secret)
     file.strip(KINDS[-1], STRIPS[-1])
 
 

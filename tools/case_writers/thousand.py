@@ -7,7 +7,7 @@ bit. The digest starts as 32 zero bytes and becomes SHA3-256 of itself and of wh
 bytes, after a refreshing both shares of the secret key, 16 bits for each coefficient, and of z. Numbers have their low byte first."""
 from . import format as f
 from .book import SHAKE256
-from .key_book import KeyFile
+from .key_book import SECRET, KeyFile
 from .layout import place
 from .refreshing import seeded
 
@@ -58,8 +58,8 @@ def take_turn(file, turn):
         refresh(file)
     file.call("decaps", limit=LIMIT)
     file.join_shares()
-    file.store(place("secret") + 32, "count", 1)
-    file.absorb(place("secret"), 36)
+    file.store(SECRET + 32, "count", 1)
+    file.absorb(SECRET, 36)
     if turn % 2:
         file.join(place("ct"), CHANGE, n)
     file.count("counter")

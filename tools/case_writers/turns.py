@@ -6,7 +6,7 @@ from models.parameters import ML_KEM_768, Q
 from openssl import key_pair
 from . import format as f
 from .book import SHAKE128, SHAKE256
-from .key_book import KeyFile
+from .key_book import SECRET, KeyFile
 from .layout import place
 from .places import MASK_WORDS
 
@@ -56,12 +56,12 @@ def take_turn(file, feed):
     draw_masks(file)
     file.call("import")
     file.opened()
-    file.same(place("secret"), place("k"), 32)
+    file.same(SECRET, place("k"), 32)
     for at, name, size in (0, "ek", p.ek_bytes), (p.ek_bytes, "ct", p.ct_bytes), (n - 64, "k", 32):
         file.copy(feed + at, place(name), size, stride=n)
     file.copy(place("ct"), since + 96, p.ct_bytes, since_stride=file.turn_bytes)
     file.opened()
-    file.copy(feed + n - 32, place("secret"), 32, stride=n)
+    file.copy(feed + n - 32, SECRET, 32, stride=n)
     file.count("counter")
 
 
