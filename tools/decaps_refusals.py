@@ -3,7 +3,7 @@ that is lent changes."""
 import ctypes
 from models.parameters import ALL_SETS, Q, sisters
 from outward_calls import call, for_decaps, for_trace, is_buffer, u64
-from refusal_lines import NO_RANKS
+from edges import NO_RANKS
 
 # limits with counts that have reached them
 USED_UP = (0, 0), (0, 2**32 - 1), (1, 1), (1, 2), (1000000, 1000000), (1000001, 2**32 - 1), (2**32 - 1, 2**32 - 1)
@@ -25,7 +25,7 @@ def refuse_ranks(p, name, lent):
     """Right buffers of p: refused 9 where there is no such rank, nor one in its low 8 or 16 bits alone, empty ones too, and 1 by the rank of
     a sister set."""
     empty = [(x._type_ * 0)() if is_buffer(x) else x for x in lent]
-    for rank in (*NO_RANKS, 258, 2**16 + 3):
+    for rank in NO_RANKS:
         refuse(p, 9, name, lent, rank)
         refuse(p, 9, name, empty, rank)
     for sister in sisters(p):

@@ -6,7 +6,7 @@ from models import kem, split_key as model
 from models.parameters import Q, twin
 from models.worksheet import worksheet
 from outward_calls import Stream, call, draw_strip, for_decaps, for_import, for_refresh, joined, no_split, split_key, traced, u8, u16, u64
-from uses import LIMITS, counts
+from edges import LIMITS, counts
 
 CALLS = 12  # of a sequence
 

@@ -21,6 +21,7 @@ CHANGES = {
 }
 POOL = place("area") + 400000  # bytes that buffers are filled from, so that each call has to change what it changes
 POOL_BYTES = 16664
+MOST_COPIED = 4096
 
 
 def run(buffers):
@@ -62,8 +63,10 @@ class CaseFile:
         self.add(f.FILL, (at, n), (byte, 0))
 
     def copy(self, to, since, n, stride=0, since_stride=0):
-        """Strides are times the word counter."""
-        self.add(f.COPY, (to, n), (stride, place("counter")), (since, since_stride))
+        """Strides are times the word counter. A record copies 4,096 bytes at most."""
+        for at in range(0, n, MOST_COPIED):
+            part = min(MOST_COPIED, n - at)
+            self.add(f.COPY, (to + at, part), (stride, place("counter")), (since + at, since_stride))
 
     def join(self, at, other, n):
         self.add(f.JOIN, (at, n), (other, 0))

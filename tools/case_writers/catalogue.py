@@ -76,7 +76,7 @@ def write_lists():
     there = set(os.listdir(DATA))
     missing, unknown = set(names()) - there, there - set(names())
     if missing or unknown:
-        sys.exit(f"crates/test_cases/data: missing {sorted(missing) or 'none'} (tools/nist_vectors writes cavp-* and acvp-*), unknown {sorted(unknown) or 'none'}")
+        sys.exit(f"crates/test_cases/data: {len(missing)} files are missing, {len(unknown)} unknown: {' '.join(sorted(missing | unknown))}")
     with open(os.path.join(CRATE, "args"), "w") as out:
         out.writelines(f"{name}\n" for name in names())
     with open(os.path.join(CRATE, "stdout"), "w") as out:

@@ -18,7 +18,7 @@ RATES = 72, 136, 168
 LEGIBLE = 256  # bytes of output that are wanted as they are; all of it is wanted by its hash
 EDGES = sorted({0, 1, *(n for rate in RATES for n in (rate - 1, rate, rate + 1, 2 * rate - 1, 2 * rate, 2 * rate + 1))})
 MESSAGE, SHARES = place("area"), (place("area"), place("area") + 1000)
-NOTHING = [(0, 0)] * 5 + [(place("unused"), 0)] * 2  # outputs that a hash hasn't, behind b0
+NOTHING = [(0, 0)] * 7  # outputs that a hash hasn't, behind b0
 
 
 class HashFile(CaseFile):

@@ -59,7 +59,7 @@ class KeyFile(CaseFile):
         places = {name: place(name) for name in lent} | (at or {})
         outputs = OUTPUTS[call]
         buffers = [(places[name], lent[name]) if name else (0, 0) for name in outputs[:BUFFERS]]
-        words = [(place(name or "unused"), 0) for name in outputs[BUFFERS:]]
+        words = [(place(name), 1) if name else (0, 0) for name in outputs[BUFFERS:]]
         heading = self.heading(call, self.p.k if rank is None else rank, limit)
         inputs = [(places[name], lent[name]) for name in INPUTS[call]]
         self.add(KINDS[call], (wanted, 0), *buffers, *words, *heading, *inputs)

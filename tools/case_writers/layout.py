@@ -28,7 +28,7 @@ COEFFICIENTS = placed({
 })
 WORDS = placed({
     "z0": LENT_WORDS + PAST, "z1": LENT_WORDS + PAST, "limit": 1, "count": 1, "k0": LENT_WORDS + PAST, "k1": LENT_WORDS + PAST,
-    "value": 1, "step": 1, "counter": 1, "unused": 1, "state": 2, "mask_words": PAST,
+    "value": 1, "step": 1, "counter": 1, "state": 2, "mask_words": PAST,
     **{"words" + strip: STRIP_WORDS + PAST for strip in STRIPS},
 })
 ARENAS = {"bytes": (BYTES, 1), "coefficients": (COEFFICIENTS, 2), "words": (WORDS, 8)}

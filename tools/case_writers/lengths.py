@@ -1,13 +1,12 @@
 """Refusals 1 and 9: each lent buffer at wrong lengths, the others having their lengths; all as in another set; ranks that the buffers don't fit, and
 ranks that no set has. Keys, shares, masks, limit and step are out of range: a wrong rank and a wrong length are refused before them."""
+from edges import NO_RANKS
 from models.parameters import ALL_SETS, KYBER_SETS, ML_KEM_768, sisters
 from .book import POOL, CaseFile
 from .key_book import LENT, OUTPUTS, KeyFile, right_lengths
 from .layout import LENT_BYTES, LENT_COEFFICIENTS, LENT_WORDS, SIZES, arena_of, place
 
 MOST = {"bytes": LENT_BYTES, "coefficients": LENT_COEFFICIENTS, "words": LENT_WORDS}
-# the last but one are ranks of sets in their low 8 or 16 bits, or but for the highest bit
-NO_RANKS = 0, 1, 5, 255, 2**8 + 2, 2**8 + 3, 2**16 + 4, 2**31 + 3, 2**32 - 1
 
 
 def at_edges(name, n, changed, others=()):

@@ -67,7 +67,7 @@ def copy(memory, at, by, source):
     (place, n), (stride, counter), (origin, origin_stride) = at, by, source
     turn = memory.words[counter]
     to, since = place + stride * turn, origin + origin_stride * turn
-    assert n <= 170000 and (to + n <= since or since + n <= to)
+    assert n <= 4096
     memory.put(to, memory.get(since, n))
 
 
@@ -76,6 +76,7 @@ def xor(x, y):
 
 
 def join(memory, at, other):
+    assert at[1] <= 4096
     memory.put(at[0], xor(memory.get(*at), memory.get(other[0], at[1])))
 
 

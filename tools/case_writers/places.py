@@ -3,9 +3,10 @@ after the other. The key is that of d = 0 and z = 1 in each byte, the masks are 
 from models.numbers import coefficient_bytes, word_bytes
 from models.parameters import Q
 from models.split_key import import_answer
-from uses import LIMITS
+from edges import LIMITS
 from . import format as f
 from .book import POOL
+from .hashes import NOTHING
 from .key_book import KeyFile
 from .layout import PAST, place
 
@@ -73,8 +74,7 @@ def set_public(value):
         p, ek = file.p, place("dk") + file.p.vector_bytes
         file.copy(place("dk"), KEY, p.dk_bytes)
         file.set(ek, 12, value, p.coefficients)
-        no_more = [(0, 0)] * 5 + [(place("unused"), 0)] * 2
-        file.add(f.HASH, (0, 0), (ek + p.ek_bytes, 32), *no_more, (0, 0), (ek, p.ek_bytes))
+        file.add(f.HASH, (0, 0), (ek + p.ek_bytes, 32), *NOTHING, (0, 0), (ek, p.ek_bytes))
 
     return change
 

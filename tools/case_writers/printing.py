@@ -89,7 +89,7 @@ def call_text(kind, operands):
     (wanted, _), outputs, inputs = operands[0], operands[1:9], operands[9:]
     told = heading_text(kind, inputs[:HEADINGS[kind]])
     changed = [lent(arena, operand) for arena, operand in zip(OUTPUT_ARENAS, outputs) if operand != (0, 0)]
-    changed += [at("words", place) for place, _ in outputs[6:] if at("words", place) != "unused"]
+    changed += [at("words", place) for place, n in outputs[6:] if n]
     given = [lent(arena, operand) for arena, operand in zip(INPUT_ARENAS[kind], inputs[HEADINGS[kind]:])]
     answer = f"refused {wanted}" if wanted else "done"
     return f"{told}: {answer}; given {', '.join(given)}; changes {', '.join(changed) or 'nothing'}"

@@ -2,7 +2,7 @@
 split and run under masks drawn by the number 9."""
 from models.parameters import Q
 from models.split_key import counted
-from uses import LIMITS, counts
+from edges import LIMITS, counts
 from .key_book import KeyFile
 from .layout import place
 

@@ -34,8 +34,7 @@ def tried(file, name, n=STREAM_BYTES, out=256, stream=None, wanted=0):
     file.fresh("sample")
     if stream:
         file.write(STREAM, stream)
-    nothing = [(0, 0)] * 3 + [(place("unused"), 0)] * 2
-    file.add(f.SAMPLE, (wanted, 0), (0, 0), (0, 0), (place("sampled"), out), *nothing, (STREAM, n))
+    file.add(f.SAMPLE, (wanted, 0), *[(0, 0)] * 2, (place("sampled"), out), *[(0, 0)] * 5, (STREAM, n))
     file.left("sample")
 
 
