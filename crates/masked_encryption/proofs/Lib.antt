@@ -1,4 +1,3 @@
 pub mod Groups
 pub mod Polynomials
-pub mod NoiseParts
 pub mod Reencrypted

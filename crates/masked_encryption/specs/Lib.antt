@@ -1,3 +1,2 @@
 pub mod Lent
-pub mod Passes
 pub mod Encryption

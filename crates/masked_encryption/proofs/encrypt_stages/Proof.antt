@@ -73,6 +73,17 @@ start c = key (coins (strips (room (arrays (counted c))))) .before
 abbrev lent4 : tie.After-encrypt-with-arg4 → tie.After-stage4-arg2
 lent4 c = message (strip (noise c .before)) .before
 
+-- from the end: stages 6 and 7, stage 5, and stage 4
+
+abbrev last : tie.After-slice-known14 → tie.After-encrypt-with
+last c = encrypted (overwritten (filled c))
+
+abbrev fifth : tie.After-slice-known14 → tie.After-stage5
+fifth c = noise (outputs (last c .before))
+
+abbrev fourth : tie.After-slice-known14 → tie.After-stage4
+fourth c = message (strip (fifth c .before))
+
 -- ---- facts
 
 module _ (s : tie.Start) where
@@ -135,9 +146,9 @@ encrypt-with-requires c κs =
 returns : tie.Need-returns
 unfolding maskedEncrypt encryptWith encryptWords encryptCoeffs
 returns c =
-    let e = encrypted (overwritten (filled c)) in
-    let n = noise (outputs (e .before)) in
-    let m = message (strip (n .before)) in
+    let e = last c in
+    let n = fifth c in
+    let m = fourth c in
     let w = counted (m .before) in
     let a = start (m .before) .args in
     bind _ (m .stage4 .ensures (a .ws .now))
@@ -160,10 +171,10 @@ encrypt-stages-spec =
     words-within
     (λ c. omega arith)
     encrypt-with-requires
-    (λ c. omega arith)
-    (λ c. omega arith)
-    (λ c. omega arith)
-    (λ c. omega arith)
-    (λ c. omega arith)
-    (λ c. omega arith)
+    (λ c. fourth c .stage4 .kept .1 .1 .1 .1 .0)
+    (λ c. fourth c .stage4 .kept .1 .1 .1 .1 .1 .0)
+    (λ c. last c .encrypt-with .kept .1 .1 .1 .1 .0 ∙ fifth c .stage5 .kept .1 .1 .1 .1 .1 .1 .0)
+    (λ c. last c .encrypt-with .kept .1 .1 .1 .1 .1 .0 ∙ fifth c .stage5 .kept .1 .1 .1 .1 .1 .1 .1 .0)
+    (λ c. last c .encrypt-with .kept .1 .1 .1 .1 .1 .1 .1 .1 .1 .0)
+    (λ c. last c .encrypt-with .kept .1 .1 .1 .1 .1 .1 .1 .1 .1 .1 .0)
     returns)

@@ -13,6 +13,9 @@ use Rattle.masked_encryption.proofs.encrypt_with.Tie as tie
 abbrev filled : tie.After-slice-known8 → tie.After-planes0
 filled c = c .before .before .before
 
+abbrev compressed : tie.After-slice-known8 → tie.After-stage7
+compressed c = filled c .before
+
 abbrev lent : tie.After-stage7-arg4 → tie.After-stage7-arg2
 lent c = c .before .before
 
@@ -60,7 +63,7 @@ stage7-requires c κs =
 returns : tie.Need-returns
 unfolding encryptWith
 returns c cs =
-    let b = filled c .before in
+    let b = compressed c in
     let m = made (b .before) in
     bind _ (m .stage6 .ensures .ran _ cs) (rw (from-zero (start m)) at (b .stage7 .ensures cs))
 
@@ -78,8 +81,8 @@ encrypt-with-spec =
     (λ c. omega arith)
     (λ c. omega arith)
     stage7-requires
-    (λ c. omega arith)
-    (λ c. omega arith)
-    (λ c. omega arith)
-    (λ c. omega arith)
+    (λ c. made (compressed c .before) .stage6 .kept .1 .1 .1 .1 .0)
+    (λ c. made (compressed c .before) .stage6 .kept .1 .1 .1 .1 .1 .0)
+    (λ c. compressed c .stage7 .kept .1 .1 .1 .1 .1 .0)
+    (λ c. compressed c .stage7 .kept .1 .1 .1 .1 .1 .1 .0)
     returns)

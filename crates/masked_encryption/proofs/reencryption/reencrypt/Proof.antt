@@ -3,7 +3,8 @@ use mathlib.Core.Path.{_≡_}
 use Prim.Native.Nat.{_+_, _-_, _*_}
 use Rattle.worksheet.specs.SharedList.{sharedList}
 use Rattle.parameters.specs.Lengths.{vectorBytes}
-use Rattle.masked_encryption.proofs.Reencrypted.{length-uvPass, below-uvPass, stage6-of}
+use Rattle.masked_encryption_passes.proofs.PassLaws.{length-uvPass, below-uvPass}
+use Rattle.masked_encryption.proofs.Reencrypted.{stage6-of}
 use native.Mathlib.Omega.{arith}
 use borrow.Author.Needs.{needs}
 use Rattle.masked_encryption.proofs.reencryption.reencrypt.Statement.{statement}
@@ -16,6 +17,9 @@ lent c = c .before .before .before
 
 abbrev share1 : tie.After-enter-polynomials-arg → tie.After-n1
 share1 c = c .before .before .before
+
+abbrev pass1 : tie.After-enter-polynomials → tie.After-uv-in-place2
+pass1 c = share1 (lent c) .before
 
 abbrev share0 : tie.After-uv-in-place2 → tie.After-slice-known5
 share0 c = c .before .before .before
@@ -43,7 +47,7 @@ start c = inputs (outputs (counted c)) .before .before
 
 returns : tie.Need-returns
 returns c =
-    let r₁ = share1 (lent c) .before in
+    let r₁ = pass1 c in
     let r₀ = pass0 (share0 r₁) in
     let t = decoded (t-lent r₀) in
     let s = start t in
@@ -88,7 +92,7 @@ reencrypt-spec =
     (λ c. omega arith)
     (λ c. omega arith)
     (λ c κs. search needs)
-    (λ c. omega arith)
-    (λ c. omega arith)
-    (λ c. omega arith)
+    (λ c. pass0 (share0 (pass1 c)) .uv-in-place .kept .1 .1 .0)
+    (λ c. pass1 c .uv-in-place2 .kept .1 .1 .0)
+    (λ c. decoded (t-lent (pass0 (share0 (pass1 c)))) .decode12-all .kept .1 .1 .0)
     returns)

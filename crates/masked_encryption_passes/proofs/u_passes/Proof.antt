@@ -8,9 +8,9 @@ use Rattle.kpke.specs.Expanded.{placesOf}
 use Rattle.words.specs.Part.{part-span, length-span}
 use Rattle.vectors.proofs.Concatenated.{Concatenated, concatenated-start, concatenated-turn}
 use Rattle.vectors.proofs.Concatenated.{concatenated-end}
-use Rattle.masked_encryption.specs.Passes.{uPass}
-use Rattle.masked_encryption.proofs.reencryption.u_passes.Statement.{statement}
-use Rattle.masked_encryption.proofs.reencryption.u_passes.Tie as tie
+use Rattle.masked_encryption_passes.specs.Passes.{uPass}
+use Rattle.masked_encryption_passes.proofs.u_passes.Statement.{statement}
+use Rattle.masked_encryption_passes.proofs.u_passes.Tie as tie
 
 -- i rows made
 abbrev Inv-loop : tie.InvT-loop

@@ -8,10 +8,10 @@ use Rattle.transform.specs.Transform.{inverseNtt}
 use Rattle.vectors.specs.Vector.{parts}
 use Rattle.vectors.specs.VectorLaws.{dot-cong}
 use Rattle.kpke.proofs.Encoded.{place-fits}
-use Rattle.masked_encryption.specs.Passes.{uPass}
+use Rattle.masked_encryption_passes.specs.Passes.{uPass}
 use borrow.Author.Needs.{needs}
-use Rattle.masked_encryption.proofs.reencryption.u_pass.Statement.{statement}
-use Rattle.masked_encryption.proofs.reencryption.u_pass.Tie as tie
+use Rattle.masked_encryption_passes.proofs.u_pass.Statement.{statement}
+use Rattle.masked_encryption_passes.proofs.u_pass.Tie as tie
 
 -- ---- places: after the three calls, and the start
 

@@ -2,12 +2,12 @@
 use mathlib.Core.Path.{refl, ap, ap₂, _∙_}
 use Rattle.ring.specs.Polynomial.{add}
 use Rattle.transform.specs.Transform.{inverseNtt}
-use Rattle.masked_encryption.specs.Passes.{vPass}
+use Rattle.masked_encryption_passes.specs.Passes.{vPass}
 use Rattle.vectors.specs.VectorLaws.{dot-whole}
 use native.Mathlib.Omega.{arith}
 use borrow.Author.Needs.{needs}
-use Rattle.masked_encryption.proofs.reencryption.v_pass.Statement.{statement}
-use Rattle.masked_encryption.proofs.reencryption.v_pass.Tie as tie
+use Rattle.masked_encryption_passes.proofs.v_pass.Statement.{statement}
+use Rattle.masked_encryption_passes.proofs.v_pass.Tie as tie
 
 -- ---- places: after the four calls, and the start
 

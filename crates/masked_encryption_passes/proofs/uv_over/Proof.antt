@@ -2,11 +2,11 @@
 use mathlib.Core.Path.{_∙_, ap}
 use lib.ListN.{length}
 use lib.Seq.{take-at}
-use Rattle.masked_encryption.proofs.Reencrypted.{length-uvPass}
+use Rattle.masked_encryption_passes.proofs.PassLaws.{length-uvPass}
 use native.Mathlib.Omega.{arith}
 use borrow.Author.Needs.{needs}
-use Rattle.masked_encryption.proofs.reencryption.uv_over.Statement.{statement}
-use Rattle.masked_encryption.proofs.reencryption.uv_over.Tie as tie
+use Rattle.masked_encryption_passes.proofs.uv_over.Statement.{statement}
+use Rattle.masked_encryption_passes.proofs.uv_over.Tie as tie
 
 -- ---- places: after the copy, and after the pass
 

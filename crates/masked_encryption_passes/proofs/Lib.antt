@@ -1,0 +1,3 @@
+pub mod NoiseParts
+pub mod PassLaws
+pub mod Written
