@@ -1,5 +1,4 @@
 -- The number that C gets is that of the call's answer, so that what the hash leaves is what this call leaves.
-use borrow.Author.Needs.{needs}
 use Rattle.capi.proofs.tifo_sha3_256.Statement.{statement}
 use Rattle.capi.proofs.tifo_sha3_256.Tie as tie
 
@@ -7,4 +6,10 @@ returns : tie.Need-returns
 returns c = rw (c .refusal .ensures) (c .before .before .before .sha3-256 .ensures)
 
 pub tifo-sha3-256-spec : {M : Type 1} → statement M
-tifo-sha3-256-spec = tie.close (tie.spec (λ c κs. search needs) (λ c κs. search needs) (λ c. search needs) returns)
+tifo-sha3-256-spec =
+    tie.close
+    (tie.spec
+    (λ c κs. tt)
+    (λ c κs. tt)
+    (λ c. c .before .before .before .sha3-256 .kept .1 .0)
+    returns)

@@ -1,5 +1,4 @@
 -- The number returned is that of split_key::refresh's answer, so that what refreshing leaves is what this call leaves.
-use borrow.Author.Needs.{needs}
 use Rattle.capi.proofs.keys.tifo_refresh.Statement.{statement}
 use Rattle.capi.proofs.keys.tifo_refresh.Tie as tie
 
@@ -13,20 +12,20 @@ second c = c .before .before
 abbrev first : tie.After-slice-known6 → tie.After-slice-known5
 first c = c .before .before
 
-abbrev refreshed : tie.After-slice-known5 → tie.After-refresh
-refreshed c = c .before .before
+abbrev called : tie.After-refusal → tie.After-refresh
+called c = first (second (words c)) .before .before
 
 returns : tie.Need-returns
-returns c = rw (c .refusal .ensures) (refreshed (first (second (words c))) .refresh .ensures)
+returns c = rw (c .refusal .ensures) (called c .refresh .ensures)
 
 pub tifo-refresh-spec : {M : Type 1} → statement M
 tifo-refresh-spec =
     tie.close
     (tie.spec
-    (λ c κs. search needs)
-    (λ c κs. search needs)
-    (λ c. search needs)
-    (λ c. search needs)
-    (λ c. search needs)
-    (λ c. search needs)
+    (λ c κs. tt)
+    (λ c κs. tt)
+    (λ c. called c .refresh .kept .1 .1 .1 .0)
+    (λ c. called c .refresh .kept .1 .1 .1 .1 .0)
+    (λ c. called c .refresh .kept .1 .1 .1 .1 .1 .0)
+    (λ c. called c .refresh .kept .1 .1 .1 .1 .1 .1 .0)
     returns)

@@ -1,5 +1,4 @@
 -- What is returned is the answer's number, in which decapsulation's own contract is stated.
-use borrow.Author.Needs.{needs}
 use Rattle.capi.proofs.masked_decapsulation.tifo_decaps.Statement.{statement}
 use Rattle.capi.proofs.masked_decapsulation.tifo_decaps.Tie as tie
 
@@ -7,18 +6,18 @@ use Rattle.capi.proofs.masked_decapsulation.tifo_decaps.Tie as tie
 abbrev buffers : tie.After-refusal → tie.After-slice-known3
 buffers c = c .before .before .before
 
-abbrev decapsulated : tie.After-slice-known3 → tie.After-decaps
-decapsulated c = c .before .before
+abbrev called : tie.After-refusal → tie.After-decaps
+called c = buffers c .before .before
 
 returns : tie.Need-returns
-returns c = rw (c .refusal .ensures) (decapsulated (buffers c) .decaps .ensures)
+returns c = rw (c .refusal .ensures) (called c .decaps .ensures)
 
 pub tifo-decaps-spec : {M : Type 1} → statement M
 tifo-decaps-spec =
     tie.close
     (tie.spec
-    (λ c κs. search needs)
-    (λ c κs. search needs)
-    (λ c. search needs)
-    (λ c. search needs)
+    (λ c κs. tt)
+    (λ c κs. tt)
+    (λ c. called c .decaps .kept .1 .1 .1 .1 .1 .1 .1 .1 .1 .1 .1 .1 .0)
+    (λ c. called c .decaps .kept .1 .1 .1 .1 .1 .1 .1 .1 .1 .1 .1 .1 .1 .0)
     returns)
