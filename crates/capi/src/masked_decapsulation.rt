@@ -1,6 +1,7 @@
 // Masked decapsulation and its trace for C, of either edition.
 ghost use Rattle.parameters.specs.declared.Edition.the-variants.{MlKem, Kyber};
-ghost use Rattle.decapsulation.specs.Calls.{input, DecapsulatedBy, TracedBy};
+ghost use Rattle.decapsulation_run.specs.Input.{input};
+ghost use Rattle.decapsulation.specs.Calls.{DecapsulatedBy, TracedBy};
 use crate::refusal;
 use parameters::Edition;
 

@@ -23,7 +23,8 @@ use Rattle.stages.specs.Worksheet.{worksheet}
 use Rattle.meaning.specs.JoinedDk.{joinedDk}
 use Rattle.meaning.specs.ReducedDk.{reducedDk}
 use Rattle.meaning.specs.SplitValue.{joinedDk-split, run-split}
-use Rattle.decapsulation.specs.Calls.{Input, decapsShares, Decapsulated}
+use Rattle.decapsulation_run.specs.Input.{Input}
+use Rattle.decapsulation.specs.Calls.{decapsShares, Decapsulated}
 use Rattle.decapsulation.specs.Demand2.{decapsulated-tested}
 
 pub imported-joins : {p : Parameters} {dk maskCoeffs maskWords : List ℕ} {limit : ℕ} {state₀ state : KeyState}

@@ -1,39 +1,23 @@
 -- What decapsulation and trace of an edition answer and hand back, for a parameter set and told a rank.
 use mathlib.Core.Path.{_≡_}
-use mathlib.Core.Bool.{Bool, not, _&&_}
+use mathlib.Core.Bool.{Bool, not}
 use mathlib.Core.List.{List, [], _∷_, _++_}
 use Prim.Native.Nat.{ℕ, _+_, _^_}
 use lib.Dec.{ltb}
 use lib.ListN.{length}
 use Rattle.words.specs.Bounded.{Below}
-use Rattle.worksheet.specs.Run.{Run, run}
 use Rattle.worksheet.specs.SharedList.{SharedList}
 use Rattle.refusals.specs.declared.Answer.{Answer}
-use Rattle.refusals.specs.declared.Answer.the-variants.{WrongLength, MaskRange, ShareRange, ShortStream, LimitReached}
+use Rattle.refusals.specs.declared.Answer.the-variants.{WrongLength, LimitReached}
 use Rattle.refusals.specs.Refusals.{number, after, Row, row, answer, Lent, lent, sized}
 use Rattle.tracing.specs.Trace as trace
 use Rattle.parameters.specs.declared.Edition.{Edition}
 use Rattle.parameters.specs.declared.Parameters.{Parameters}
 use Rattle.parameters.specs.ByRank.{ByRank}
 use Rattle.parameters.specs.Lengths.{ctBytes}
-use Rattle.kpke.specs.KPke.{matrixFull}
-use Rattle.refusals.specs.Reduced.{reduced}
-use Rattle.mlkem.specs.Calls.{rhoOf}
-use Rattle.split_key.specs.SplitKey.{SplitKey, splitKey, ekOf, keyLengths, split}
-use Rattle.stages.specs.Worksheet.{worksheet}
+use Rattle.split_key.specs.SplitKey.{keyLengths, split}
 use Rattle.stages.specs.Counts.{stripWords, stripCoeffs}
-
--- what is lent to be read: a split key, a ciphertext and a strip
-pub record Input : Type 0 where
-  pub key : SplitKey
-  pub ct : List ℕ
-  pub words : List ℕ
-  pub coeffs : List ℕ
-
--- by the slices that are lent
-abbrev pub input : List ℕ → List ℕ → List ℕ → List ℕ → List ℕ → List ℕ → List ℕ → List ℕ → Input
-input s0 s1 z0 z1 public ct words coeffs =
-    record { key = splitKey s0 s1 z0 z1 public; ct = ct; words = words; coeffs = coeffs }
+use Rattle.decapsulation_run.specs.Input.{Input, rangeRows, sheet}
 
 -- what the types of the lent buffers say: bytes are below 256, words below 2^64
 pub record Typed (g : Input) : Type 0 where
@@ -47,19 +31,7 @@ pub record Typed (g : Input) : Type 0 where
 abbrev pub lengthRow : List Lent → Row
 lengthRow bs = row (not (sized bs)) WrongLength
 
--- rows 5, 6 and 7
-abbrev pub rangeRows : Parameters → Input → List Row
-rangeRows p g =
-    row (not (reduced (g .coeffs))) MaskRange
-    ∷ row (not (reduced (g .key .s .s0) && reduced (g .key .s .s1))) ShareRange
-    ∷ row (not (matrixFull (p .k) (rhoOf p (ekOf p (g .key))))) ShortStream
-    ∷ []
-
 module _ (e : Edition) (p : Parameters) where
-  -- what the worksheet does for this key, ciphertext and strip
-  abbrev pub sheet : Input → Run SharedList
-  sheet g = run (worksheet e p (g .key) (g .ct)) (g .words) (g .coeffs)
-
   -- the lengths that the buffers to be read must have
   abbrev pub lengths : Input → List Lent
   lengths g =
@@ -77,7 +49,7 @@ module _ (e : Edition) (p : Parameters) where
   decapsAnswer g limit count k0 k1 = answer (decapsRows (ltb count limit) g k0 k1)
 
   unfoldable pub decapsShares : Input → SharedList
-  decapsShares g = sheet g .value
+  decapsShares g = sheet e p g .value
 
   -- it answers the number n, and leaves the count as count₁, and k0′ and k1′
   pub record Decapsulated (g : Input) (limit count₀ : ℕ) (k0 k1 : List ℕ) (n count₁ : ℕ) (k0′ k1′ : List ℕ)
@@ -93,10 +65,10 @@ module _ (e : Edition) (p : Parameters) where
   traceRows g = lengthRow (lengths g) ∷ rangeRows p g
 
   unfoldable pub traceAnswer : Input → ℕ → Answer
-  traceAnswer g t = trace.stepAnswer (traceRows g) (length (sheet g .entries)) t
+  traceAnswer g t = trace.stepAnswer (traceRows g) (length (sheet e p g .entries)) t
 
   unfoldable pub traceValue : Input → ℕ → ℕ
-  traceValue g t = trace.stepValue (sheet g .entries) t
+  traceValue g t = trace.stepValue (sheet e p g .entries) t
 
   -- it answers the number n, and v becomes v′
   pub record Traced (g : Input) (t v n v′ : ℕ) : Type 0 where

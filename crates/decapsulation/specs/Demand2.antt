@@ -17,7 +17,8 @@ use Rattle.refusals.specs.ReducedLaws.{reduced-below}
 use Rattle.meaning.specs.JoinedDk.{joinedDk}
 use Rattle.meaning.specs.InOrder.{InOrder}
 use Rattle.meaning.specs.WorksheetValue.{run-worksheet}
-use Rattle.decapsulation.specs.Calls.{Input, Typed, decapsAnswer, decapsShares, Decapsulated}
+use Rattle.decapsulation_run.specs.Input.{Input}
+use Rattle.decapsulation.specs.Calls.{Typed, decapsAnswer, decapsShares, Decapsulated}
 use Rattle.decapsulation.specs.AnswerLaws.{Tested, decaps-tested}
 
 module _ {e : Edition} {p : Parameters} {g : Input} {limit count₀ count : ℕ} {k0₀ k1₀ k0 k1 : List ℕ}

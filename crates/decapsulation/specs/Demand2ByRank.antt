@@ -15,7 +15,8 @@ use Rattle.split_key.specs.Import.{ImportedBy}
 use Rattle.split_key.specs.KeyState.{KeyState, keyState}
 use Rattle.meaning.specs.JoinedDk.{joinedDk}
 use Rattle.meaning.specs.ReducedDk.{reducedDk}
-use Rattle.decapsulation.specs.Calls.{Input, Typed, DecapsulatedBy}
+use Rattle.decapsulation_run.specs.Input.{Input}
+use Rattle.decapsulation.specs.Calls.{Typed, DecapsulatedBy}
 use Rattle.decapsulation.specs.Demand2.{decaps-joins}
 use Rattle.decapsulation.specs.CallToCall.{imported-joins, imported-decaps}
 

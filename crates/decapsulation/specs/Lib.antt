@@ -1,6 +1,4 @@
 pub mod Calls
-pub mod Told
-pub mod Sized
 pub mod AnswerLaws
 pub mod Demand2
 pub mod CallToCall

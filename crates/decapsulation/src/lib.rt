@@ -1,7 +1,6 @@
-// Masked decapsulation and its trace, of either edition.
+// Masked decapsulation and its trace, of either edition: the outward calls.
 mod decapsulation; // the calls
-mod endings; // what follows stage 8, by the edition
-mod worksheet_run; // the whole worksheet
+mod lengths; // row 1
 
 pub use decapsulation::decaps;
 pub use decapsulation::trace;

@@ -11,7 +11,7 @@ use Rattle.parameters.specs.Ranks.{ofRank}
 use Rattle.mlkem.specs.MlKem.{publicPart}
 use Rattle.split_key.specs.KeyState.{KeyState}
 use Rattle.split_key.specs.Import.{importedState}
-use Rattle.decapsulation.specs.Calls.{sheet}
+use Rattle.decapsulation_run.specs.Input.{sheet}
 use Rattle.silence.specs.Claim.{overChoices, Key, Ciphertext}
 use Rattle.sequences.specs.Sequence.{Call, decaps, trace, refresh, inputOf, answerOf, leavesAll}
 

@@ -11,7 +11,8 @@ use Rattle.parameters.specs.declared.Parameters.{Parameters}
 use Rattle.parameters.specs.Ranks.{isRank, ofRank}
 use Rattle.split_key.specs.KeyState.{KeyState, keyState}
 use Rattle.split_key.specs.Refresh.{freshKey, refreshAnswer}
-use Rattle.decapsulation.specs.Calls.{Input, decapsAnswer, traceAnswer}
+use Rattle.decapsulation_run.specs.Input.{Input}
+use Rattle.decapsulation.specs.Calls.{decapsAnswer, traceAnswer}
 
 -- a call, by its rank and what is lent to it beside the split key
 pub data Call : Type 0 where

@@ -20,7 +20,8 @@ use Rattle.split_key.specs.Import.{Accepted}
 use Rattle.split_key.specs.SplitKey.{split}
 use Rattle.stages.specs.Worksheet.{worksheet}
 use Rattle.refusals.specs.Refusals.{number}
-use Rattle.decapsulation.specs.Calls.{Input, imported, traceAnswer, traceValue}
+use Rattle.decapsulation_run.specs.Input.{Input}
+use Rattle.decapsulation.specs.Calls.{imported, traceAnswer, traceValue}
 
 -- The sum of f over all choices. A choice is so many first coefficients below q, four first words, and a strip of so
 -- many words and so many coefficients below q.

@@ -25,9 +25,11 @@ use Rattle.split_key.specs.SplitKey.{ekOf, secondCoeffs, split}
 use Rattle.split_key.specs.SplitLengths.{length-publicPart, split-sized}
 use Rattle.stages.specs.Counts.{stripWords, stripCoeffs}
 use Rattle.stages.specs.EntryCounts.{steps}
-use Rattle.decapsulation.specs.Calls.{Input, lengthRow, sheet, imported, decapsAnswer, traceAnswer}
-use Rattle.decapsulation.specs.Sized.{Sized}
-use Rattle.decapsulation.specs.AnswerLaws.{decaps-rows, trace-rows, sheet-steps}
+use Rattle.decapsulation_run.specs.Input.{Input, sheet}
+use Rattle.decapsulation_run.specs.InputLaws.{sheet-steps}
+use Rattle.decapsulation_run.specs.Sized.{Sized}
+use Rattle.decapsulation.specs.Calls.{lengthRow, imported, decapsAnswer, traceAnswer}
+use Rattle.decapsulation.specs.AnswerLaws.{decaps-rows, trace-rows}
 use Rattle.silence.specs.Claim.{Key, Ciphertext}
 use Rattle.silence.specs.ChoicesInRange.{Choice}
 

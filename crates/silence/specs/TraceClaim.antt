@@ -21,7 +21,8 @@ use Rattle.parameters.specs.Fits.{Fits}
 use Rattle.stages.specs.Counts.{stripWords, stripCoeffs}
 use Rattle.stages.specs.EntryCounts.{steps}
 use Rattle.tracing.specs.Trace as trace
-use Rattle.decapsulation.specs.Calls.{Input, sheet, imported, traceValue}
+use Rattle.decapsulation_run.specs.Input.{Input, sheet}
+use Rattle.decapsulation.specs.Calls.{imported, traceValue}
 use Rattle.silence.specs.Claim.{Key, Ciphertext, gives, choices, handsBack, traceChoices, Silent}
 use Rattle.silence.specs.ChoicesInRange.{Choice, overChoices-when}
 use Rattle.silence.specs.ImportedAnswers.{full, imported-steps, imported-trace}

@@ -1,0 +1,5 @@
+pub mod Input
+pub mod InputLaws
+pub mod Sized
+pub mod Ranges
+pub mod Told
