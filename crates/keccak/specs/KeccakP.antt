@@ -1,13 +1,14 @@
 -- FIPS 202, section 3: the permutation Keccak-p[1600, 24]. A state is a list of 25 lanes of 64 bits; lane (x, y) stands
 -- at x + 5 y.
 use mathlib.Core.List.{List}
-use Prim.Native.Nat.{ℕ, _+_, _-_, _*_, _/_, _%_, _^_}
+use Prim.Native.Nat.{ℕ, _+_, _*_, _/_, _%_}
 use lib.Dec.{eqb}
 use lib.ListN.{getD, set}
 use Rattle.words.specs.Word.{xor, and, complement, rotl}
 use mathlib.Core.Bool.{cond}
 use Rattle.words.specs.Tab.{tab}
 use Rattle.words.specs.Iterate.{iterate}
+use Rattle.keccak_constants.specs.RoundConstants.{constant}
 
 -- A[x, y]
 abbrev pub lane : List ℕ → ℕ → ℕ → ℕ
@@ -55,29 +56,7 @@ pi s = lanes (λ x y. lane s ((x + 3 * y) % 5) x)
 unfoldable pub chi : List ℕ → List ℕ
 chi s = lanes (λ x y. xor (lane s x y) (and (complement 64 (lane s ((x + 1) % 5) y)) (lane s ((x + 2) % 5) y)))
 
--- ---- Algorithm 5, rc(t)
-
--- R shifted by one place; its bit 8 is then added to bits 0, 4, 5 and 6 and cut off
-unfoldable pub clocked : ℕ → ℕ
-clocked r = xor (r * 2 % 2 ^ 8) (r / 2 ^ 7 * (2 ^ 0 + 2 ^ 4 + 2 ^ 5 + 2 ^ 6))
-
--- R after t steps; bit i of R is bit i of the number
-unfoldable pub register : ℕ → ℕ
-register t = iterate t (λ _. clocked) 1
-
-unfoldable pub rc : ℕ → ℕ
-rc t = register (t % 255) % 2
-
--- ---- Algorithm 6, iota
-
--- bit 2^j - 1 of RC is rc(j + 7 i), in round i
-abbrev pub withBit : ℕ → ℕ → ℕ → ℕ
-withBit i j k = xor k (rc (j + 7 * i) * 2 ^ (2 ^ j - 1))
-
--- RC of round i
-unfoldable pub constant : ℕ → ℕ
-constant i = iterate 7 (withBit i) 0
-
+-- ---- Algorithm 6, step 4, iota with the round's constant
 unfoldable pub iota : List ℕ → ℕ → List ℕ
 iota s k = set s 0 (xor (lane s 0 0) k)
 

@@ -2,4 +2,3 @@ pub mod KeccakP
 pub mod Rows
 pub mod LinearPass
 pub mod Aim
-pub mod Constant

@@ -1,15 +1,15 @@
 // Keccak-p[1600, 24] (FIPS 202, section 3).
 ghost use mathlib.Core.Path.{_≡_};
-ghost use Rattle.keccak.specs.KeccakP.{keccak-p, constant as constantOf, round as roundOf};
-use crate::constants::round_constants;
+ghost use Rattle.keccak_constants.specs.RoundConstants.{constant as constantOf};
+ghost use Rattle.keccak.specs.KeccakP.{keccak-p, round as roundOf};
 use crate::state::State;
 use crate::steps::chi;
 use crate::steps::iota;
 use crate::steps::pi;
 use crate::steps::rho;
 use crate::steps::theta;
+use keccak_constants::round_constants;
 
-pub mod constants; // the round constants
 pub mod row; // five lanes of a state
 pub mod state; // the 25 lanes
 pub mod steps; // the step mappings

@@ -11,8 +11,9 @@ use Rattle.words.specs.WordLaws.{zero-bits}
 use Rattle.words.specs.Tab.{tab}
 use Rattle.words.specs.TabLaws.{length-tab, getD-tab, tab-of}
 use Rattle.words.specs.Iterate.{iterate}
-use Rattle.keccak.specs.KeccakP.{theta, rho, pi, chi, iota, constant, round, keccak-p}
-use Rattle.keccak.specs.Constant.{constant-bits}
+use Rattle.keccak_constants.specs.RoundConstants.{constant}
+use Rattle.keccak_constants.specs.RoundConstantLaws.{constant-bits}
+use Rattle.keccak.specs.KeccakP.{theta, rho, pi, chi, iota, round, keccak-p}
 use Rattle.keccak.specs.LinearPass.{passAt, LaneBits, pass-is}
 use Rattle.worksheet.specs.declared.Shares.{Shares}
 use Rattle.worksheet.specs.Prog.{_>>=_, entry}

@@ -4,7 +4,7 @@ use mathlib.Core.List.{List}
 use Prim.Native.Nat.{ℕ, _<_, _≤_}
 use lib.ListN.{length}
 use Rattle.words.specs.Tab.{tab}
-use Rattle.keccak.specs.KeccakP.{constant}
+use Rattle.keccak_constants.specs.RoundConstants.{constant}
 use Rattle.masked_keccak.specs.MaskedKeccak.{roundWords}
 
 -- for round i

@@ -4,7 +4,8 @@ use mathlib.Core.List.{List}
 use Prim.Native.Nat.{ℕ, _*_}
 use lib.ListN.{getD, set}
 use Rattle.words.specs.Word.{xor}
-use Rattle.keccak.specs.KeccakP.{along, theta, rho, pi, constant}
+use Rattle.keccak_constants.specs.RoundConstants.{constant}
+use Rattle.keccak.specs.KeccakP.{along, theta, rho, pi}
 use Rattle.worksheet.specs.declared.Shares.{Shares}
 use Rattle.worksheet.specs.Prog.{Prog, ret, _>>=_, entry, loop, times}
 use Rattle.worksheet.specs.Sharing.{none}

@@ -11,8 +11,8 @@ use Rattle.words.specs.Bits.{Bits}
 use Rattle.words.specs.WordLaws.{xor-bits, zero-bits}
 use Rattle.words.specs.Tab.{tab}
 use Rattle.words.specs.TabLaws.{length-tab, getD-tab}
-use Rattle.keccak.specs.KeccakP.{constant}
-use Rattle.keccak.specs.Constant.{constant-bits}
+use Rattle.keccak_constants.specs.RoundConstants.{constant}
+use Rattle.keccak_constants.specs.RoundConstantLaws.{constant-bits}
 use Rattle.keccak.specs.LinearPass.{LaneBits}
 use Rattle.worksheet.specs.declared.Shares.{Shares}
 use Rattle.worksheet.specs.Prog.{Prog, ret, enter, _>>=_, entry, loop}

@@ -10,8 +10,8 @@ use crate::chi::EnteredStates;
 use crate::chi::chi;
 use crate::pass::enter_lanes;
 use crate::pass::pass;
-use keccak::constants::round_constants;
 use keccak::state::State;
+use keccak_constants::round_constants;
 use worksheet::Recorder;
 use worksheet::enter_xor;
 

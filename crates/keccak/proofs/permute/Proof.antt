@@ -5,8 +5,9 @@ use Prim.Native.Nat.{ℕ, _-_}
 use native.Mathlib.Omega.{arith}
 use Rattle.words.specs.Tab.{tab}
 use Rattle.words.specs.IterateLaws.{Reached, reached-start, reached-turn, reached-end}
-use Rattle.keccak.specs.KeccakP.{constant, round, keccak-p}
-use Rattle.keccak.specs.Constant.{entry-constant}
+use Rattle.keccak_constants.specs.RoundConstants.{constant}
+use Rattle.keccak_constants.specs.RoundConstantLaws.{entry-constant}
+use Rattle.keccak.specs.KeccakP.{round, keccak-p}
 use Rattle.keccak.proofs.permute.Statement.{statement}
 use Rattle.keccak.proofs.permute.Tie as tie
 

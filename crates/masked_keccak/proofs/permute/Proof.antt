@@ -5,7 +5,7 @@ use mathlib.Core.List.{List}
 use native.Mathlib.Omega.{arith}
 use lib.ListN.{drop, length-take, length-drop}
 use Rattle.words.specs.Tab.{tab}
-use Rattle.keccak.specs.KeccakP.{constant}
+use Rattle.keccak_constants.specs.RoundConstants.{constant}
 use Rattle.worksheet.specs.declared.Recorder.{Recorder}
 use Rattle.worksheet.specs.Prog.{loop}
 use Rattle.worksheet.specs.Ran.{Ran, part-words}

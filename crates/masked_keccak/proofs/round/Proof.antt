@@ -1,7 +1,7 @@
 -- The calls are the definition's parts in its order: the two passes, chi on what they give, and the constant's entry.
 use borrow.Author.Needs.{needs}
 use native.Mathlib.Omega.{arith}
-use Rattle.keccak.specs.Constant.{entry-constant}
+use Rattle.keccak_constants.specs.RoundConstantLaws.{entry-constant}
 use Rattle.worksheet.specs.Ran.{bind}
 use Rattle.masked_keccak.specs.MaskedKeccak.{maskedRound}
 use Rattle.masked_keccak.proofs.Iota.{iota-ran}

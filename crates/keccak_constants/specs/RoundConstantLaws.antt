@@ -13,7 +13,7 @@ use Rattle.words.specs.IterateLaws.{iterate-keeps}
 use Rattle.words.specs.TableLaws.{every-at}
 use Rattle.words.specs.Tab.{tab}
 use Rattle.words.specs.TabLaws.{tabulated-at}
-use Rattle.keccak.specs.KeccakP.{rc, withBit, constant}
+use Rattle.keccak_constants.specs.RoundConstants.{rc, withBit, constant}
 
 pub entry-constant : {constants : List ℕ} → constants ≡ tab 24 constant → (i : ℕ) → i < 24
     → getD constants i 0 ≡ constant i

@@ -3,9 +3,9 @@ use Rattle.words.specs.Word.{xor}
 use Rattle.words.specs.Iterate.{iterate}
 use Rattle.words.specs.Tab.{tab}
 use Rattle.words.specs.TableLaws.{table-tab}
-use Rattle.keccak.specs.KeccakP.{clocked, register, rc, constant}
-use Rattle.keccak.proofs.constants.round_constants.Statement.{statement}
-use Rattle.keccak.proofs.constants.round_constants.Tie as tie
+use Rattle.keccak_constants.specs.RoundConstants.{clocked, register, rc, constant}
+use Rattle.keccak_constants.proofs.round_constants.Statement.{statement}
+use Rattle.keccak_constants.proofs.round_constants.Tie as tie
 
 returns : tie.Need-returns
 unfolding constant rc register clocked xor iterate tab

@@ -1,7 +1,7 @@
-// The round constants (FIPS 202, algorithms 5 and 6), in a table.
+// The round constants of Keccak-p[1600, 24] (FIPS 202, algorithms 5 and 6), in a table.
 ghost use mathlib.Core.Path.{_≡_};
 ghost use Rattle.words.specs.Tab.{tab};
-ghost use Rattle.keccak.specs.KeccakP.{constant};
+ghost use Rattle.keccak_constants.specs.RoundConstants.{constant};
 
 // Algorithm 6, steps 2 and 3: RC of the rounds 0 to 23.
 const ROUND_CONSTANTS: [u64; 24] = [

@@ -1,0 +1,2 @@
+pub mod RoundConstants
+pub mod RoundConstantLaws
