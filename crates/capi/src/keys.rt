@@ -33,7 +33,7 @@ pub extern "C" fn tifo_keygen(rank: u32, d: &[u8], z: &[u8], ek: &mut [u8], dk: 
         (now (dk .exit))
         ⌝ }
 {
-    refusal(mlkem::keygen(Edition::MlKem, rank, d, z, ek, dk))
+    refusal(mlkem_keygen::keygen(Edition::MlKem, rank, d, z, ek, dk))
 }
 
 // Kyber, algorithm 7.
@@ -58,7 +58,7 @@ pub extern "C" fn tifo_kyber_keygen(
         (now (dk .exit))
         ⌝ }
 {
-    refusal(mlkem::keygen(Edition::Kyber, rank, d, z, ek, dk))
+    refusal(mlkem_keygen::keygen(Edition::Kyber, rank, d, z, ek, dk))
 }
 
 // FIPS 203, algorithm 17.
@@ -77,7 +77,7 @@ pub extern "C" fn tifo_encaps(rank: u32, ek: &[u8], m: &[u8], ct: &mut [u8], k: 
         (now (k .exit))
         ⌝ }
 {
-    refusal(mlkem::encaps(Edition::MlKem, rank, ek, m, ct, k))
+    refusal(mlkem_encaps::encaps(Edition::MlKem, rank, ek, m, ct, k))
 }
 
 // Kyber, algorithm 8.
@@ -102,7 +102,7 @@ pub extern "C" fn tifo_kyber_encaps(
         (now (k .exit))
         ⌝ }
 {
-    refusal(mlkem::encaps(Edition::Kyber, rank, ek, m, ct, k))
+    refusal(mlkem_encaps::encaps(Edition::Kyber, rank, ek, m, ct, k))
 }
 
 // A key in two shares, with a use limit and a count.
@@ -132,7 +132,7 @@ pub extern "C" fn tifo_import(
         (now («limit_out» .exit)) (now («count_out» .exit)))
         ⌝ }
 {
-    refusal(split_key::import(
+    refusal(split_key_import::import(
         rank,
         dk,
         mask_coeffs,
@@ -168,5 +168,5 @@ pub extern "C" fn tifo_refresh(
         (now (count .exit))
         ⌝ }
 {
-    refusal(split_key::refresh(rank, mask_coeffs, mask_words, s0, s1, z0, z1, count))
+    refusal(split_key_refresh::refresh(rank, mask_coeffs, mask_words, s0, s1, z0, z1, count))
 }

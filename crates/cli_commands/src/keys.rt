@@ -7,7 +7,7 @@ use cli_support::sets::Sizes;
 use parameters::Edition;
 
 fn write_keys(e: Edition, rank: u32, d: &[u8], z: &[u8], ek: &mut [u8], dk: &mut [u8]) {
-    if is_refused(mlkem::keygen(e, rank, d, z, ek, dk)) {
+    if is_refused(mlkem_keygen::keygen(e, rank, d, z, ek, dk)) {
         return;
     }
     write_pair(5, ek, 6, dk);
@@ -35,7 +35,7 @@ pub fn keygen(set: Sizes)
 
 fn write_encapsulated(e: Edition, rank: u32, ek: &[u8], m: &[u8], ct: &mut [u8]) {
     let mut k = [0u8; 32];
-    if is_refused(mlkem::encaps(e, rank, ek, m, ct, &mut k)) {
+    if is_refused(mlkem_encaps::encaps(e, rank, ek, m, ct, &mut k)) {
         return;
     }
     write_pair(5, ct, 6, &k);

@@ -31,7 +31,7 @@ fn is_imported(
     limit_out: &mut u32,
     count: &mut u32,
 ) -> bool {
-    let answer = split_key::import(
+    let answer = split_key_import::import(
         rank,
         dk,
         mask_coeffs,
@@ -160,7 +160,16 @@ fn is_refreshed(
     if !read_split(4, k, s0, s1, z0, z1, public, limit, count) {
         return false;
     }
-    let answer = split_key::refresh(k as u32, mask_coeffs, mask_words, s0, s1, z0, z1, count);
+    let answer = split_key_refresh::refresh(
+        k as u32,
+        mask_coeffs,
+        mask_words,
+        s0,
+        s1,
+        z0,
+        z1,
+        count,
+    );
     !is_refused(answer)
 }
 

@@ -33,10 +33,10 @@ fn encapsulate(
 ) -> bool
     requires { ⌜ KeyLent (now seeds) (now ek) (now dk) (now ct) ⌝ }
 {
-    if is_refused(mlkem::keygen(e, rank, &seeds[0..32], &seeds[32..64], ek, dk)) {
+    if is_refused(mlkem_keygen::keygen(e, rank, &seeds[0..32], &seeds[32..64], ek, dk)) {
         return false;
     }
-    if is_refused(mlkem::encaps(e, rank, ek, &seeds[64..96], ct, secret)) {
+    if is_refused(mlkem_encaps::encaps(e, rank, ek, &seeds[64..96], ct, secret)) {
         return false;
     }
     print_encapsulated(ek, dk, ct, secret);

@@ -33,7 +33,7 @@ fn run_refreshed(
     secret: &[u8],
 ) -> bool {
     print_uses(*count, limit);
-    let answer = split_key::refresh(rank, fresh_coeffs, fresh_words, s0, s1, z0, z1, count);
+    let answer = split_key_refresh::refresh(rank, fresh_coeffs, fresh_words, s0, s1, z0, z1, count);
     if is_refused(answer) {
         return false;
     }
@@ -137,7 +137,7 @@ fn run_imported(
     let mut z1 = [0u64; 4];
     let mut limit: u32 = 0;
     let mut count: u32 = 0;
-    let answer = split_key::import(
+    let answer = split_key_import::import(
         rank,
         dk,
         mask_coeffs,

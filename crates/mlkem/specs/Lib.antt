@@ -5,4 +5,4 @@ pub mod EditionLaws
 pub mod Calls
 pub mod Sized
 pub mod CallLaws
-pub mod Written
+pub mod SeedsInput

@@ -1,8 +1,8 @@
-// ML-KEM (FIPS 203) and Kyber, round 3: key making and encapsulation for an edition and the parameter set of a rank.
-mod encapsulation;
-mod key_making;
+// ML-KEM (FIPS 203, section 6) and Kyber, round 3: the algorithms, what the calls answer and leave, and laws about
+// these, in specs/; the seeds of key making, and sampling of a lent stream. mlkem_keygen and mlkem_encaps have the other
+// calls.
+mod key_seeds;
 mod stream; // sampling of a lent stream
 
-pub use encapsulation::encaps;
-pub use key_making::keygen;
+pub use key_seeds::seeds;
 pub use stream::sample;

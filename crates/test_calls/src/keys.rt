@@ -12,7 +12,7 @@ pub(crate) fn keygen(r: &[u8], b: &[u8]) -> Left {
     let mut dk = bytes_at(b, operands::start(r, 2));
     let n = operands::count_within(r, 1, 4096);
     let m = operands::count_within(r, 2, 4096);
-    let answer = mlkem::keygen(
+    let answer = mlkem_keygen::keygen(
         operands::edition(r, 9),
         operands::high(r, 9),
         operands::bytes(r, 10, b),
@@ -29,7 +29,7 @@ pub(crate) fn encaps(r: &[u8], b: &[u8]) -> Left {
     let mut k = bytes_at(b, operands::start(r, 2));
     let n = operands::count_within(r, 1, 4096);
     let m = operands::count_within(r, 2, 4096);
-    let answer = mlkem::encaps(
+    let answer = mlkem_encaps::encaps(
         operands::edition(r, 9),
         operands::high(r, 9),
         operands::bytes(r, 10, b),

@@ -28,7 +28,7 @@ fn import_on(
     limit: &mut u32,
     count: &mut u32,
 ) -> u64 {
-    number(split_key::import(
+    number(split_key_import::import(
         operands::high(r, 9),
         operands::bytes(r, 10, b),
         operands::coefficients(r, 11, c),
@@ -84,7 +84,7 @@ pub(crate) fn refresh(r: &[u8], c: &[u16], w: &[u64]) -> Left {
     let n1 = operands::count_within(r, 4, 4096);
     let m0 = operands::count_within(r, 5, 512);
     let m1 = operands::count_within(r, 6, 512);
-    let answer = split_key::refresh(
+    let answer = split_key_refresh::refresh(
         operands::high(r, 9),
         operands::coefficients(r, 10, c),
         operands::words(r, 11, w),

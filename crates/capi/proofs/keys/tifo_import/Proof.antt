@@ -1,4 +1,4 @@
--- The number returned is that of split_key::import's answer, so that what import leaves is what this call leaves.
+-- The number returned is that of split_key_import::import's answer, so that what it leaves is what this call leaves.
 use Rattle.capi.proofs.keys.tifo_import.Statement.{statement}
 use Rattle.capi.proofs.keys.tifo_import.Tie as tie
 

@@ -1,4 +1,4 @@
--- The number returned is that of split_key::refresh's answer, so that what refreshing leaves is what this call leaves.
+-- The number returned is that of split_key_refresh::refresh's answer, so that what it leaves is what this call leaves.
 use Rattle.capi.proofs.keys.tifo_refresh.Statement.{statement}
 use Rattle.capi.proofs.keys.tifo_refresh.Tie as tie
 
