@@ -4,7 +4,16 @@ use borrow.Author.Needs.{needs}
 use Rattle.masked_encryption.proofs.masked_encrypt.Statement.{statement}
 use Rattle.masked_encryption.proofs.masked_encrypt.Tie as tie
 
--- ---- places: where the arrays are made, and the start
+-- ---- places: after the stages, where the arrays are made, and the start
+
+abbrev filled : tie.After-slice-known4 → tie.After-planes0
+filled c = c .before .before .before
+
+abbrev given-back : tie.After-planes0 → tie.After-mu12
+given-back c = c .before .before .before
+
+abbrev run : tie.After-slice-known4 → tie.After-encrypt-stages
+run c = given-back (filled c) .before .before
 
 abbrev cut : tie.After-encrypt-stages-arg2 → tie.After-n0
 cut c = c .before .before .before
@@ -54,6 +63,6 @@ masked-encrypt-spec =
     (λ c. omega arith)
     (λ c. omega arith)
     encrypt-stages-requires
-    (λ c. omega arith)
-    (λ c. omega arith)
-    (λ c. search needs))
+    (λ c. run c .encrypt-stages .kept .1 .1 .1 .1 .1 .1 .1 .1 .1 .1 .1 .1 .1 .1 .0)
+    (λ c. run c .encrypt-stages .kept .1 .1 .1 .1 .1 .1 .1 .1 .1 .1 .1 .1 .1 .1 .1 .0)
+    (λ c. run c .encrypt-stages .ensures))
