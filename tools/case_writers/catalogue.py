@@ -1,4 +1,5 @@
-"""All case files in their order, and how they are written to crates/test_cases, with args, the names of all, and stdout, what the program has to print."""
+"""All case files in their order, and how they are written to crates/test_cases, with args, the names of all, and stdout, what the program has to
+print."""
 import os, sys
 from models.parameters import ALL_SETS, KYBER_SETS, ML_KEM_768
 from published import ROOT
@@ -18,7 +19,9 @@ from .turns import turns
 
 CRATE = os.path.join(ROOT, "crates", "test_cases")
 DATA = os.path.join(CRATE, "data")
-SUBJECTS = {"lengths": lengths, "refusals": refusals, "places": places, "turns": turns, "secrets": secrets, "traces": traces, "refreshing": refreshing}
+SUBJECTS = {
+    "lengths": lengths, "refusals": refusals, "places": places, "turns": turns, "secrets": secrets, "traces": traces, "refreshing": refreshing,
+}
 
 
 def of_sets(subject, writer, sets):

@@ -108,9 +108,9 @@ def masked_refused(file, hash):
     for buffer, (at, n) in right.items():
         for edge, length in at_edges({"in0": "m", "in1": "m"}.get(buffer, buffer), n, buffer.startswith("out")):
             refused(file, hash, f"masked {name}, {buffer} {edge}", {**right, buffer: (at, length)})
-    pairs = ("in0", "in1", 135 + hash), ("out0", "out1", 137)
-    for first, second, n in pairs:
-        refused(file, hash, f"masked {name}, {first} and {second} of {n} bytes", {**right, first: (right[first][0], n), second: (right[second][0], n)})
+    for first, second, n in ("in0", "in1", 136), ("out0", "out1", 137):
+        both = {buffer: (right[buffer][0], n) for buffer in (first, second)}
+        refused(file, hash, f"masked {name}, {first} and {second} of {n} bytes", {**right, **both})
     refused(file, hash, f"masked {name}, words of one permutation more", {**right, "words": (place("words"), right["words"][1] + 600)})
 
 

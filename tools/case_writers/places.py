@@ -1,5 +1,5 @@
-"""One value at each place of a key, of shares or of masks: a digest over what each call leaves. Import's limits at their edges, and its rows one fault
-after the other. The key is that of d = 0 and z = 1 in each byte, the masks are fixed."""
+"""One value at each place of a key, of shares or of masks: a digest over what each call leaves. Import's limits at their edges, and its rows one
+fault after the other. The key is that of d = 0 and z = 1 in each byte, the masks are fixed."""
 from models.numbers import coefficient_bytes, word_bytes
 from models.parameters import Q
 from models.split_key import import_answer

@@ -1,4 +1,5 @@
-"""Refreshing: what it leaves of drawn shares and of the count, coefficients that it refuses, and decapsulation under a limit of 1, before and after it."""
+"""Refreshing: what it leaves of drawn shares and of the count, coefficients that it refuses, and decapsulation under a limit of 1, before and after
+it."""
 from models.kem import decaps, encaps, keygen
 from models.parameters import Q
 from .key_book import SECRET, KeyFile

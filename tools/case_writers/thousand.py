@@ -1,10 +1,10 @@
-"""A thousand decapsulations of one split key under a limit of 7, every other one of a false ciphertext: where the limit is reached, the call is refused,
-the key refreshed, and the call made again. A digest takes up what each call leaves.
+"""A thousand decapsulations of one split key under a limit of 7, every other one of a false ciphertext: where the limit is reached, the call is
+refused, the key refreshed, and the call made again. A digest takes up what each call leaves.
 
-d, z and m are the bytes 0 to 31, 32 to 63 and 64 to 95. The masks of import (0) and of refreshing j are SHAKE256 of 'refresh' and j in 4 bytes: 16 bits
-modulo q for each coefficient, then four words. The ciphertext of turn i is true where i is even; else byte i, modulo its length, is changed in its lowest
-bit. The digest starts as 32 zero bytes and becomes SHA3-256 of itself and of what a call leaves: after a decapsulation the secret and the count in 4
-bytes, after a refreshing both shares of the secret key, 16 bits for each coefficient, and of z. Numbers have their low byte first."""
+d, z and m are the bytes 0 to 31, 32 to 63 and 64 to 95. The masks of import (0) and of refreshing j are SHAKE256 of 'refresh' and j in 4 bytes: 16
+bits modulo q for each coefficient, then four words. The ciphertext of turn i is true where i is even; else byte i, modulo its length, is changed in
+its lowest bit. The digest starts as 32 zero bytes and becomes SHA3-256 of itself and of what a call leaves: after a decapsulation the secret and the
+count in 4 bytes, after a refreshing both shares of the secret key, 16 bits for each coefficient, and of z. Numbers have their low byte first."""
 from . import format as f
 from .book import SHAKE256
 from .key_book import SECRET, KeyFile

@@ -27,6 +27,8 @@ def ten_turns(file):
         file.case(f"{p.name}, turn {turn}: keygen, encaps, import")
         file.seeds_of(turn)
         file.make_key()
+        for name, n in ("ek", p.ek_bytes), ("dk", p.dk_bytes), ("ct", p.ct_bytes), ("k", 32):
+            file.want_as_is(place(name), n)
         file.call("import")
         file.left("import")
 
