@@ -4,9 +4,11 @@ use Prim.Native.Nat.{_+_, _≤_}
 use native.Mathlib.Omega.{arith}
 use lib.ListN.{length}
 use Rattle.parameters.specs.declared.Edition.the-variants.{Kyber}
-use Rattle.worksheet.specs.Ran.{bind}
-use Rattle.stages.specs.Counts.{lastHashWords, endingWords}
-use Rattle.stages.specs.Worksheet.{ending}
+use Rattle.worksheet.specs.Prog.{word}
+use Rattle.worksheet.specs.Ran.{Draws, bind}
+use Rattle.worksheet.specs.SharedList.{sharedList}
+use Rattle.stages.specs.Counts.{stage10Words, lastHashWords, endingWords}
+use Rattle.stages.specs.Worksheet.{stage10, ending}
 use Rattle.stages.proofs.StoredRun.{length-rest}
 use Rattle.stages.proofs.Strips.{part-from}
 use Rattle.decapsulation_endings.proofs.kyber_ending.Statement.{statement}
@@ -79,6 +81,15 @@ last-hash-requires c κs =
       out = s .pre .out;
     }
 
+-- K' or z is selected, z as it is stored
+selection : (c : tie.After-selected13)
+    → (let a = origin c .args in
+    let o = selected c .stage10 .last .1 .1 .1 .1 .1 .1 .1 in
+    Draws word stage10Words
+    (stage10 (a .equal) (sharedList (a .g0 .now) (a .g1 .now)) (sharedList (a .z0 .now) (a .z1 .now)))
+    (a .rec) (a .ws .now) (sharedList (o .0) (o .1 .0)) (selected c .stage10 .result))
+selection c = selected c .stage10 .ensures
+
 returns : tie.Need-returns
 unfolding ending
 returns c cs =
@@ -86,7 +97,7 @@ returns c cs =
     let w = lent (k .before) in
     let s = origin w in
     rw (words-of s)
-    (bind _ (selected w .stage10 .ensures cs)
+    (bind _ (selection w cs)
     (part-from (s .args .ws .now) refl lastHashWords (k .last-hash .ensures cs)))
 
 pub kyber-ending-spec : {M : Type 1} → statement M
