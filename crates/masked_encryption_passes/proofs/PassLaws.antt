@@ -24,7 +24,8 @@ module _ (k : ℕ) (y : ℕ → List ℕ) where
   unfolding vPass
   length-vPass t e2 mu = length-add _ _ ∙ length-add _ _ ∙ length-inverseNtt _
 
-pub length-us : (k : ℕ) (a : ℕ → ℕ → List ℕ) (y e1 : ℕ → List ℕ) → length (concat k (λ i. uPass k a y (e1 i) i)) ≡ 256 * k
+pub length-us : (k : ℕ) (a : ℕ → ℕ → List ℕ) (y e1 : ℕ → List ℕ)
+    → length (concat k (λ i. uPass k a y (e1 i) i)) ≡ 256 * k
 length-us k a y e1 = length-concat (record { long = λ i h. length-uPass k y a (e1 i) i })
 
 pub length-uvPass : (k : ℕ) (a : ℕ → ℕ → List ℕ) (t n : ℕ → List ℕ) (mu : List ℕ)

@@ -1,5 +1,5 @@
-// Stage 6 of masked decapsulation on one share (document 01, The worksheet): u and v, made of the noise and the message's
-// polynomial. masked_encryption makes the pass on each of the two shares and enters what it gives.
+// Stage 6 of masked decapsulation on one share (document 01, The worksheet): u and v, made of the noise and the
+// message's polynomial. masked_encryption makes the pass on each of the two shares and enters what it gives.
 ghost use mathlib.Core.Path.{_≡_};
 ghost use mathlib.Core.List.{_++_};
 ghost use Prim.Native.Nat.{_+_, _*_, _≤_};
