@@ -33,19 +33,27 @@ class CaseFile:
     def __init__(self, name, exact=True):
         """exact: the models make both shares of what masked calls hand back, not only what they join to."""
         self.name, self.cases, self.memory, self.body = name, [], Memory(exact), None
+        self.prepare()
 
     def case(self, name):
-        self.cases.append((name, []))
+        """It begins with what is prepared for it."""
+        if self.under_way:
+            self.prepare()
+        self.cases.append((name, self.records))
+        self.under_way = name
+
+    def prepare(self):
+        """What is added from here on tries nothing by itself: the next case begins with it."""
+        self.records, self.under_way = [], None
 
     def add(self, kind, *operands, body=b""):
         record = f.Record(kind, operands, body)
         if self.body is not None:
             self.body.append(record)
             return
-        name, records = self.cases[-1]
         if not self.memory.holds(record):
-            raise AssertionError(f"{self.name}, {name}: {f.KINDS[kind][0]} {operands} doesn't hold")
-        records.append(record)
+            raise AssertionError(f"{self.name}, {self.under_way}: {f.KINDS[kind][0]} {operands} doesn't hold")
+        self.records.append(record)
 
     @contextmanager
     def repeat(self, times):
@@ -192,5 +200,6 @@ class CaseFile:
                 self.copy(at, POOL, n)
             else:
                 self.load(buffers[0], POOL, n)
-        for name in {"limit", "count"} & set(CHANGES[call][2]):
-            self.number(name, 0x9e3779b9)
+        for name in "limit", "count":
+            if name in CHANGES[call][2]:
+                self.number(name, 0x9e3779b9)

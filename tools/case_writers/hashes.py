@@ -50,7 +50,6 @@ def counted(n):
 
 def hashes():
     file = HashFile("hashes")
-    file.case("drawn contents")
     file.fill_pool()
     for name, message in MESSAGES.items():
         for hash, size in enumerate(LENGTHS):
@@ -122,7 +121,6 @@ def refused(file, hash, name, buffers):
 
 def masked_hashes():
     file = HashFile("masked-hashes")
-    file.case("drawn contents")
     file.fill_pool()
     for kind in "zero", "full", 0:
         what = kind if kind else "drawn"
@@ -134,7 +132,7 @@ def masked_hashes():
         masked_tried(file, f"masked SHAKE256 of {n} bytes", 1, 1, counted(n), 32)
     for size in 0, 1, 7, 8, 9, 135, 136, 137, 272, 273, 1000:
         masked_tried(file, f"masked SHAKE256 of abc, {size} bytes", 1, 1, b"abc", size)
-    file.case("drawn outputs, two shares of three bytes, and masks")
+    file.prepare()
     file.fresh("masked hash")
     shared(file, b"abc")
     file.load("words", POOL, 2000)

@@ -23,7 +23,6 @@ def at_edges(name, n, changed, others=()):
 
 def out_of_range(file):
     """Contents that a call with right lengths would refuse, and outputs that show a store."""
-    file.case("drawn contents")
     file.fill_pool()
     for call in LENT:
         file.fresh(call)

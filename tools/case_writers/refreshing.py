@@ -50,7 +50,7 @@ def fault(file, parts, at, value):
 
 def faults(file):
     n = file.p.coefficients
-    file.case(f"{file.p.name}, refresh, drawn shares and masks")
+    file.prepare()
     draw_shares(file)
     refresh_masks(file, 2)
     for parts in FAULTS:
@@ -129,7 +129,6 @@ def secrets(file):
 
 def refreshing(p):
     file = KeyFile(p, "refreshing", exact=False)
-    file.case(f"{p.name}, drawn contents")
     file.fill_pool()
     for call in "keygen", "encaps", "import", "decaps":
         file.fresh(call)

@@ -40,7 +40,6 @@ def tried(file, name, n=STREAM_BYTES, out=256, stream=None, wanted=0):
 
 def sampling():
     file = CaseFile("sampling")
-    file.case("drawn contents")
     file.fill_pool()
     for name, stream in STREAMS.items():
         tried(file, name, stream=stream, wanted=7 if name.startswith(("255", "no")) else 0)

@@ -12,7 +12,6 @@ SPLITS, WANTED = (place("area") + at for at in (10000, 40000))
 
 
 def strips(file):
-    file.case(f"{file.p.name}, the keys' draws and four strips")
     file.draw_turns(KEYS)
     for kind, at in zip(KINDS, STRIPS):
         file.strip(kind, at)

@@ -76,7 +76,7 @@ def traces(p):
     file = KeyFile(p, "traces")
     made(file)
     traced(file, "true ciphertext")
-    file.case(f"{p.name}, the random ciphertext")
+    file.prepare()
     file.random_ciphertext(0)
     traced(file, "random ciphertext")
     key = with_both(p, file.memory.get(place("dk"), p.dk_bytes), edged)

@@ -17,7 +17,6 @@ MASK_NAMES = {"mask_coeffs": b"s", "mask_words": b"z", "words": b"w", "coeffs": 
 
 def ten_turns(file):
     p = file.p
-    file.case(f"{p.name}, the turns' draws and fixed masks")
     file.draw_turns(TURNS)
     file.write(place("scratch"), coefficient_bytes((3328 + 1300 * i) % Q for i in range(p.coefficients)))
     file.load("mask_coeffs", place("scratch"), p.coefficients)
