@@ -1,7 +1,7 @@
 -- Laws of the rows, and of row 1's lengths.
 use mathlib.Core.Path.{_≡_, refl, sym, ap, ap₂, _∙_}
 use mathlib.Core.Bool.{Bool, true, false, not, cond, _&&_}
-use mathlib.Core.List.{List, [], _∷_, _++_}
+use mathlib.Core.List.{List, [], _∷_}
 use Prim.Native.Nat.{ℕ, _<_}
 use native.Mathlib.Omega.{arith}
 use borrow.Author.Tests.{eqb-true, eq-eqb, ne-eqb, not-true, not-false}
@@ -81,21 +81,6 @@ unfolding sized
 exact-sized [] x = refl
 exact-sized (b ∷ bs) x =
     ap₂ (λ (c d : Bool). c && d) (eq-eqb (length (b .list)) (b .size) (x .0)) (exact-sized bs (x .1))
-
--- more buffers that have their lengths change nothing
-pub sized-more : (bs cs : List Lent) → Exact cs → sized (bs ++ cs) ≡ sized bs
-unfolding sized
-sized-more [] cs x = exact-sized cs x
-sized-more (b ∷ bs) cs x =
-    ap (λ (c : Bool). eqb (length (b .list)) (b .size) && c) (sized-more bs cs x)
-
-pub sized-first : (bs cs : List Lent) → sized (bs ++ cs) ≡ true → sized bs ≡ true
-unfolding sized
-sized-first [] cs e = refl
-sized-first (b ∷ bs) cs e =
-    let c = eqb (length (b .list)) (b .size) in
-    ap₂ (λ (x y : Bool). x && y) (and-left c (sized (bs ++ cs)) e)
-    (sized-first bs cs (and-right c (sized (bs ++ cs)) e))
 
 -- ---- row 1, as a call tests it by `exact`
 

@@ -57,12 +57,6 @@ unfolding answer
 answer-idle [] a = refl
 answer-idle (r ∷ rows) a = ap (cond (r .applies) (r .refusal)) (answer-idle rows a)
 
--- nor does one behind the first
-pub told-idle : (r : Row) (a : Answer) (rows : List Row) (n left : ℕ)
-    → toldAnswer (r ∷ row false a ∷ rows) n left ≡ toldAnswer (r ∷ rows) n left
-unfolding toldAnswer answer
-told-idle r a rows n left = refl
-
 -- ---- told a step or none
 
 module _ (rows : List Row) (n : ℕ) where
