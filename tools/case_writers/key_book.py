@@ -108,6 +108,18 @@ class KeyFile(CaseFile):
         self.call("import", limit=limit)
         self.left("import")
 
+    def first_turn(self):
+        """A case: turn 0's key and ciphertext, the split and the strip, under masks drawn by the number 9."""
+        self.case(f"{self.p.name}, the key of turn 0, its ciphertext, split and strip")
+        self.fill_pool()
+        for call in "keygen", "encaps", "import", "decaps", "trace":
+            self.fresh(call)
+        self.draw_turns(1)
+        self.seeds_of(0)
+        self.make_key()
+        self.import_as(9)
+        self.strip(9)
+
     # ---- the secret that two shares stand for
     def opened(self, at=""):
         """Decapsulation, on a strip that lies elsewhere and whatever the count is; what the shares join to is put to SECRET."""

@@ -10,19 +10,6 @@ CALLS = "decaps", "trace"
 MOST = 2**32 - 1
 
 
-def made(file):
-    """Turn 0's key and ciphertext, the split and the strip."""
-    file.case(f"{file.p.name}, the key of turn 0, its ciphertext, split and strip")
-    file.fill_pool()
-    for call in "keygen", "encaps", "import", "decaps", "trace":
-        file.fresh(call)
-    file.draw_turns(1)
-    file.seeds_of(0)
-    file.make_key()
-    file.import_as(9)
-    file.strip(9)
-
-
 def tried(file, name, call, limit=MOST, wanted=0, before=lambda file: None, **how):
     """One case, from drawn contents of what the call changes."""
     file.case(f"{file.p.name}, {call}, {name}")
@@ -93,7 +80,7 @@ def uses(file):
 
 def refusals(p):
     file = KeyFile(p, "refusals")
-    made(file)
+    file.first_turn()
     ranges(file)
     steps(file)
     rows(file)

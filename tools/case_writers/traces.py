@@ -11,18 +11,6 @@ STRIDE = 359
 STEPS, VALUES = (place("area") + at for at in (200000, 210000))
 
 
-def made(file):
-    file.case(f"{file.p.name}, the key of turn 0, its ciphertext, split and strip")
-    file.fill_pool()
-    for call in "keygen", "encaps", "import", "decaps", "trace":
-        file.fresh(call)
-    file.draw_turns(1)
-    file.seeds_of(0)
-    file.make_key()
-    file.import_as(9)
-    file.strip(9)
-
-
 def trace_to(file):
     """The step's value, to place number counter of the values."""
     file.call("trace")
@@ -74,7 +62,7 @@ def traced(file, name):
 
 def traces(p):
     file = KeyFile(p, "traces")
-    made(file)
+    file.first_turn()
     traced(file, "true ciphertext")
     file.prepare()
     file.random_ciphertext(0)
