@@ -12,7 +12,7 @@ from . import format as f
 
 EDITIONS = Edition.ML_KEM, Edition.KYBER
 BY_RANK = {(EDITIONS.index(p.edition), p.k): p for p in ALL_SETS}
-LENGTH, PUBLIC_KEY, HASH, MASK, SHARE, STREAM, STEP, RANK, LIMIT, USED = 1, 2, 3, 5, 6, 7, 8, 9, 10, 11
+LENGTH, PUBLIC_KEY, HASH, MASK, SHARE, STREAM, STEP, RANK = 1, 2, 3, 5, 6, 7, 8, 9
 # the model of decapsulation, which is asked for the same secret under many masks
 decaps_model = lru_cache(64)(kem.decaps)
 

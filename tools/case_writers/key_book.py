@@ -123,6 +123,7 @@ class KeyFile(CaseFile):
     # ---- the secret that two shares stand for
     def opened(self, at=""):
         """Decapsulation, on a strip that lies elsewhere and whatever the count is; what the shares join to is put to SECRET."""
+        self.fresh("decaps")
         self.call("decaps", limit=2**32 - 1, at={"words": place("words" + at), "coeffs": place("coeffs" + at)})
         self.join_shares()
 

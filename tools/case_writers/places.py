@@ -42,6 +42,8 @@ def at_each(file, name, places, change, call, wanted=0, **how):
     file.start_digest()
     with file.repeat(places):
         change(file)
+        if call in ("encaps", "import"):
+            file.fresh(call)
         file.call(call, wanted, **how)
         absorb_left(file, call)
         file.count("counter")

@@ -39,7 +39,7 @@ def take_split(file):
         file.load(name, scratch + behind, count)
 
 
-def sixteen(file, secret):
+def each_split_and_strip(file, secret):
     """Each split with each strip, and, on another strip in the place of the last, the fifth split: 17 times the secret."""
     file.write(WANTED, secret)
     file.number("counter", 0)
@@ -75,7 +75,7 @@ def own_secrets(file, turn, other_decaps):
         changed(file, at, bits)
         ct = file.memory.get(place("ct"), p.ct_bytes)
         assert other_decaps(ct) == decaps(p, dk, ct)
-        sixteen(file, decaps(p, dk, ct))
+        each_split_and_strip(file, decaps(p, dk, ct))
         changed(file, at, bits)
 
 
@@ -92,7 +92,7 @@ def key_secrets(file, turn):
     file.random_ciphertext(turn)
     secret = decaps(p, file.memory.get(place("dk"), p.dk_bytes), draw[96:])
     assert other_decaps(draw[96:]) == secret
-    sixteen(file, secret)
+    each_split_and_strip(file, secret)
 
 
 def raised_keys(p, dk):
@@ -113,7 +113,7 @@ def raised_secrets(file):
         file.write(place("dk"), key)
         file.write(place("ct"), ct)
         split_ways(file)
-        sixteen(file, k)
+        each_split_and_strip(file, k)
 
 
 def secrets(p):

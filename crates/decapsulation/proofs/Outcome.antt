@@ -11,7 +11,7 @@ use Rattle.refusals.specs.declared.Answer.{Answer}
 use Rattle.refusals.specs.declared.Answer.the-variants.{WrongLength, LimitReached}
 use Rattle.refusals.specs.Refusals.{number, answer, after, Lent, lent, sized}
 use Rattle.refusals.specs.SameLaws.{and-left, and-right}
-use Rattle.refusals.specs.RefusalLaws.{refused, passed, after-kept, wants, sized-exact}
+use Rattle.refusals.specs.RefusalLaws.{refused, passed, after-kept, wants, sized-exact, sized-both}
 use Rattle.tracing.specs.Told.{toldAnswer, toldValue, leftOf}
 use Rattle.tracing.specs.Trace.{stepAnswer, stepValue}
 use Rattle.tracing.specs.ToldLaws.{told-none, left-answer, left-value}
@@ -28,7 +28,7 @@ use Rattle.decapsulation_run.specs.Sized.{CallSized}
 use Rattle.decapsulation_run.specs.Told.{Told}
 use Rattle.decapsulation.specs.Calls.{lengths, traceRows, decapsAnswer, decapsShares, Decapsulated}
 use Rattle.decapsulation.specs.Calls.{traceAnswer, traceValue, Traced}
-use Rattle.decapsulation.specs.AnswerLaws.{sized-lengths, sized-both}
+use Rattle.decapsulation.specs.AnswerLaws.{sized-lengths}
 
 -- the lengths as the code counts them
 pub wanted : (e : Edition) (p : Parameters) (g : Input) {h ct w c : ℕ} → h ≡ ekBytes p → ct ≡ ctBytes p

@@ -1,18 +1,18 @@
 -- What the calls answer, by the outcomes of their tests.
 use mathlib.Core.Path.{_≡_, refl, sym, ap, _∙_}
-use mathlib.Core.Bool.{Bool, true, false, not, cond, _&&_, and-assoc}
+use mathlib.Core.Bool.{Bool, true, false, not, cond, _&&_}
 use mathlib.Core.List.{List, [], _∷_, _++_}
 use Prim.Native.Nat.{ℕ, _+_, _<_}
 use native.Mathlib.Omega.{arith}
 use borrow.Author.Tests.{ltb-true}
-use lib.Dec.{eqb, ltb}
+use lib.Dec.{ltb}
 use lib.ListN.{length}
 use Rattle.refusals.specs.declared.Answer.the-variants.{Done, WrongLength, MaskRange, ShortStream}
 use Rattle.refusals.specs.declared.Answer.the-variants.{NoSuchStep, LimitReached}
 use Rattle.refusals.specs.Refusals.{Row, row, answer, Lent, lent, sized}
 use Rattle.refusals.specs.SameLaws.{and-left}
 use Rattle.refusals.specs.RefusalLaws.{refused, passed, no-row, done-passed}
-use Rattle.refusals.specs.RefusalLaws.{sized-exact, exact-sized}
+use Rattle.refusals.specs.RefusalLaws.{sized-exact, exact-sized, sized-both}
 use Rattle.tracing.specs.Trace as trace
 use Rattle.tracing.specs.ToldLaws.{Refusing, told-refused, told-step, trace-passed}
 use Rattle.parameters.specs.declared.Edition.{Edition}
@@ -26,14 +26,6 @@ use Rattle.decapsulation_run.specs.Input.{Input, sheet}
 use Rattle.decapsulation_run.specs.InputLaws.{range-refusing, range-passed, sheet-steps}
 use Rattle.decapsulation_run.specs.Sized.{Sized}
 use Rattle.decapsulation.specs.Calls.{lengths, lengthRow, decapsAnswer, traceRows, traceAnswer}
-
--- the lengths of buffers, and of others behind them
-pub sized-both : (bs cs : List Lent) → sized (bs ++ cs) ≡ (sized bs && sized cs)
-unfolding sized
-sized-both [] cs = refl
-sized-both (b ∷ bs) cs =
-    let c = eqb (length (b .list)) (b .size) in
-    ap (λ (x : Bool). c && x) (sized-both bs cs) ∙ sym (and-assoc c (sized bs) (sized cs))
 
 -- what decapsulation that is carried out has tested
 pub record Tested (e : Edition) (p : Parameters) (g : Input) (limit count : ℕ) : Type 0 where

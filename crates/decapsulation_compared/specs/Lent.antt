@@ -24,7 +24,7 @@ pub record CompareInput (p : Parameters) (s : SharedList) (key a c ws cs : List 
   pub out : Long 8 g
 
 -- stages 4 to 8: the public key and its matrix, the ciphertext, the message, stage 3's words, and a strip
-pub record ReencryptInput (p : Parameters) (ek a c : List ℕ) (m g : SharedList) (ws cs : List ℕ) : Type 0 where
+pub record ReencryptionCheckInput (p : Parameters) (ek a c : List ℕ) (m g : SharedList) (ws cs : List ℕ) : Type 0 where
   pub fits : Fits p
   pub key : ExpandedKey p ek a
   pub ct : length c ≡ ctBytes p

@@ -8,8 +8,8 @@ ghost use Rattle.stages.specs.Worksheet.{wordCount, compared as comparedOf};
 ghost use Rattle.stages.specs.Lent.{Long};
 ghost use Rattle.stages.specs.Counts.{encryptWords, encryptCoeffs, stage8Words, comparedWords};
 ghost use Rattle.masked_mlkem.specs.Lent.{GivesBit};
-ghost use Rattle.decapsulation_compared.specs.Reencryption.{reencrypted as reencryptedOf};
-ghost use Rattle.decapsulation_compared.specs.Lent.{CompareInput, ReencryptInput};
+ghost use Rattle.decapsulation_compared.specs.ReencryptionCheck.{reencryptionCheck as reencryptionCheckOf};
+ghost use Rattle.decapsulation_compared.specs.Lent.{CompareInput, ReencryptionCheckInput};
 use masked_decryption::masked_decrypt;
 use masked_encryption::masked_encrypt;
 use masked_mlkem::comparison::stage8;
@@ -22,7 +22,7 @@ use worksheet::EnteredShares;
 use worksheet::Recorder;
 
 // Stages 4 to 8, where planes0 and planes1 take stage 7's planes.
-fn reencrypted_in(
+fn reencryption_check_in(
     rec: Recorder,
     p: Parameters,
     a: &[u16],
@@ -38,13 +38,13 @@ fn reencrypted_in(
     planes1: &mut [u64],
 ) -> EnteredShares
     requires { ⌜
-        ReencryptInput p (now ek) (now a) (now c) (sharedList (now m0) (now m1)) (sharedList (now g0) (now g1))
+        ReencryptionCheckInput p (now ek) (now a) (now c) (sharedList (now m0) (now m1)) (sharedList (now g0) (now g1))
         (now ws) (now cs)
         × Long (wordCount p) (sharedList (now planes0) (now planes1)) ⌝ }
     ensures { λ r. ⌜
         GivesBit
         (Ran
-        (reencryptedOf p (now (ek .entry)) (sharedList (now (m0 .entry)) (now (m1 .entry)))
+        (reencryptionCheckOf p (now (ek .entry)) (sharedList (now (m0 .entry)) (now (m1 .entry)))
         (sharedList (now (g0 .entry)) (now (g1 .entry))) (now (c .entry)))
         rec (now (ws .entry)) (now (cs .entry))
         (record { equal = r .value; g = sharedList (now (g0 .entry)) (now (g1 .entry)) })
@@ -70,7 +70,7 @@ fn reencrypted_in(
 }
 
 // Stages 4 to 8, from m' and stage 3's words, for the matrix a: the equal bit.
-fn reencrypted(
+fn reencryption_check(
     rec: Recorder,
     p: Parameters,
     a: &[u16],
@@ -84,12 +84,12 @@ fn reencrypted(
     cs: &[u16],
 ) -> EnteredShares
     requires { ⌜
-        ReencryptInput p (now ek) (now a) (now c) (sharedList (now m0) (now m1)) (sharedList (now g0) (now g1))
+        ReencryptionCheckInput p (now ek) (now a) (now c) (sharedList (now m0) (now m1)) (sharedList (now g0) (now g1))
         (now ws) (now cs) ⌝ }
     ensures { λ r. ⌜
         GivesBit
         (Ran
-        (reencryptedOf p (now (ek .entry)) (sharedList (now (m0 .entry)) (now (m1 .entry)))
+        (reencryptionCheckOf p (now (ek .entry)) (sharedList (now (m0 .entry)) (now (m1 .entry)))
         (sharedList (now (g0 .entry)) (now (g1 .entry))) (now (c .entry)))
         rec (now (ws .entry)) (now (cs .entry))
         (record { equal = r .value; g = sharedList (now (g0 .entry)) (now (g1 .entry)) })
@@ -99,7 +99,7 @@ fn reencrypted(
     let mut planes0 = [0u64; 196];
     let mut planes1 = [0u64; 196];
     let n = word_count(p);
-    reencrypted_in(
+    reencryption_check_in(
         rec,
         p,
         a,
@@ -149,7 +149,7 @@ pub fn compared(
     let h = ek_bytes(p);
     let rec = masked_decrypt(rec, p, s0, s1, c, ws, &mut m0, &mut m1);
     let rec = stage3(rec, &m0, &m1, &public[h..], &ws[164..], g0, g1);
-    reencrypted(
+    reencryption_check(
         rec,
         p,
         a,

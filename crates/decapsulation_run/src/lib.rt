@@ -4,6 +4,4 @@ mod ranges; // rows 5 to 7
 mod told; // the rows, then the worksheet
 mod worksheet_run; // the whole worksheet
 
-pub use ranges::range_rows;
 pub use told::decapsulate;
-pub use worksheet_run::run;

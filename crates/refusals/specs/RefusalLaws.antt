@@ -1,7 +1,7 @@
 -- Laws of the rows, and of row 1's lengths.
 use mathlib.Core.Path.{_≡_, refl, sym, ap, ap₂, _∙_}
-use mathlib.Core.Bool.{Bool, true, false, not, cond, _&&_}
-use mathlib.Core.List.{List, [], _∷_}
+use mathlib.Core.Bool.{Bool, true, false, not, cond, _&&_, and-assoc}
+use mathlib.Core.List.{List, [], _∷_, _++_}
 use Prim.Native.Nat.{ℕ, _<_}
 use native.Mathlib.Omega.{arith}
 use borrow.Author.Tests.{eqb-true, eq-eqb, ne-eqb, not-true, not-false}
@@ -81,6 +81,14 @@ unfolding sized
 exact-sized [] x = refl
 exact-sized (b ∷ bs) x =
     ap₂ (λ (c d : Bool). c && d) (eq-eqb (length (b .list)) (b .size) (x .0)) (exact-sized bs (x .1))
+
+-- the lengths of buffers, and of others behind them
+pub sized-both : (bs cs : List Lent) → sized (bs ++ cs) ≡ (sized bs && sized cs)
+unfolding sized
+sized-both [] cs = refl
+sized-both (b ∷ bs) cs =
+    let c = eqb (length (b .list)) (b .size) in
+    ap (λ (x : Bool). c && x) (sized-both bs cs) ∙ sym (and-assoc c (sized bs) (sized cs))
 
 -- ---- row 1, as a call tests it by `exact`
 

@@ -1,4 +1,5 @@
-// Cases: records one after the other.
+// Cases: records one after the other. The records that are repeated stand in a function of their own, since none of
+// them repeats others.
 use crate::calls::answers;
 use test_memory::memory::number;
 use test_memory::memory::part;

@@ -1,5 +1,5 @@
-// Decapsulation and trace. Edition and rank are operand 9; s0, s1, z0, z1, the public part, the ciphertext and the strip
-// are operands 11 to 18.
+// Decapsulation and trace. Edition and rank are operand 9; s0, s1, z0, z1, the public part, the ciphertext and the
+// strip are operands 11 to 18.
 use crate::left;
 use crate::left::Left;
 use crate::splits::number_at;

@@ -1,4 +1,4 @@
-// Test cases carried out: the outward calls on lent parts of a memory. README.md beside test_cases has the records.
+// Test cases carried out: the outward calls on lent parts of a memory. crates/test_cases/README.md has the records.
 mod calls; // which call a record makes
 mod cases; // the records of a case, one after the other
 mod decapsulations; // decapsulation and trace

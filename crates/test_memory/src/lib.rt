@@ -1,5 +1,5 @@
 // The memory that test cases work on: lent buffers are parts of it. Records change it and say what must hold of it;
-// README.md beside test_cases has them.
+// crates/test_cases/README.md has them.
 use refusals::number;
 
 mod changes; // records that change the memory

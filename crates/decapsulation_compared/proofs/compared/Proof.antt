@@ -12,7 +12,7 @@ use Rattle.stages.specs.Counts.{stage3Words, decryptWords, encryptWords, stage8
 use Rattle.stages.specs.CountsTable.{fixedCounts}
 use Rattle.stages.specs.Lent.{Long}
 use Rattle.stages.proofs.StoredRun.{length-rest}
-use Rattle.decapsulation_compared.specs.Reencryption.{reencrypted}
+use Rattle.decapsulation_compared.specs.ReencryptionCheck.{reencryptionCheck}
 use Rattle.decapsulation_compared.proofs.LentParts.{front-counted, length-front, rest-counted, length-counted}
 use Rattle.decapsulation_compared.proofs.LentParts.{expanded-front}
 use Rattle.decapsulation_compared.proofs.compared.Statement.{statement}
@@ -20,7 +20,7 @@ use Rattle.decapsulation_compared.proofs.compared.Tie as tie
 
 -- ---- places, backwards: what stages 4 to 8 are lent, stage 3's words are made
 
-abbrev message : tie.After-reencrypted-arg4 → tie.After-m14
+abbrev message : tie.After-reencryption-check-arg4 → tie.After-m14
 message c = c .before .before .before
 
 abbrev key : tie.After-m14 → tie.After-slice-known4
@@ -126,8 +126,8 @@ stage3-requires c κs =
       out = s .pre .out;
     }
 
-reencrypted-requires : tie.Need-reencrypted-requires
-reencrypted-requires c κs =
+reencryption-check-requires : tie.Need-reencryption-check-requires
+reencryption-check-requires c κs =
     let k = key (message c) in
     let n = counts4 k in
     let s = begun n in
@@ -146,7 +146,7 @@ reencrypted-requires c κs =
     }
 
 returns : tie.Need-returns
-unfolding compared reencrypted
+unfolding compared reencryptionCheck
 returns c =
     let k = key (message (c .before)) in
     let h = hashed k in
@@ -155,7 +155,7 @@ returns c =
     let a = begun n .args in
     let ws = a .ws .now in
     let public = a .public .now in
-    let b = c .reencrypted .ensures in
+    let b = c .reencryption-check .ensures in
     record {
       ran = λ z.
           rw (words-of (begun n))
@@ -194,7 +194,7 @@ compared-spec =
     (λ c. omega (arith, words-there (begun (counts4 (key (c .before .before))))))
     (λ c. omega (arith, words-there (begun (counts4 (key (c .before .before))))))
     (λ c. omega arith)
-    reencrypted-requires
+    reencryption-check-requires
     (λ c. hashed (key (message (c .before))) .stage3 .kept .1 .1 .1 .1 .1 .0)
     (λ c. hashed (key (message (c .before))) .stage3 .kept .1 .1 .1 .1 .1 .1 .0)
     returns)

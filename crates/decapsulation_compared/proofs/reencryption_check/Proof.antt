@@ -2,8 +2,8 @@
 use native.Mathlib.Omega.{arith}
 use borrow.Author.Needs.{needs}
 use Rattle.decapsulation_compared.proofs.LentParts.{length-front}
-use Rattle.decapsulation_compared.proofs.reencrypted.Statement.{statement}
-use Rattle.decapsulation_compared.proofs.reencrypted.Tie as tie
+use Rattle.decapsulation_compared.proofs.reencryption_check.Statement.{statement}
+use Rattle.decapsulation_compared.proofs.reencryption_check.Tie as tie
 
 -- ---- places: the count, and the start
 
@@ -22,8 +22,8 @@ message c = c .before .before .before
 abbrev start : tie.After-word-count → tie.Start
 start c = message (words (strips c)) .before
 
-reencrypted-in-requires : tie.Need-reencrypted-in-requires
-reencrypted-in-requires c κs =
+reencryption-check-in-requires : tie.Need-reencryption-check-in-requires
+reencryption-check-in-requires c κs =
     let n = counted c in
     let e = n .word-count .ensures in (
       start n .pre,
@@ -33,8 +33,8 @@ reencrypted-in-requires c κs =
       },
     )
 
-pub reencrypted-spec : {M : Type 1} → statement M
-reencrypted-spec =
+pub reencryption-check-spec : {M : Type 1} → statement M
+reencryption-check-spec =
     tie.close
     (tie.spec
     (λ c κs. search needs)
@@ -44,5 +44,5 @@ reencrypted-spec =
     (λ c. omega arith)
     (λ c. omega arith)
     (λ c. omega arith)
-    reencrypted-in-requires
+    reencryption-check-in-requires
     (λ c. search needs))

@@ -10,10 +10,10 @@ use Rattle.stages.specs.Counts.{encryptWords, encryptCoeffs, stage8Words}
 use Rattle.stages.specs.Lent.{Long}
 use Rattle.stages.proofs.StoredRun.{length-rest}
 use Rattle.stages.proofs.Strips.{part-from}
-use Rattle.decapsulation_compared.specs.Reencryption.{reencrypted}
+use Rattle.decapsulation_compared.specs.ReencryptionCheck.{reencryptionCheck}
 use Rattle.decapsulation_compared.proofs.LentParts.{coins-part, coins-long}
-use Rattle.decapsulation_compared.proofs.reencrypted_in.Statement.{statement}
-use Rattle.decapsulation_compared.proofs.reencrypted_in.Tie as tie
+use Rattle.decapsulation_compared.proofs.reencryption_check_in.Statement.{statement}
+use Rattle.decapsulation_compared.proofs.reencryption_check_in.Tie as tie
 
 -- ---- places, backwards: stage 8, what it is lent, the planes are made
 
@@ -97,7 +97,7 @@ stage8-requires c κs =
     }
 
 returns : tie.Need-returns
-unfolding reencrypted
+unfolding reencryptionCheck
 returns c =
     let b = filled c in
     let x = lent8 (b .before) in
@@ -115,8 +115,8 @@ returns c =
       bit1 = b .stage8 .ensures .bit1;
     }
 
-pub reencrypted-in-spec : {M : Type 1} → statement M
-reencrypted-in-spec =
+pub reencryption-check-in-spec : {M : Type 1} → statement M
+reencryption-check-in-spec =
     tie.close
     (tie.spec
     (λ c κs. search needs)
