@@ -15,9 +15,7 @@ use libc::STDOUT_FILENO;
 use text::print;
 
 mod keys; // keys and encapsulation
-mod lines; // lines on standard output
 mod splits; // import and refreshing
-mod uses; // decapsulation and traces
 
 // The functions that make calls answer whether every one was carried out; a refused one has its line on standard error.
 

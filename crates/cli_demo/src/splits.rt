@@ -3,9 +3,9 @@
 ghost use Prim.Native.Nat.{_<_};
 ghost use lib.ListN.{length};
 ghost use Rattle.cli_support.specs.Bounded.{Bounded};
-use crate::lines::print_uses;
-use crate::uses::decapsulate;
-use crate::uses::run_ciphertexts;
+use cli_demo_uses::lines::print_uses;
+use cli_demo_uses::uses::decapsulate;
+use cli_demo_uses::uses::run_ciphertexts;
 use cli_support::answers::is_refused;
 use cli_support::sets::Sizes;
 use parameters::Edition;

@@ -7,7 +7,6 @@ use cli_commands::commands::Command;
 use cli_commands::hashes;
 use cli_commands::keys;
 use cli_commands::sampling;
-use cli_commands::splitting;
 use cli_support::messages;
 use cli_support::sets::Set;
 use cli_support::sets::Sizes;
@@ -25,8 +24,8 @@ fn run_call(call: Call, set: Sizes)
     match call {
         Call::KeyGen => keys::keygen(set),
         Call::Encaps => keys::encaps(set),
-        Call::Import => splitting::import(set),
-        Call::Refresh => splitting::refresh(set),
+        Call::Import => cli_splitting::import(set),
+        Call::Refresh => cli_splitting::refresh(set),
         Call::Decaps => decapsulating::decaps(set),
         Call::Trace => decapsulating::trace(set),
         Call::Demo => cli_demo::demo(set),

@@ -4,8 +4,8 @@ use mathlib.Core.Path.{subst}
 use borrow.Author.Needs.{needs}
 use native.Mathlib.Omega.{arith}
 use Rattle.cli_support.specs.Numbers.{AtMost}
-use Rattle.cli_commands.proofs.splitting.import.Statement.{statement}
-use Rattle.cli_commands.proofs.splitting.import.Tie as tie
+use Rattle.cli_splitting.proofs.import.Statement.{statement}
+use Rattle.cli_splitting.proofs.import.Tie as tie
 
 fits : (c : tie.After-limit) → c .limit .given .0 .0 ≤ 4294967295
 fits c = subst (AtMost _) (c .limit .given .1) (c .before .before .number .ensures)
