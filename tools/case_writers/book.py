@@ -5,6 +5,7 @@ from models.parameters import Q
 from . import format as f
 from .layout import ARENAS, BYTES, arena_of, place, room
 from .memory import Memory
+from .printing import differing
 
 SHAKE128, SHAKE256 = 2, 3
 # what a call changes: a run of buffers in each arena
@@ -36,7 +37,9 @@ class CaseFile:
         self.prepare()
 
     def case(self, name):
-        """It begins with what is prepared for it."""
+        """It begins with what is prepared for it. Its name stands for it alone."""
+        if name in dict(self.cases):
+            raise AssertionError(f"{self.name} has a case {name} already")
         if self.under_way:
             self.prepare()
         self.cases.append((name, self.records))
@@ -52,7 +55,7 @@ class CaseFile:
             self.body.append(record)
             return
         if not self.memory.holds(record):
-            raise AssertionError(f"{self.name}, {self.under_way}: {f.KINDS[kind][0]} {operands} doesn't hold")
+            raise AssertionError(f"{self.name}, {self.under_way}: {differing(*self.memory.differs)}")
         self.records.append(record)
 
     @contextmanager

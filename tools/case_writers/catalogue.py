@@ -67,6 +67,7 @@ def write_named(name):
     file = writer(*taken)
     assert file.name == name
     write_file(file)
+    return name, len(file.cases)
 
 
 def count(name):

@@ -6,6 +6,8 @@ WRITE, FILL, COPY, JOIN, SET, SQUEEZE, LOAD_COEFFICIENTS, LOAD_WORDS, STORE_COEF
 COUNT, WANT, WANT_HASH, SAME, ABSORB, CHAIN, REPEAT = range(11, 18)
 KEYGEN, ENCAPS, SAMPLE, IMPORT, REFRESH, DECAPS, TRACE, HASH, MASKED_HASH = range(32, 41)
 
+HASHES = "SHA3-256", "SHA3-512", "SHAKE128", "SHAKE256"  # by their numbers
+
 # by kind: its name and its number of operands
 KINDS = {
     WRITE: ("write", 1), FILL: ("fill", 2), COPY: ("copy", 3), JOIN: ("join", 2), SET: ("set", 3), SQUEEZE: ("squeeze", 3),

@@ -3,10 +3,11 @@ from hashlib import shake_256
 from . import format as f
 from .book import POOL, CaseFile
 from .calls import MASKED, digest, hash_masks
+from .format import HASHES
 from .layout import place
 from .lengths import at_edges
 
-NAMES, LENGTHS = ("SHA3-256", "SHA3-512", "SHAKE128", "SHAKE256"), (32, 64, 32, 64)
+LENGTHS = 32, 64, 32, 64
 MESSAGES = {
     "the empty message": b"",
     "abc": b"abc",
@@ -53,19 +54,19 @@ def hashes():
     file.fill_pool()
     for name, message in MESSAGES.items():
         for hash, size in enumerate(LENGTHS):
-            file.tried(f"{NAMES[hash]} of {name}", hash, message, size)
+            file.tried(f"{HASHES[hash]} of {name}", hash, message, size)
     for n in EDGES:
         for hash, size in enumerate(LENGTHS):
-            file.tried(f"{NAMES[hash]} of {n} bytes", hash, counted(n), size)
+            file.tried(f"{HASHES[hash]} of {n} bytes", hash, counted(n), size)
     for size in 0, 1, 135, 136, 137, 167, 168, 169, 272, 336, 1000, 4096:
         for hash in 2, 3:
-            file.tried(f"{NAMES[hash]} of abc, {size} bytes", hash, b"abc", size)
+            file.tried(f"{HASHES[hash]} of abc, {size} bytes", hash, b"abc", size)
     for hash in 0, 1:
         for size in 0, 1, 31, 32, 33, 63, 64, 65, 128, 256, 256 + LENGTHS[hash], 4096:
             if size != LENGTHS[hash]:
-                file.tried(f"{NAMES[hash]} into {size} bytes", hash, b"abc", size, 1)
+                file.tried(f"{HASHES[hash]} into {size} bytes", hash, b"abc", size, 1)
             else:
-                file.tried(f"{NAMES[hash]} into its {size} bytes", hash, b"abc", size)
+                file.tried(f"{HASHES[hash]} into its {size} bytes", hash, b"abc", size)
     return file
 
 
@@ -103,7 +104,7 @@ def masked_tried(file, name, hash, kind, message, size):
 
 def masked_refused(file, hash):
     """Each length wrong, of one buffer or of two alike; for three bytes of message and, of SHAKE256, 64 of output."""
-    right, name = lent(hash, 3, 64), NAMES[(1, 3)[hash]]
+    right, name = lent(hash, 3, 64), HASHES[(1, 3)[hash]]
     for buffer, (at, n) in right.items():
         for edge, length in at_edges({"in0": "m", "in1": "m"}.get(buffer, buffer), n, buffer.startswith("out")):
             refused(file, hash, f"masked {name}, {buffer} {edge}", {**right, buffer: (at, length)})

@@ -38,7 +38,10 @@ for arena, (buffers, _) in ARENAS.items():
 
 
 def arena_of(name):
-    return next(arena for arena, (buffers, _) in ARENAS.items() if name in buffers)
+    for arena, (buffers, _) in ARENAS.items():
+        if name in buffers:
+            return arena
+    raise KeyError(f"there is no buffer {name}")
 
 
 def place(name):

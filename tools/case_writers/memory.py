@@ -41,15 +41,19 @@ class Memory:
 
     # ---- records
     def holds(self, record):
-        """Carries it out."""
+        """Carries it out. What doesn't hold is kept, with the answer that the models give a call."""
         if record.kind == f.REPEAT:
             return all(self.holds(inner) for _ in range(record.operands[0][0]) for inner in record.body)
+        body = [record.body] * (record.kind in f.WITH_BYTES)
         if record.is_call:
             (wanted, _), *operands = record.operands
-            return CALLS[record.kind](self, operands[:8], operands[8:]) == wanted
+            answer = CALLS[record.kind](self, operands[:8], operands[8:])
+            self.differs = record, answer
+            return answer == wanted
         if record.kind in TESTS:
-            return TESTS[record.kind](self, *record.operands, *[record.body] * (record.kind in f.WITH_BYTES))
-        CHANGES[record.kind](self, *record.operands, *[record.body] * (record.kind in f.WITH_BYTES))
+            self.differs = record, None
+            return TESTS[record.kind](self, *record.operands, *body)
+        CHANGES[record.kind](self, *record.operands, *body)
         return True
 
 

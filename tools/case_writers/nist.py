@@ -6,12 +6,13 @@ from itertools import groupby
 from models.parameters import SETS
 from published import EACH, ONCE, held, published, read
 from . import format as f
-from .hashes import NAMES, SHARES, HashFile
+from .format import HASHES
+from .hashes import SHARES, HashFile
 from .calls import MASKED, hash_masks
 from .key_book import SECRET, KeyFile
 from .layout import place
 
-PUBLISHED_NAMES = dict(zip(NAMES, ("SHA3_256", "SHA3_512", "SHAKE128", "SHAKE256")))
+PUBLISHED = dict(zip(HASHES, ("SHA3_256", "SHA3_512", "SHAKE128", "SHAKE256")))
 MASKED_NUMBER = {"SHA3-512": 0, "SHAKE256": 1}
 PARTS = {"short": "ShortMsg", "long": "LongMsg", "variable": "VariableOut", "monte-carlo": "Monte"}
 MOST_MESSAGE, MOST_OUTPUT = 272, 250  # of masked hashes
@@ -88,7 +89,7 @@ def masked_masks(file):
 
 
 def message_file(folder, name, part):
-    pairs, hash = messages(folder, PUBLISHED_NAMES[name] + PARTS[part]), NAMES.index(name)
+    pairs, hash = messages(folder, PUBLISHED[name] + PARTS[part]), HASHES.index(name)
     file, masked = HashFile(hash_file_name(name, part), exact=False), part == "short" and name in MASKED_NUMBER
     for i, (message, output) in enumerate(pairs):
         file.case(f"{name}, {part} {i}: {len(message)} bytes to {len(output)}")
@@ -110,8 +111,8 @@ def together(pairs):
 
 def variable_file(folder, name):
     """Messages and outputs of one length stay in the memory; where there is a masked hash, they are put through it behind them."""
-    file, hash = HashFile(hash_file_name(name, "variable"), exact=False), NAMES.index(name)
-    for group in together(messages(folder, PUBLISHED_NAMES[name] + PARTS["variable"])):
+    file, hash = HashFile(hash_file_name(name, "variable"), exact=False), HASHES.index(name)
+    for group in together(messages(folder, PUBLISHED[name] + PARTS["variable"])):
         n, size = (len(part) for part in group[0][1])
         for i, (number, (message, output)) in enumerate(group):
             file.case(f"{name}, variable {number}: {n} bytes to {size}")
@@ -138,7 +139,7 @@ def masked_group(file, hash, n, size, count):
 def chain_file(folder, name):
     """Each message is the start of the output before, the first the seed's; words state and the next are the lengths of the last output and of the
     next."""
-    seed, least, most, outputs = chain(folder, PUBLISHED_NAMES[name] + PARTS["monte-carlo"])
+    seed, least, most, outputs = chain(folder, PUBLISHED[name] + PARTS["monte-carlo"])
     file, state = HashFile(hash_file_name(name, "monte-carlo")), place("state")
     for i, output in enumerate(outputs):
         file.case(f"{name}, Monte Carlo {i}: a thousand hashes, the last of {len(output)} bytes")
@@ -147,7 +148,7 @@ def chain_file(folder, name):
             file.write(place("constants"), len(seed).to_bytes(8, "little") + most.to_bytes(8, "little"))
             file.load("state", place("constants"), 2)
         with file.repeat(1000):
-            file.add(f.CHAIN, (place("out"), len(seed)), (least, most), (state, NAMES.index(name)))
+            file.add(f.CHAIN, (place("out"), len(seed)), (least, most), (state, HASHES.index(name)))
         file.want(place("out"), output)
         file.store(place("constants"), "state", 1)
         file.want(place("constants"), len(output).to_bytes(8, "little"))
@@ -155,7 +156,7 @@ def chain_file(folder, name):
 
 
 def hash_files(folder):
-    for name in NAMES:
+    for name in HASHES:
         for part in parts_of(name):
             if part == "monte-carlo":
                 yield chain_file(folder, name)
@@ -256,5 +257,5 @@ def stored(p, function, read_cases):
 
 
 def names():
-    hashes = [hash_file_name(name, part) for name in NAMES for part in parts_of(name)]
+    hashes = [hash_file_name(name, part) for name in HASHES for part in parts_of(name)]
     return hashes + [key_file_name(p, function) for p in SETS for function in EACH]

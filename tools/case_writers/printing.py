@@ -2,7 +2,7 @@
 from hashlib import sha3_256
 from . import format as f
 from .calls import EDITIONS
-from .hashes import NAMES
+from .format import HASHES
 from .layout import named
 from models.parameters import Edition
 
@@ -45,7 +45,7 @@ def copied(to, by, since):
 
 
 def chained(out, ends, by):
-    return f"{NAMES[by[1]]} at {at('bytes', out[0])}, messages of {out[1]}, outputs of {ends[0]} to {ends[1]}, state at {at('words', by[0])}"
+    return f"{HASHES[by[1]]} at {at('bytes', out[0])}, messages of {out[1]}, outputs of {ends[0]} to {ends[1]}, state at {at('words', by[0])}"
 
 
 TEXTS = {
@@ -54,7 +54,7 @@ TEXTS = {
     f.COPY: copied,
     f.JOIN: lambda to, other: f"{in_bytes(to)} with {at('bytes', other[0])}",
     f.SET: lambda to, by, modulus: f"{at('bytes', to[0])}, of {modulus[0]} elements of {to[1]} bits number {at('words', by[0])} to {by[1]}",
-    f.SQUEEZE: lambda to, hash, message: f"{in_bytes(to)}, {NAMES[hash[0]]} of {in_bytes(message)}",
+    f.SQUEEZE: lambda to, hash, message: f"{in_bytes(to)}, {HASHES[hash[0]]} of {in_bytes(message)}",
     f.LOAD_COEFFICIENTS: lambda to, since: f"{lent('coefficients', to)} from {at('bytes', since[0])}{', modulo q' * since[1]}",
     f.LOAD_WORDS: lambda to, since: f"{lent('words', to)} from {at('bytes', since[0])}",
     f.STORE_COEFFICIENTS: lambda to, since: f"{lent('coefficients', since)} to {at('bytes', to[0])}",
@@ -72,9 +72,9 @@ TEXTS = {
 def heading_text(kind, heading):
     """What a call is told."""
     if kind == f.HASH:
-        return NAMES[heading[0][0]]
+        return HASHES[heading[0][0]]
     if kind == f.MASKED_HASH:
-        return NAMES[(1, 3)[heading[0][0]]]
+        return HASHES[(1, 3)[heading[0][0]]]
     if not heading:
         return ""
     first, rank = heading[0]
@@ -85,14 +85,17 @@ def heading_text(kind, heading):
     return f"{edition}rank {rank}{more(heading[-1][0])}"
 
 
+def answered(answer):
+    return f"refused {answer}" if answer else "done"
+
+
 def call_text(kind, operands):
     (wanted, _), outputs, inputs = operands[0], operands[1:9], operands[9:]
     told = heading_text(kind, inputs[:HEADINGS[kind]])
     changed = [lent(arena, operand) for arena, operand in zip(OUTPUT_ARENAS, outputs) if operand != (0, 0)]
     changed += [at("words", place) for place, n in outputs[6:] if n]
     given = [lent(arena, operand) for arena, operand in zip(INPUT_ARENAS[kind], inputs[HEADINGS[kind]:])]
-    answer = f"refused {wanted}" if wanted else "done"
-    return f"{told}: {answer}; given {', '.join(given)}; changes {', '.join(changed) or 'nothing'}"
+    return f"{told}: {answered(wanted)}; given {', '.join(given)}; changes {', '.join(changed) or 'nothing'}"
 
 
 def record_lines(record, indent="    "):
@@ -104,6 +107,11 @@ def record_lines(record, indent="    "):
     if record.kind == f.REPEAT:
         for inner in record.body:
             yield from record_lines(inner, indent + "    ")
+
+
+def differing(record, answer):
+    """A record that doesn't hold; of a call, what the models answer."""
+    return "\n".join(record_lines(record, "")) + (" doesn't hold" if answer is None else f": the models say {answered(answer)}")
 
 
 def print_case(name, records):
