@@ -15,9 +15,6 @@ use cli_support::sets::sizes_of;
 use libc::STDERR_FILENO;
 use libc::STDOUT_FILENO;
 
-mod answering; // the shares of K, and the value of a step
-mod decapsulating; // decaps, trace
-
 fn run_call(call: Call, set: Sizes)
     requires { ⌜ Bounded set ⌝ }
 {
@@ -26,8 +23,8 @@ fn run_call(call: Call, set: Sizes)
         Call::Encaps => keys::encaps(set),
         Call::Import => cli_splitting::import(set),
         Call::Refresh => cli_splitting::refresh(set),
-        Call::Decaps => decapsulating::decaps(set),
-        Call::Trace => decapsulating::trace(set),
+        Call::Decaps => cli_decapsulating::decaps(set),
+        Call::Trace => cli_decapsulating::trace(set),
         Call::Demo => cli_demo::demo(set),
     }
 }

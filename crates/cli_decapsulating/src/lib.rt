@@ -1,4 +1,4 @@
-// Masked decapsulation and its trace on files.
+// Masked decapsulation and its trace on files, commands of the program mlkem.
 ghost use Prim.Native.Nat.{_≤_};
 ghost use lib.ListN.{length};
 ghost use Rattle.buffers.specs.Split.{Sized};
@@ -14,6 +14,8 @@ use cli_support::split_file::read_split;
 use cli_support::strip_file;
 use cli_support::strip_file::read_strip;
 use parameters::Edition;
+
+mod answering; // the shares of K, and the value of a step
 
 // What is asked for: the shares of K, or the value of a step.
 enum Asked {

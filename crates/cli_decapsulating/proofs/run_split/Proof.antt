@@ -1,8 +1,8 @@
 -- Reading a split key keeps the lengths of its buffers.
 use borrow.Author.Needs.{needs}
 use native.Mathlib.Omega.{arith}
-use Rattle.mlkem_cli.proofs.decapsulating.run_split.Statement.{statement}
-use Rattle.mlkem_cli.proofs.decapsulating.run_split.Tie as tie
+use Rattle.cli_decapsulating.proofs.run_split.Statement.{statement}
+use Rattle.cli_decapsulating.proofs.run_split.Tie as tie
 
 run-ciphertext-requires : tie.Need-run-ciphertext-requires
 run-ciphertext-requires c κs = (
