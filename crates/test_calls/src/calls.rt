@@ -5,6 +5,9 @@ use crate::keys;
 use crate::left;
 use crate::left::Left;
 use crate::splits;
+use test_memory::memory::BYTES;
+use test_memory::memory::COEFFICIENTS;
+use test_memory::memory::WORDS;
 use test_memory::operands;
 
 fn call(kind: u32, r: &[u8], b: &[u8], c: &[u16], w: &[u64]) -> Left {
@@ -23,7 +26,13 @@ fn call(kind: u32, r: &[u8], b: &[u8], c: &[u16], w: &[u64]) -> Left {
 }
 
 // Holds where the answer's number is operand 0 and what the call leaves could be put back.
-pub(crate) fn answers(kind: u32, r: &[u8], b: &mut [u8], c: &mut [u16], w: &mut [u64]) -> bool {
+pub(crate) fn answers(
+    kind: u32,
+    r: &[u8],
+    b: &mut [u8; BYTES],
+    c: &mut [u16; COEFFICIENTS],
+    w: &mut [u64; WORDS],
+) -> bool {
     let left = call(kind, r, b, c, w);
     let bytes = left::put_bytes(r, left, b);
     let coefficients = left::put_coefficients(r, left, c);

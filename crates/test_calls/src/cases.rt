@@ -1,6 +1,9 @@
 // Cases: records one after the other. The records that are repeated stand in a function of their own, since none of
 // them repeats others.
 use crate::calls::answers;
+use test_memory::memory::BYTES;
+use test_memory::memory::COEFFICIENTS;
+use test_memory::memory::WORDS;
 use test_memory::memory::number;
 use test_memory::memory::part;
 use test_memory::memory::place;
@@ -9,7 +12,7 @@ use test_memory::operands;
 // ---- a record
 
 // From kind 32 on it makes a call.
-fn holds(r: &[u8], b: &mut [u8], c: &mut [u16], w: &mut [u64]) -> bool {
+fn holds(r: &[u8], b: &mut [u8; BYTES], c: &mut [u16; COEFFICIENTS], w: &mut [u64; WORDS]) -> bool {
     let kind = number(r, 4);
     if kind < 32 {
         return test_memory::holds(r, b, c, w);
@@ -19,7 +22,12 @@ fn holds(r: &[u8], b: &mut [u8], c: &mut [u16], w: &mut [u64]) -> bool {
 
 // ---- records that none repeats
 
-fn body(records: &[u8], b: &mut [u8], c: &mut [u16], w: &mut [u64]) -> bool {
+fn body(
+    records: &[u8],
+    b: &mut [u8; BYTES],
+    c: &mut [u16; COEFFICIENTS],
+    w: &mut [u64; WORDS],
+) -> bool {
     let mut at: usize = 0;
     let mut good = true;
     for _ in 0..records.len() {
@@ -35,7 +43,13 @@ fn body(records: &[u8], b: &mut [u8], c: &mut [u16], w: &mut [u64]) -> bool {
 
 // ---- REPEAT
 
-fn repeat(records: &[u8], times: u32, b: &mut [u8], c: &mut [u16], w: &mut [u64]) -> bool {
+fn repeat(
+    records: &[u8],
+    times: u32,
+    b: &mut [u8; BYTES],
+    c: &mut [u16; COEFFICIENTS],
+    w: &mut [u64; WORDS],
+) -> bool {
     let mut good = true;
     for _ in 0..times {
         good = good & body(records, b, c, w);
@@ -43,7 +57,12 @@ fn repeat(records: &[u8], times: u32, b: &mut [u8], c: &mut [u16], w: &mut [u64]
     good
 }
 
-fn repeats_or_holds(r: &[u8], b: &mut [u8], c: &mut [u16], w: &mut [u64]) -> bool {
+fn repeats_or_holds(
+    r: &[u8],
+    b: &mut [u8; BYTES],
+    c: &mut [u16; COEFFICIENTS],
+    w: &mut [u64; WORDS],
+) -> bool {
     if number(r, 4) == 17 {
         return repeat(part(r, 16, r.len()), operands::low(r, 0), b, c, w);
     }
@@ -52,7 +71,12 @@ fn repeats_or_holds(r: &[u8], b: &mut [u8], c: &mut [u16], w: &mut [u64]) -> boo
 
 // ---- a case
 
-pub fn case(records: &[u8], b: &mut [u8], c: &mut [u16], w: &mut [u64]) -> bool {
+pub fn case(
+    records: &[u8],
+    b: &mut [u8; BYTES],
+    c: &mut [u16; COEFFICIENTS],
+    w: &mut [u64; WORDS],
+) -> bool {
     let mut at: usize = 0;
     let mut good = true;
     for _ in 0..records.len() {

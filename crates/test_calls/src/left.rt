@@ -1,5 +1,8 @@
 // What a call leaves: its answer's number, and the buffers and numbers that it may have changed. Operands 1 to 8 of its
 // record say where they stand in the memory.
+use test_memory::memory::BYTES;
+use test_memory::memory::COEFFICIENTS;
+use test_memory::memory::WORDS;
 use test_memory::memory::store_bytes;
 use test_memory::memory::store_coefficients;
 use test_memory::memory::store_words;
@@ -84,7 +87,7 @@ pub(crate) fn of_shares(
 
 // ---- put back into the memory
 
-pub(crate) fn put_bytes(r: &[u8], left: Left, b: &mut [u8]) -> bool {
+pub(crate) fn put_bytes(r: &[u8], left: Left, b: &mut [u8; BYTES]) -> bool {
     let b0 = left.b0;
     let b1 = left.b1;
     let first = store_bytes(operands::lent_bytes(r, 1, &b0), b, operands::start(r, 1));
@@ -92,7 +95,7 @@ pub(crate) fn put_bytes(r: &[u8], left: Left, b: &mut [u8]) -> bool {
     first & second
 }
 
-pub(crate) fn put_coefficients(r: &[u8], left: Left, c: &mut [u16]) -> bool {
+pub(crate) fn put_coefficients(r: &[u8], left: Left, c: &mut [u16; COEFFICIENTS]) -> bool {
     let c0 = left.c0;
     let c1 = left.c1;
     let first = store_coefficients(
@@ -108,7 +111,7 @@ pub(crate) fn put_coefficients(r: &[u8], left: Left, c: &mut [u16]) -> bool {
     first & second
 }
 
-fn put_lent_words(r: &[u8], left: Left, w: &mut [u64]) -> bool {
+fn put_lent_words(r: &[u8], left: Left, w: &mut [u64; WORDS]) -> bool {
     let w0 = left.w0;
     let w1 = left.w1;
     let first = store_words(operands::lent_words(r, 5, &w0), w, operands::start(r, 5));
@@ -116,7 +119,7 @@ fn put_lent_words(r: &[u8], left: Left, w: &mut [u64]) -> bool {
     first & second
 }
 
-fn put_numbers(r: &[u8], left: Left, w: &mut [u64]) -> bool {
+fn put_numbers(r: &[u8], left: Left, w: &mut [u64; WORDS]) -> bool {
     let n0 = [left.n0];
     let n1 = [left.n1];
     let first = store_words(operands::lent_words(r, 7, &n0), w, operands::start(r, 7));
@@ -124,7 +127,7 @@ fn put_numbers(r: &[u8], left: Left, w: &mut [u64]) -> bool {
     first & second
 }
 
-pub(crate) fn put_words(r: &[u8], left: Left, w: &mut [u64]) -> bool {
+pub(crate) fn put_words(r: &[u8], left: Left, w: &mut [u64; WORDS]) -> bool {
     let lent = put_lent_words(r, left, w);
     let numbers = put_numbers(r, left, w);
     lent & numbers

@@ -2,6 +2,9 @@
 // name the files; for each it prints how many of its cases hold, and the first that doesn't.
 ghost use Prim.Native.Nat.{_≤_};
 use test_calls::case;
+use test_memory::memory::BYTES;
+use test_memory::memory::COEFFICIENTS;
+use test_memory::memory::WORDS;
 use test_memory::memory::number;
 use test_memory::memory::part;
 use text::print;
@@ -63,9 +66,9 @@ fn read_name(fd: i32) -> Name {
 fn read_records(
     fd: i32,
     records: &mut [u8],
-    bytes: &mut [u8],
-    coefficients: &mut [u16],
-    words: &mut [u64],
+    bytes: &mut [u8; BYTES],
+    coefficients: &mut [u16; COEFFICIENTS],
+    words: &mut [u64; WORDS],
 ) -> Found {
     if !fill(fd, records) {
         return Found::Damaged;
@@ -77,7 +80,12 @@ fn read_records(
 }
 
 // Records have 262,144 bytes at most.
-fn read_case(fd: i32, bytes: &mut [u8], coefficients: &mut [u16], words: &mut [u64]) -> Found {
+fn read_case(
+    fd: i32,
+    bytes: &mut [u8; BYTES],
+    coefficients: &mut [u16; COEFFICIENTS],
+    words: &mut [u64; WORDS],
+) -> Found {
     let mut records = [0u8; 262144];
     let n = read_number(fd) as usize;
     if n > 262144 {
@@ -148,9 +156,9 @@ fn add(tally: Tally, name: Name, found: Found) -> Tally {
 fn add_next(
     tally: Tally,
     fd: i32,
-    bytes: &mut [u8],
-    coefficients: &mut [u16],
-    words: &mut [u64],
+    bytes: &mut [u8; BYTES],
+    coefficients: &mut [u16; COEFFICIENTS],
+    words: &mut [u64; WORDS],
 ) -> Tally {
     let name = read_name(fd);
     let found = read_case(fd, bytes, coefficients, words);
@@ -161,9 +169,9 @@ fn add_next(
 fn all_cases(
     fd: i32,
     count: u32,
-    bytes: &mut [u8],
-    coefficients: &mut [u16],
-    words: &mut [u64],
+    bytes: &mut [u8; BYTES],
+    coefficients: &mut [u16; COEFFICIENTS],
+    words: &mut [u64; WORDS],
 ) -> Tally {
     let mut tally = none();
     for _ in 0..count {
@@ -177,9 +185,9 @@ fn all_cases(
 
 // The memory is zero when a file begins.
 fn carry_out(fd: i32, count: u32) -> Tally {
-    let mut bytes = [0u8; 655360];
-    let mut coefficients = [0u16; 65536];
-    let mut words = [0u64; 65536];
+    let mut bytes = [0u8; BYTES];
+    let mut coefficients = [0u16; COEFFICIENTS];
+    let mut words = [0u64; WORDS];
     all_cases(fd, count, &mut bytes, &mut coefficients, &mut words)
 }
 

@@ -4,6 +4,13 @@ ghost use mathlib.Core.Path.{_≡_};
 ghost use lib.ListN.{length};
 use buffers::little_endian::get_number;
 
+// How much of each it has.
+pub const BYTES: usize = 655360;
+
+pub const COEFFICIENTS: usize = 65536;
+
+pub const WORDS: usize = 65536;
+
 // ---- parts, which are cut at the memory's end
 
 fn first(b: &[u8], n: usize) -> &[u8] {

@@ -1,14 +1,11 @@
--- The memory keeps its lengths, and a turn counts up.
-use Prim.Native.Nat.{_-_}
-use mathlib.Core.Path.{_≡_}
+-- The lengths of the memory stand in its types, and a turn counts up.
+use Prim.Native.Nat.{_-_, _≤_}
 use borrow.Author.Needs.{needs}
-use lib.ListN.{length}
 use Rattle.test_calls.proofs.cases.case.Statement.{statement}
 use Rattle.test_calls.proofs.cases.case.Tie as tie
 
 abbrev Inv-loop : tie.InvT-loop
-Inv-loop records b₀ c₀ w₀ at₀ good₀ counter₀ end b c w at good counter =
-    (length b ≡ length b₀) × (length c ≡ length c₀) × (length w ≡ length w₀)
+Inv-loop records b₀ c₀ w₀ at₀ good₀ counter₀ end b c w at good counter = counter₀ ≤ counter
 
 abbrev μ-loop : tie.MeasureT-loop
 μ-loop records b₀ c₀ w₀ at₀ good₀ counter₀ end b c w at good counter = end - counter
@@ -21,17 +18,11 @@ case-spec =
     μ-loop
     (λ c. search needs)
     (λ c. search needs)
-    (λ c. search needs)
-    (λ c. search needs)
-    (λ c. search needs)
     (λ c κs. search needs)
     (λ c. search needs)
     (λ c κs. search needs)
     (λ c κs. search needs)
     (λ c κs. search needs)
-    (λ c. search needs)
-    (λ c. search needs)
-    (λ c. search needs)
     (λ c. search needs)
     (λ c. search needs)
     (λ c. search needs)
