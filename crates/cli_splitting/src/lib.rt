@@ -1,5 +1,4 @@
 // Import and refreshing on files, commands of the program mlkem.
-ghost use mathlib.Core.Path.{_≡_};
 ghost use Prim.Native.Nat.{_≤_};
 ghost use lib.ListN.{length};
 ghost use Rattle.buffers.specs.Split.{Sized};

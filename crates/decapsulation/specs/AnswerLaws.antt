@@ -9,7 +9,7 @@ use lib.Dec.{ltb}
 use lib.ListN.{length}
 use Rattle.refusals.specs.declared.Answer.the-variants.{Done, WrongLength, MaskRange, ShortStream}
 use Rattle.refusals.specs.declared.Answer.the-variants.{NoSuchStep, LimitReached}
-use Rattle.refusals.specs.Refusals.{Row, row, answer, Lent, lent, sized}
+use Rattle.refusals.specs.Refusals.{Row, row, answer, lent, sized}
 use Rattle.refusals.specs.SameLaws.{and-left}
 use Rattle.refusals.specs.RefusalLaws.{refused, passed, no-row, done-passed}
 use Rattle.refusals.specs.RefusalLaws.{sized-exact, exact-sized, sized-both}
@@ -82,9 +82,9 @@ module _ (e : Edition) (p : Parameters) (g : Input) where
   unfolding decapsAnswer answer
   decaps-rows limit count k0 k1 l m s =
       let k = lent k0 4 ∷ lent k1 4 ∷ [] in
-      let e : sized (lengths e p g ++ k) ≡ sized k =
+      let exact : sized (lengths e p g ++ k) ≡ sized k =
       sized-both (lengths e p g) k ∙ ap (λ (b : Bool). b && sized k) (lengths-sized l) in
-      rw (e, m, s) refl
+      rw (exact, m, s) refl
 
   -- the trace where the lengths are exact and all coefficients are below q
   pub trace-rows : (t : ℕ) → Sized e p g → reduced (g .coeffs) ≡ true

@@ -1,6 +1,6 @@
 -- Document 02, ask 5: calls on one split key, each given what the last one left. A call is told a rank, as the outward
 -- calls are; what it answers is the call's own definition.
-use mathlib.Core.Bool.{Bool, cond}
+use mathlib.Core.Bool.{cond}
 use mathlib.Core.List.{List, [], _∷_}
 use Prim.Native.Nat.{ℕ, _+_}
 use Rattle.refusals.specs.declared.Answer.{Answer}

@@ -7,8 +7,6 @@ use Prim.Native.Nat.{ℕ, _*_}
 use lib.Dec.{ltb}
 use lib.ListN.{length}
 use lib.Seq.{take-at}
-use Rattle.words.specs.Bounded.{Below}
-use Rattle.words.specs.Residue.{q}
 use Rattle.refusals.specs.declared.Answer.the-variants.{Done, ShortStream, NoSuchStep, LimitReached}
 use Rattle.refusals.specs.Refusals.{row, answer, lent}
 use Rattle.refusals.specs.Reduced.{reduced}

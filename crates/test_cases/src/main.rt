@@ -1,6 +1,5 @@
 // Test cases that stand in files: which calls are made, on what, and what they must answer and leave. The arguments
 // name the files; for each it prints how many of its cases hold, and the first that doesn't.
-ghost use Prim.Native.Nat.{_≤_};
 use test_calls::case;
 use test_memory::memory::BYTES;
 use test_memory::memory::COEFFICIENTS;
