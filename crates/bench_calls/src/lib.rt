@@ -1,4 +1,6 @@
 // What the benchmarks time and the interface doesn't have.
+#![tactic(auto)]
+
 ghost use Rattle.std.specs.Prelude.{◌≡◌, [], ◌≤◌, length};
 ghost use Rattle.keccak.specs.KeccakP.{keccak_p};
 ghost use Rattle.worksheet.specs.Run.{run};

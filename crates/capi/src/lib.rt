@@ -1,4 +1,6 @@
 // The outward calls for C (include/tifolanzo.h). Each returns 0 where it is carried out and else the refusal's number.
+#![tactic(auto)]
+
 ghost use Rattle.std.specs.Prelude.{◌≡◌};
 ghost use Rattle.refusals.specs.Refusals.{number};
 ghost use Rattle.fips202.specs.Calls.{sha3_256_call, sha3_512_call, shake128_call, shake256_call};

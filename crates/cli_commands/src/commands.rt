@@ -4,7 +4,7 @@ use cli_support::arguments::same;
 use libc::STDERR_FILENO;
 
 // On keys, ciphertexts and split keys of a parameter set, whose name is argument 2.
-#[derive(Drop)]
+#[derive(Clone, Copy)]
 pub enum Call {
     KeyGen,
     Encaps,
@@ -15,7 +15,7 @@ pub enum Call {
     Demo,
 }
 
-#[derive(Drop)]
+#[derive(Clone, Copy)]
 pub enum Command {
     Help,
     Hashing(Hash),

@@ -6,7 +6,7 @@ use cli_support::arguments::Natural;
 use cli_support::{arguments, inputs, messages};
 use text::print_hex;
 
-#[derive(Drop)]
+#[derive(Clone, Copy)]
 pub enum Hash {
     Digest256,
     Digest512,

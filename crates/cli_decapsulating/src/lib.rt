@@ -1,4 +1,6 @@
 // Masked decapsulation and its trace on files, commands of the program mlkem.
+#![tactic(auto)]
+
 ghost use Rattle.std.specs.Prelude.{◌≤◌, length};
 ghost use Rattle.buffers.specs.Split.{Sized};
 ghost use Rattle.cli_support.specs.Bounded.{Bounded};
@@ -15,7 +17,7 @@ use parameters::Edition;
 mod answering; // the shares of K, and the value of a step
 
 // What is asked for: the shares of K, or the value of a step.
-#[derive(Drop)]
+#[derive(Clone, Copy)]
 enum Asked {
     Shares,
     Step(u64),

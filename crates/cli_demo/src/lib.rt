@@ -1,5 +1,7 @@
 // A run of the calls on fixed values: a key is made, split and used, with a right ciphertext and a wrong one, and used
 // again when its shares are refreshed.
+#![tactic(auto)]
+
 ghost use Rattle.std.specs.Prelude.{◌≡◌, ◌+◌, ◌*◌, length};
 ghost use Rattle.cli_support.specs.Bounded.{Bounded};
 ghost use Rattle.cli_demo.specs.Lent.{drawn};

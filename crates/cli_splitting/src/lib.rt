@@ -1,4 +1,6 @@
 // Import and refreshing on files, commands of the program mlkem.
+#![tactic(auto)]
+
 ghost use Rattle.std.specs.Prelude.{◌≤◌, length};
 ghost use Rattle.buffers.specs.Split.{Sized};
 ghost use Rattle.cli_support.specs.Bounded.{Bounded};

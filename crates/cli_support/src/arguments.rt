@@ -5,7 +5,7 @@ ghost use Rattle.cli_support.specs.Numbers.{AtMost};
 
 use crate::messages;
 
-#[derive(Drop)]
+#[derive(Clone, Copy)]
 pub enum Natural {
     Is(u64),
     None,

@@ -1,4 +1,6 @@
 // What the commands of the program mlkem share.
+#![tactic(auto)]
+
 pub mod answers; // refused calls
 pub mod arguments; // the words of the command line
 pub mod inputs; // files, read whole

@@ -6,7 +6,7 @@ use crate::arguments::same;
 use crate::messages;
 
 // A descriptor, negative where the file can't be opened, and whether the file was made.
-#[derive(Drop)]
+#[derive(Clone, Copy)]
 pub struct Output {
     fd: i32,
     made: bool,

@@ -8,7 +8,7 @@ use stages::entry_counts::steps;
 use stages::mask_counts::{strip_coeffs, strip_words};
 
 // An edition, and the rank of its set.
-#[derive(Drop)]
+#[derive(Clone, Copy)]
 pub enum Set {
     Is(Edition, u32),
     None,
@@ -44,7 +44,7 @@ pub fn set_at(i: usize) -> Set {
     set_named(&word[..n])
 }
 
-#[derive(Drop)]
+#[derive(Clone, Copy)]
 pub struct Sizes {
     pub edition: Edition,
     pub k: usize, // the rank

@@ -1,4 +1,6 @@
 // Compression and encoding of plain values (FIPS 203, section 4.2.1).
+#![tactic(auto)]
+
 pub mod bits; // numbers as bits
 mod compression;
 mod encoding;

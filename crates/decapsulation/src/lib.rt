@@ -1,4 +1,6 @@
 // Masked decapsulation and its trace, of either edition: the outward calls.
+#![tactic(auto)]
+
 mod decapsulation; // the calls
 mod lengths; // row 1
 

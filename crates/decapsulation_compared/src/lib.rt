@@ -1,5 +1,7 @@
 // Stages 1 to 8 of masked decapsulation (document 01, The worksheet): decryption, stage 3, encryption again, and the
 // comparison. Each function is handed the strips from its first mask on.
+#![tactic(auto)]
+
 ghost use Rattle.std.specs.Prelude.{◌+◌, drop};
 ghost use Rattle.worksheet.specs.Ran.{Ran};
 ghost use Rattle.worksheet.specs.SharedList.{SharedList, shared_list};

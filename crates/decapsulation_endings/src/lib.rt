@@ -1,5 +1,7 @@
 // What follows stage 8 of masked decapsulation, by the edition, from the equal bit, stage 3's words, z and the
 // ciphertext; k0 and k1 take the shares of K.
+#![tactic(auto)]
+
 ghost use Rattle.parameters.specs.declared.Edition.TheVariants.{MlKem, Kyber};
 ghost use Rattle.std.specs.Prelude.{length};
 ghost use Rattle.worksheet.specs.Prog.{word};

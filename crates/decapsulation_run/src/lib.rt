@@ -1,5 +1,7 @@
 // Masked decapsulation behind row 1, of either edition: rows 5 to 8, and the whole worksheet, told a step number or
 // none.
+#![tactic(auto)]
+
 mod ranges; // rows 5 to 7
 mod told; // the rows, then the worksheet
 mod worksheet_run; // the whole worksheet

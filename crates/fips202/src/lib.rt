@@ -1,4 +1,6 @@
 // SHA3-256, SHA3-512, SHAKE128 and SHAKE256 (FIPS 202, sections 4 to 6).
+#![tactic(auto)]
+
 ghost use Rattle.std.specs.Prelude.{◌≡◌, ◌-◌, ◌*◌, ◌%◌, ◌<◌, length};
 ghost use Rattle.refusals.specs.Refusals.{number};
 ghost use Rattle.fips202.specs.Calls.{sized_answer, Hashed, sha3_256_call, sha3_512_call};

@@ -1,4 +1,6 @@
 // The functions made of FIPS 202's hashes (FIPS 203, section 4.1).
+#![tactic(auto)]
+
 ghost use Rattle.std.specs.Prelude.{[], ◌∷◌, ◌++◌, ◌≡◌, length};
 ghost use Rattle.fips202.specs.Sponge.{sha3-256, sha3-512, shake256};
 ghost use Rattle.hash_functions.specs.Functions.{J, XOF};

@@ -1,4 +1,6 @@
 // Keccak-p[1600, 24] (FIPS 202, section 3).
+#![tactic(auto)]
+
 ghost use Rattle.std.specs.Prelude.{◌≡◌};
 ghost use Rattle.keccak_constants.specs.RoundConstants.{constant as constant_of};
 ghost use Rattle.keccak.specs.KeccakP.{keccak_p, round as round_of};

@@ -4,7 +4,7 @@ ghost use Rattle.words.specs.Word.{rotl as rotl_of};
 ghost use Rattle.keccak.specs.Rows.{Offsets, xor_row, effect_row, rotl_row, chi_row};
 
 // The lanes x = 0, 1, 2, 3, 4.
-#[derive(Drop)]
+#[derive(Clone, Copy)]
 pub struct Row {
     pub a: u64,
     pub b: u64,

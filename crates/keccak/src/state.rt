@@ -4,7 +4,7 @@ ghost use Rattle.keccak.specs.Rows.{row_of, rows_of, from_rows};
 
 use crate::row::Row;
 
-#[derive(Drop)]
+#[derive(Clone, Copy)]
 pub struct State {
     pub lanes: [u64; 25],
 }
@@ -24,7 +24,7 @@ pub fn row_at(s: State, i: usize) -> Row
 }
 
 // The rows y = 0, 1, 2, 3, 4.
-#[derive(Drop)]
+#[derive(Clone, Copy)]
 pub struct Rows {
     pub y0: Row,
     pub y1: Row,

@@ -1,4 +1,6 @@
 // The round constants of Keccak-p[1600, 24] (FIPS 202, algorithms 5 and 6), in a table.
+#![tactic(auto)]
+
 ghost use Rattle.std.specs.Prelude.{◌≡◌};
 ghost use Rattle.words.specs.Tab.{tab};
 ghost use Rattle.keccak_constants.specs.RoundConstants.{constant};

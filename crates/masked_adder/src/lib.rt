@@ -1,4 +1,6 @@
 // The adder on the bit planes of 64 numbers at once, on two shares, the lowest plane first.
+#![tactic(auto)]
+
 ghost use Rattle.std.specs.Prelude.{◌+◌, ◌-◌, ◌≤◌, get_or, length};
 ghost use Rattle.masked_adder.specs.Adder;
 ghost use Rattle.masked_adder.specs.Adder.{mask_planes, carry_step, carries, sum_planes, adder_words};
@@ -11,13 +13,13 @@ ghost use Rattle.worksheet.specs.Ran.{Makes, MakesWithLow, Draws};
 
 use worksheet::{Entered, EnteredShares, Recorder, Shares};
 
-#[derive(Drop)]
+#[derive(Clone, Copy)]
 pub struct Planes {
     pub s0: [u64; 24],
     pub s1: [u64; 24],
 }
 
-#[derive(Drop)]
+#[derive(Clone, Copy)]
 pub struct EnteredPlanes {
     pub value: Planes,
     pub rec: Recorder,

@@ -1,4 +1,6 @@
 // Compression of 64 coefficients on two shares, for a general depth: fixed point, bit planes and the adder.
+#![tactic(auto)]
+
 ghost use Rattle.std.specs.Prelude.{◌≡◌, ◌+◌, ◌*◌, ◌-◌, ◌/◌, ◌^◌, ◌<◌, ◌≤◌, drop, get_or};
 ghost use Rattle.masked_compression.specs.Compression.{fixed_point, fixed_points, masked_compress, compress_words};
 ghost use Rattle.masked_compression.specs.Lent.{PointFits, PointsLent, CompressLent};
@@ -12,7 +14,7 @@ use masked_adder::{EnteredPlanes, adder};
 use planes::bit_planes;
 use worksheet::{Entered, Recorder};
 
-#[derive(Drop)]
+#[derive(Clone, Copy)]
 pub struct EnteredNumbers {
     pub value: [u64; 64],
     pub rec: Recorder,

@@ -1,5 +1,7 @@
 // Stages 1 and 2 of masked decapsulation (document 01, The worksheet): decryption on two shares, for a parameter set.
 // Each function is handed the strip from its first mask on.
+#![tactic(auto)]
+
 ghost use Rattle.std.specs.Prelude.{map, ◌≡◌, ◌*◌};
 ghost use Rattle.codec.specs.Bytes.{byte_decode};
 ghost use Rattle.codec.specs.Compress.{decompress};

@@ -1,5 +1,7 @@
 // Stages 4 to 7 of masked decapsulation (document 01, The worksheet): encryption on two shares, for a parameter set.
 // Stage 5 is masked_noise. Each function is handed the strips from its first mask on.
+#![tactic(auto)]
+
 mod message; // stage 4
 mod compression; // stage 7
 mod reencryption; // stage 6

@@ -1,5 +1,7 @@
 // Stage 6 of masked decapsulation on one share (document 01, The worksheet): u and v, made of the noise and the
 // message's polynomial. masked_encryption makes the pass on each of the two shares and enters what it gives.
+#![tactic(auto)]
+
 ghost use Rattle.std.specs.Prelude.{◌≡◌, ◌++◌, ◌+◌, ◌*◌, ◌≤◌, take};
 ghost use Rattle.vectors.specs.Vector.{parts, concat};
 ghost use Rattle.kpke.specs.Expanded.{places_of};

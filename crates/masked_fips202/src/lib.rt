@@ -1,4 +1,6 @@
 // SHA3-512 and SHAKE256 on two shares.
+#![tactic(auto)]
+
 pub mod masked_hash; // the two hashes
 pub mod masked_words; // the two hashes, recorded, with output in words
 pub mod shared_input; // a hash's input in two shares

@@ -19,7 +19,7 @@ fn chi_lane(rec: Recorder, w: Shares, u: Shares, v: Shares, r: u64) -> EnteredSh
     masked_xor(z.rec, w, z.value)
 }
 
-#[derive(Drop)]
+#[derive(Clone, Copy)]
 pub struct EnteredRows {
     pub s0: Row,
     pub s1: Row,
@@ -62,7 +62,7 @@ fn chi_row(rec: Recorder, x: Row, y: Row, ws: &[u64]) -> EnteredRows
     }
 }
 
-#[derive(Drop)]
+#[derive(Clone, Copy)]
 pub struct EnteredStates {
     pub s0: State,
     pub s1: State,

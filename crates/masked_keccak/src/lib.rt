@@ -1,4 +1,6 @@
 // Keccak-p[1600, 24] on two shares of a state (document 01, The gadgets: Hash).
+#![tactic(auto)]
+
 ghost use Rattle.std.specs.Prelude.{◌≤◌, length};
 ghost use Rattle.worksheet.specs.Prog.{word};
 ghost use Rattle.worksheet.specs.Ran.{Draws};

@@ -1,5 +1,7 @@
 // Stage 5 of masked decapsulation (document 01, The worksheet): noise on two shares, for any parameter set. Each
 // function is handed the strips from its first mask on.
+#![tactic(auto)]
+
 ghost use Rattle.std.specs.Prelude.{[], ◌∷◌, ◌+◌, ◌*◌, drop, length};
 ghost use Rattle.worksheet.specs.Prog.{times, word, coeff};
 ghost use Rattle.worksheet.specs.Ran.{Ran, Draws};

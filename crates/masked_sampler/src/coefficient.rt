@@ -10,13 +10,13 @@ ghost use Rattle.worksheet.specs.BitShares.{BitShares};
 
 use worksheet::{Recorder, Shares};
 
-#[derive(Drop)]
+#[derive(Clone, Copy)]
 pub struct EnteredCoeff {
     pub value: u16,
     pub rec: Recorder,
 }
 
-#[derive(Drop)]
+#[derive(Clone, Copy)]
 pub struct EnteredCoeffs {
     pub s0: u16,
     pub s1: u16,

@@ -1,5 +1,7 @@
 // The program mlkem: the library's calls on files. The first argument names the call; where it is one on keys the
 // second names the parameter set. The others are files and numbers.
+#![tactic(auto)]
+
 ghost use Rattle.cli_support.specs.Bounded.{Bounded};
 
 use cli_commands::commands::{Call, Command};

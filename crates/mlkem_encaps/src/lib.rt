@@ -1,4 +1,6 @@
 // Encapsulation: ML-KEM.Encaps_internal (FIPS 203, algorithm 17), or Kyber's CCAKEM.Enc (algorithm 8).
+#![tactic(auto)]
+
 ghost use Rattle.std.specs.Prelude.{◌≡◌, ◌*◌, ◌≤◌, length};
 ghost use Rattle.parameters.specs.declared.Edition.TheVariants.{MlKem, Kyber};
 ghost use Rattle.parameters.specs.Fits.{Fits};

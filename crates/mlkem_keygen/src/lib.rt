@@ -1,4 +1,6 @@
 // Key making: ML-KEM.KeyGen_internal (FIPS 203, algorithm 16), or Kyber's CCAKEM.KeyGen (algorithm 7).
+#![tactic(auto)]
+
 ghost use Rattle.std.specs.Prelude.{◌++◌, ◌≡◌, ◌+◌, length};
 ghost use Rattle.fips202.specs.Sponge.{sha3-256};
 ghost use Rattle.parameters.specs.Fits.{Fits};

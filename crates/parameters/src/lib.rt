@@ -1,19 +1,21 @@
 // What a call on keys is told: the edition, and the parameter set (FIPS 203, section 8) by its rank; and the lengths in
 // bytes that follow from a set.
+#![tactic(auto)]
+
 ghost use Rattle.std.specs.Prelude.{◌≡◌};
 ghost use Rattle.parameters.specs.Ranks.{is_rank, of_rank};
 ghost use Rattle.parameters.specs.Lengths.{vector_bytes, ek_bytes, dk_bytes, ct_bytes};
 ghost use Rattle.parameters.specs.Fits.{Fits};
 
 // FIPS 203's ML-KEM, or Kyber as submitted to the third round (version 3.02). Both have the same parameter sets.
-#[derive(Drop)]
+#[derive(Clone, Copy)]
 pub enum Edition {
     MlKem,
     Kyber,
 }
 
 // Table 2: the rank, the noise's two widths, the depths of the ciphertext's two parts.
-#[derive(Drop)]
+#[derive(Clone, Copy)]
 pub struct Parameters {
     pub k: usize,
     pub eta1: u32,

@@ -1,5 +1,7 @@
 // Bit planes of 64 numbers: plane j holds bit j of each. The numbers, of which the lower 32 bits are taken, are packed
 // two to a word, and five steps transpose the 32 words.
+#![tactic(auto)]
+
 ghost use Rattle.std.specs.Prelude.{◌≡◌, ◌<◌, ◌≤◌, get_or, length};
 ghost use Rattle.words.specs.Fill.{Filled};
 ghost use Rattle.words.specs.Plane.{plane};
@@ -7,7 +9,7 @@ ghost use Rattle.words.specs.Tab.{tab};
 ghost use Rattle.planes.specs.Transposition.{packed, lower, upper, stepped};
 ghost use Rattle.planes.specs.Lent.{StepLent, PlanesLent};
 
-#[derive(Drop)]
+#[derive(Clone, Copy)]
 struct Rows {
     low: u64,
     high: u64,

@@ -1,11 +1,13 @@
 // A call's answer, its number in documents 01 and 02, and the tests of lengths, of coefficients and of equal strings.
+#![tactic(auto)]
+
 ghost use Rattle.std.specs.Prelude.{◌≡◌, ◌≤◌, length};
 ghost use Rattle.refusals.specs.Refusals.{number as number_of};
 ghost use Rattle.refusals.specs.Same.{same};
 
 pub mod conditions; // coefficients below q, and equal strings
 
-#[derive(Drop)]
+#[derive(Clone, Copy)]
 pub enum Answer {
     Done,
     WrongLength,

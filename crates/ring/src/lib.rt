@@ -1,4 +1,6 @@
 // FIPS 203's arithmetic on plain values: coefficients modulo q and polynomials (sections 2.4.4, 2.4.5).
+#![tactic(auto)]
+
 mod polynomial;
 mod residue;
 

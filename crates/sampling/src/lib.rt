@@ -1,4 +1,6 @@
 // SampleNTT on a lent stream, and SamplePolyCBD_eta at widths eta up to 3 (FIPS 203, section 4.2.2).
+#![tactic(auto)]
+
 ghost use Rattle.std.specs.Prelude.{cond, List, ◌++◌, map, ◌≡◌, ℕ, ◌+◌, ◌*◌, ◌/◌, ◌%◌, ◌^◌, ◌≤◌, length};
 ghost use Rattle.words.specs.Bounded.{Below};
 ghost use Rattle.sampling.specs.Sample.{kept, accepted, full, sample_ntt, sample_poly_cbd};
@@ -12,7 +14,7 @@ use codec::bits::{high, low, wide16};
 use codec::byte_decode;
 use ring::difference;
 
-#[derive(Drop)]
+#[derive(Clone, Copy)]
 pub enum Sampled {
     Full,
     Short,

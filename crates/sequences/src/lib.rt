@@ -1,1 +1,2 @@
 // Sequences of calls on one split key, in specs/. There is no code here.
+#![tactic(auto)]

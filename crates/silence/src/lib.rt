@@ -1,1 +1,2 @@
 // Demand 3, in specs/. There is no code here.
+#![tactic(auto)]

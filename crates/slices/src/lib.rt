@@ -1,4 +1,6 @@
 // Copies from slices to a slice of the same length, and FIPS 203's a || b (section 2.3).
+#![tactic(auto)]
+
 ghost use Rattle.std.specs.Prelude.{◌++◌, ◌≡◌, ◌+◌, length};
 
 pub fn copy_bytes(s: &[u8], out: &mut [u8])

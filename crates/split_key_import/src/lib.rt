@@ -1,5 +1,7 @@
 // Import: a decapsulation key (FIPS 203, algorithm 16) is tested, by section 7.3's checks of its length and its hash,
 // and split.
+#![tactic(auto)]
+
 ghost use Rattle.std.specs.Prelude.{◌≡◌, length};
 ghost use Rattle.parameters.specs.Lengths.{dk_bytes};
 ghost use Rattle.parameters.specs.Fits.{Fits};

@@ -1,5 +1,7 @@
 // Refreshing (document 02, ask 5): lent masks are added to the first shares and taken from the second, in place and one
 // share at a time, and the count of uses becomes 0.
+#![tactic(auto)]
+
 ghost use Rattle.std.specs.Prelude.{◌≡◌, length};
 ghost use Rattle.worksheet.specs.SharedList.{shared_list};
 ghost use Rattle.parameters.specs.Fits.{Fits};

@@ -5,7 +5,7 @@ use test_memory::memory::{
 };
 use test_memory::operands;
 
-#[derive(Drop)]
+#[derive(Clone, Copy)]
 pub(crate) struct Left {
     pub(crate) answer: u64,
     pub(crate) b0: [u8; 4096],

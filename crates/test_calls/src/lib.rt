@@ -1,4 +1,6 @@
 // Test cases carried out: the outward calls on lent parts of a memory. crates/test_cases/README.md has the records.
+#![tactic(auto)]
+
 mod calls; // which call a record makes
 mod cases; // the records of a case, one after the other
 mod decapsulations; // decapsulation and trace

@@ -1,5 +1,7 @@
 // Test cases that stand in files: which calls are made, on what, and what they must answer and leave. The arguments
 // name the files; for each it prints how many of its cases hold, and the first that doesn't.
+#![tactic(auto)]
+
 use test_calls::case;
 use test_memory::memory::{BYTES, COEFFICIENTS, WORDS, number, part};
 use text::{print, print_decimal};
@@ -27,14 +29,14 @@ fn is_at_end(fd: i32) -> bool {
 
 // ---- a case
 
-#[derive(Drop)]
+#[derive(Clone, Copy)]
 struct Name {
     text: [u8; 256],
     length: usize,
     read: bool, // else the file is damaged
 }
 
-#[derive(Drop)]
+#[derive(Clone, Copy)]
 enum Found {
     Holds,
     Differs,
@@ -93,7 +95,7 @@ fn read_case(
 // ---- a file
 
 // How many cases hold, and the first that doesn't.
-#[derive(Drop)]
+#[derive(Clone, Copy)]
 struct Tally {
     agreed: u64,
     all: bool, // each of them

@@ -1,5 +1,7 @@
 // The memory that test cases work on: lent buffers are parts of it. Records change it and say what must hold of it;
 // crates/test_cases/README.md has them.
+#![tactic(auto)]
+
 use refusals::number;
 
 mod changes; // records that change the memory

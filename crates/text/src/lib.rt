@@ -1,4 +1,6 @@
 // Text on standard output.
+#![tactic(auto)]
+
 use libc::STDOUT_FILENO;
 
 mod hex; // bytes as hexadecimal digits

@@ -1,4 +1,6 @@
 // A run that is told a step number or none, as a recorder is.
+#![tactic(auto)]
+
 ghost use Rattle.std.specs.Prelude.{◌≡◌, ◌-◌, ◌^◌, ◌<◌};
 ghost use Rattle.tracing.specs.Told.{left_of};
 

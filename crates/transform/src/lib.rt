@@ -1,4 +1,6 @@
 // The number-theoretic transform of polynomials, its inverse, and products of transforms (FIPS 203, section 4.3).
+#![tactic(auto)]
+
 mod multiply;
 mod tables;
 mod transform;

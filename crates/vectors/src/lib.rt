@@ -1,4 +1,6 @@
 // Vectors of k polynomials (FIPS 203, section 2.4.6): the k parts of 256 coefficients of one slice.
+#![tactic(auto)]
+
 ghost use Rattle.std.specs.Prelude.{◌≡◌, ◌+◌, ◌*◌, length, replicate};
 ghost use Rattle.codec.specs.Bytes.{byte_encode, byte_decode12};
 ghost use Rattle.transform.specs.Transform.{ntt as ntt_of};

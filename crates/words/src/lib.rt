@@ -1,1 +1,2 @@
 // Laws of words, lists, loops, tables and residues, in specs/. There is no code here.
+#![tactic(auto)]

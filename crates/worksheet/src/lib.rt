@@ -1,4 +1,6 @@
 // The recorder, and one function for each kind of entry, which does the operation and records the result.
+#![tactic(auto)]
+
 ghost use Rattle.std.specs.Prelude.{◌≡◌, ℕ};
 ghost use Rattle.words.specs.Word.{xor, and, complement, ones as ones_of};
 ghost use Rattle.worksheet.specs.Prog.{entry};
@@ -10,13 +12,13 @@ pub mod gates; // complement, exclusive or, And and Or of sharings
 pub use gates::{masked_and, masked_not, masked_or, masked_xor};
 
 // What is kept of a worksheet: the entry that is `left` entries ahead (1: the next one; 0: none).
-#[derive(Drop)]
+#[derive(Clone, Copy)]
 pub struct Recorder {
     pub left: u64,
     pub value: u64,
 }
 
-#[derive(Drop)]
+#[derive(Clone, Copy)]
 pub struct Entered {
     pub value: u64,
     pub rec: Recorder,
@@ -71,13 +73,13 @@ pub fn enter_complement(rec: Recorder, x: u64, ones: u64) -> Entered
     enter_xor(rec, x, ones)
 }
 
-#[derive(Drop)]
+#[derive(Clone, Copy)]
 pub struct Shares {
     pub s0: u64,
     pub s1: u64,
 }
 
-#[derive(Drop)]
+#[derive(Clone, Copy)]
 pub struct EnteredShares {
     pub value: Shares,
     pub rec: Recorder,
