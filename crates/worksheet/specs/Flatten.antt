@@ -71,7 +71,7 @@ module _ {A B : Type 0} where
   turns-flatten (suc n) d {l = x ∷ l} {l' = []} r = absurd (omega (arith, r.long'))
   turns-flatten {R} (suc n) d {l = x ∷ l} {l' = x' ∷ l'} r =
       rw (suc-mul n d ∙ add_comm (n * d) d)
-      (turns_append (shift (r.at x x' 0 (omega arith))) (turns-flatten n d (next (turns_tail r))))
+      (turns_append (shift (r.at x x' 0 (omega arith))) (turns-flatten {R = λ k. R (d + k)} n d (next (turns_tail r))))
     where
       shift : Turns (λ j. R (0 * d + j)) d x x' → Turns R d x x'
       shift s = simp (zero-mul, zero-add) at s

@@ -1,0 +1,8 @@
+-- The first i coefficients are reduced and the others are still the old ones (Mapped), so turn i reduces an old one.
+use Prim.Native.Nat.{◌-◌, ◌%◌}
+use Rattle.words.specs.Fill.{Mapped}
+use Rattle.buffers.proofs.values.reduce.Given as goal
+
+-- i coefficients reduced
+abbrev pub invariant-loop-i : goal.invariant-loop-i
+invariant-loop-i l = Mapped (λ x. x % 3329) 0 l.initial.f l.i l.f

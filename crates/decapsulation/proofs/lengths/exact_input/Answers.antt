@@ -1,0 +1,18 @@
+-- The code's counts are the lengths that row 1 asks for, in its order.
+use mathlib.Core.Path.{sym}
+use Rattle.refusals.specs.RefusalLaws.{lengths_tested}
+use Rattle.decapsulation_run.specs.Input.{input}
+use Rattle.decapsulation.specs.Calls.{lengths}
+use Rattle.decapsulation.proofs.Outcome.{wanted}
+use Rattle.decapsulation.proofs.lengths.exact_input.Goals as goal
+
+pub returns : goal.returns
+returns c =
+    let a = c.args in
+    let g =
+    input a.s0.now a.s1.now a.z0.now a.z1.now a.public.now a.ct.now a.words.now
+    a.coeffs.now in
+    sym
+    (lengths_tested (lengths a.e a.p g) c.exact.ensures
+    (wanted a.e a.p g c.ek_bytes-h.ensures c.ct_bytes.ensures c.strip_words-w.ensures.0
+    c.strip_coeffs.ensures.0)).is

@@ -1,0 +1,14 @@
+-- The planes' arrays are cut to as many words as are compared.
+use native.Mathlib.Omega.{arith}
+use Rattle.decapsulation_compared.proofs.LentParts.{length_front}
+use Rattle.decapsulation_compared.proofs.reencryption_check.Goals as goal
+
+pub reencryption_check_in-requires : goal.reencryption_check_in-requires
+reencryption_check_in-requires c =
+    let e = c.word_count-n.ensures in (
+      c.requires,
+      record {
+        long0 = length_front _ e.0 (omega (arith, e.0, e.1));
+        long1 = length_front _ e.0 (omega (arith, e.0, e.1));
+      },
+    )

@@ -1,0 +1,41 @@
+-- Turn i writes row i where the first i rows end if its streams are full, and says no where one is not: so yes means
+-- that all k rows are in place.
+use borrow.Author.Rules.{rules}
+use mathlib.Core.Path.{refl}
+use Prim.Native.Nat.{◌-◌}
+use native.Mathlib.Omega.{arith}
+use Rattle.kpke.specs.KPke.{matrix_full}
+use Rattle.words.specs.Part.{length_span}
+use Rattle.vectors.proofs.Concatenated.{concatenated_fits}
+use Rattle.kpke.proofs.Sampled.{sampled_start, sampled_turn, sampled_stop, sampled_end}
+use Rattle.kpke.proofs.matrix.expand.Goals as goal
+
+pub returns-then-not-expand_row : goal.returns-then-not-expand_row
+unfolding matrix_full
+returns-then-not-expand_row c =
+    sampled_stop _ _ _ c.loop-i.i (omega arith) c.expand_row.ensures.answer c.if-not-expand_row.true
+
+pub returns : goal.returns
+unfolding matrix_full
+returns c = sampled_end c.loop-i.invariant.1 (omega arith)
+
+pub loop-i-init : goal.loop-i-init
+loop-i-init c = (refl, sampled_start (omega arith))
+
+pub overflow_mul-s : goal.overflow_mul-s
+overflow_mul-s c = omega (arith, concatenated_fits c.loop-i.invariant.1.written (omega arith))
+
+pub overflow_add-e : goal.overflow_add-e
+overflow_add-e c = omega (arith, concatenated_fits c.loop-i.invariant.1.written (omega arith))
+
+pub offset_bounds-a-s : goal.offset_bounds-a-s
+offset_bounds-a-s c = omega (arith, concatenated_fits c.loop-i.invariant.1.written (omega arith))
+
+pub slice_bounds-expand_row-end : goal.slice_bounds-expand_row-end
+slice_bounds-expand_row-end c = omega (arith, concatenated_fits c.loop-i.invariant.1.written (omega arith))
+
+pub expand_row-requires : goal.expand_row-requires
+expand_row-requires c = search (rules, length_span, concatenated_fits)
+
+pub loop-i-preserved : goal.loop-i-preserved
+loop-i-preserved c = (refl, search (rules, sampled_turn))

@@ -1,0 +1,5 @@
+-- s is the stream of place (i, j), of which fill_ntt is SampleNTT.
+use Rattle.kpke.proofs.matrix.sample_place.Goals as goal
+
+pub returns : goal.returns
+returns c = record { answer = cc; holds = λ t. let e = c.fill_ntt.ensures.holds t in cc }

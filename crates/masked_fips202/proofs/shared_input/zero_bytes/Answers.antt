@@ -1,0 +1,15 @@
+-- Turn i stores 0 at place i.
+use mathlib.Core.Path.{refl}
+use Prim.Native.Nat.{◌-◌}
+use native.Mathlib.Omega.{arith}
+use Rattle.words.specs.Fill.{filled_start, filled_turn, filled_constant}
+use Rattle.masked_fips202.proofs.shared_input.zero_bytes.Goals as goal
+
+pub loop-i-init : goal.loop-i-init
+loop-i-init c = (refl, filled_start refl)
+
+pub loop-i-preserved : goal.loop-i-preserved
+loop-i-preserved c = (refl, filled_turn c.loop-i.invariant.1 (omega arith) refl)
+
+pub returns : goal.returns
+returns c = filled_constant c.loop-i.invariant.1 (omega arith)

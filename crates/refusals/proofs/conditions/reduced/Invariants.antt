@@ -1,0 +1,20 @@
+-- After i turns `all` is the test of the first i coefficients: one more coefficient is one more factor at its end.
+use mathlib.Core.Path.{◌≡◌}
+use mathlib.Core.Bool.{Bool}
+use mathlib.Core.List.{List}
+use Prim.Native.Nat.{ℕ, ◌-◌, ◌≤◌}
+use lib.ListN.{length, take}
+use Rattle.refusals.specs.Reduced.{reduced}
+use Rattle.refusals.proofs.conditions.reduced.Given as goal
+
+-- ---- the loop
+-- i coefficients tested
+pub record Tested (f : List ℕ) (all : Bool) (i : ℕ) : Type 0 where
+  pub within : i ≤ length f
+  pub is : all ≡ reduced (take i f)
+
+abbrev pub invariant-loop-i : goal.invariant-loop-i
+invariant-loop-i l = (l.i-end ≡ length l.f) × Tested l.f l.all l.i
+
+abbrev pub decreases-loop-i : goal.decreases-loop-i
+decreases-loop-i l = length l.f - l.i

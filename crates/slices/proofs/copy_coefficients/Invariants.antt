@@ -1,0 +1,13 @@
+-- Turn i puts coefficient i of s at place i of out, so after one turn a place out is s.
+use mathlib.Core.Path.{◌≡◌}
+use Prim.Native.Nat.{◌-◌}
+use lib.ListN.{length, get_or}
+use Rattle.words.specs.Fill.{Filled}
+use Rattle.slices.proofs.copy_coefficients.Given as goal
+
+-- i coefficients copied
+abbrev pub invariant-loop-i : goal.invariant-loop-i
+invariant-loop-i l = (l.i-end ≡ length l.s) × Filled (length l.s) (λ k. get_or l.s k 0) l.i l.out
+
+abbrev pub decreases-loop-i : goal.decreases-loop-i
+decreases-loop-i l = length l.s - l.i

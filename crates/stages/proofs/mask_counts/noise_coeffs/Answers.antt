@@ -1,0 +1,8 @@
+-- A coefficient takes 2 eta masks, and there are 256.
+use native.Mathlib.Omega.{arith}
+use Rattle.stages.specs.Counts.{noise_coeffs}
+use Rattle.stages.proofs.mask_counts.noise_coeffs.Goals as goal
+
+pub returns : goal.returns
+unfolding noise_coeffs
+returns c = (omega arith, omega (arith, c.requires.most))
