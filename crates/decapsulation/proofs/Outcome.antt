@@ -14,7 +14,7 @@ use Rattle.refusals.specs.SameLaws.{and_left, and_right}
 use Rattle.refusals.specs.RefusalLaws.{refused, passed, after_kept, wants, sized-exact, sized_both}
 use Rattle.tracing.specs.Told.{told_answer, told_value, left_of}
 use Rattle.tracing.specs.Trace.{step_answer, step_value}
-use Rattle.tracing.specs.ToldLaws.{told_none, left_answer, left_value}
+use Rattle.tracing.proofs.ToldLaws.{told_none, left_answer, left_value}
 use Rattle.parameters.specs.declared.Edition.{Edition}
 use Rattle.parameters.specs.declared.Parameters.{Parameters}
 use Rattle.parameters.specs.Fits.{Fits}

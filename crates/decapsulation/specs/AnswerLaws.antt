@@ -11,7 +11,8 @@ use Rattle.refusals.specs.SameLaws.{and_left}
 use Rattle.refusals.specs.RefusalLaws.{refused, passed, no_row, done_passed}
 use Rattle.refusals.specs.RefusalLaws.{sized-exact, exact-sized, sized_both}
 use Rattle.tracing.specs.Trace as trace
-use Rattle.tracing.specs.ToldLaws.{Refusing, told_refused, told_step, trace_passed}
+use Rattle.tracing.specs.Refusing.{Refusing}
+use Rattle.tracing.proofs.ToldLaws.{told_refused, told_step, trace_passed}
 use Rattle.parameters.specs.declared.Edition.{Edition}
 use Rattle.parameters.specs.declared.Parameters.{Parameters}
 use Rattle.kpke.specs.KPke.{matrix_full}

@@ -12,7 +12,7 @@ use Rattle.refusals.specs.declared.Answer.TheVariants.{Done, NoSuchStep}
 use Rattle.refusals.specs.Refusals.{number, answer}
 use Rattle.refusals.specs.RefusalLaws.{after_kept}
 use Rattle.tracing.specs.Told.{told_answer}
-use Rattle.tracing.specs.ToldLaws.{told_refused, told_over, told_done, ran-value}
+use Rattle.tracing.proofs.ToldLaws.{told_refused, told_over, told_done, ran-value}
 use Rattle.parameters.specs.declared.Edition.{Edition}
 use Rattle.parameters.specs.declared.Parameters.{Parameters}
 use Rattle.stages.specs.Worksheet.{worksheet}

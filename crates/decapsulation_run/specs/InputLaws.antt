@@ -7,7 +7,7 @@ use Rattle.refusals.specs.declared.Answer.TheVariants.{MaskRange, ShareRange, Sh
 use Rattle.refusals.specs.Refusals.{row, answer}
 use Rattle.refusals.specs.RefusalLaws.{passed}
 use Rattle.refusals.specs.Reduced.{reduced}
-use Rattle.tracing.specs.ToldLaws.{Refusing}
+use Rattle.tracing.specs.Refusing.{Refusing}
 use Rattle.parameters.specs.declared.Edition.{Edition}
 use Rattle.parameters.specs.declared.Parameters.{Parameters}
 use Rattle.parameters.specs.Lengths.{ek_bytes}

@@ -1,3 +1,3 @@
 pub mod Told
 pub mod Trace
-pub mod ToldLaws
+pub mod Refusing

@@ -16,15 +16,11 @@ use Rattle.refusals.specs.declared.Answer.{Answer}
 use Rattle.refusals.specs.declared.Answer.TheVariants.{Done, NoSuchStep}
 use Rattle.refusals.specs.Refusals.{number, Row, row, answer, after}
 use Rattle.refusals.specs.RefusalLaws.{number-done, after_refused}
+use Rattle.tracing.specs.Refusing.{Refusing}
 use Rattle.tracing.specs.Told.{told_answer, told_value, left_of}
 use Rattle.tracing.specs.Trace.{step_answer, step_value}
 
 -- ---- rows, and more behind them
-
--- each row's answer is a refusal
-abbrev pub Refusing : List Row → Type 0
-Refusing [] = Unit {0}
-Refusing (r ∷ rs) = (0 < number r.refusal) × Refusing rs
 
 -- where one refuses, those behind change nothing
 answer_refused : (rows more : List Row) → 0 < number (answer rows) → answer (rows ++ more) ≡ answer rows
