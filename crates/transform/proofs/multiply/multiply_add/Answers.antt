@@ -1,5 +1,4 @@
 -- Turn by turn one more pair of f g is added to s, with the constant that FIPS 203 gives it.
-use Prim.Native.Nat.{◌-◌}
 use native.Mathlib.Omega.{arith}
 use Rattle.words.specs.TabLaws.{tabulated_at}
 use Rattle.transform.specs.Transform.{gamma}

@@ -1,5 +1,4 @@
 -- One pair a turn, by the law of pairs that the transform and its inverse share.
-use Prim.Native.Nat.{◌-◌}
 use borrow.Author.Rules.{rules}
 use native.Mathlib.Omega.{arith}
 use Rattle.transform.specs.Transform.{inverse_block}

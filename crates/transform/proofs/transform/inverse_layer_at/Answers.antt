@@ -1,6 +1,5 @@
 -- One block a turn, each with the root that the table holds for it, by the law of layers that the transform and its
 -- inverse share.
-use Prim.Native.Nat.{◌-◌}
 use borrow.Author.Rules.{rules}
 use native.Mathlib.Omega.{arith}
 use Rattle.transform.specs.Transform.{inverse_layer}
