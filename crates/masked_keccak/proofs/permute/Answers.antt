@@ -1,5 +1,5 @@
 -- The loop is the definition's own: i rounds have drawn the masks of i rounds, and each round is lent the table.
-use Prim.Native.Nat.{◌+◌, ◌-◌, ◌*◌}
+use Prim.Native.Nat.{◌+◌, ◌*◌}
 use mathlib.Core.Path.{◌≡◌}
 use native.Mathlib.Omega.{arith}
 use lib.ListN.{length-take, length-drop}

@@ -7,7 +7,6 @@ use Rattle.masked_keccak.proofs.Iota.{iota-ran}
 use Rattle.masked_keccak.proofs.EnteredLanes.{pass-makes}
 use Rattle.masked_keccak.proofs.round.Goals as goal
 
--- ---- facts
 -- the lengths of the two states stand in the range of what chi gives
 pub returns : goal.returns
 unfolding masked_round
@@ -16,9 +15,7 @@ returns c cs =
     let pre = c.requires in
     let k = entry_constant pre.table args.i pre.inside in
     let z = c.chi-o.result in
-    let states = c.chi-o.ok.1.1 in
     bind _ (pass-makes args.a.lanes c.pass-p.ensures c.enter_lanes-rec0.ensures _ _)
     (bind _ (pass-makes args.b.lanes c.pass-q.ensures c.enter_lanes-rec1.ensures _ _)
     (bind _ (c.chi-o.ensures cs)
-    (iota-ran args.i z.s0.lanes z.s1.lanes (search (rules, states.0.1.1.0))
-    (search (rules, states.1.0.1.1.0)) k c.enter_xor-e.ensures)))
+    (iota-ran args.i z.s0.lanes z.s1.lanes (search rules) (search rules) k c.enter_xor-e.ensures)))

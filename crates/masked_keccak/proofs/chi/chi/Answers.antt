@@ -1,6 +1,7 @@
 -- Chi in lane order is chi row by row, the five calls are its five rows, and each draws the next five masks of the
 -- strip.
 use Prim.Native.Nat.{ℕ, ◌-◌, ◌≤◌}
+use mathlib.Core.List.{List}
 use native.Mathlib.Omega.{arith}
 use lib.ListN.{length, take, drop, length-take, length-drop}
 use Rattle.words.specs.Tab.{tab}
@@ -12,9 +13,8 @@ use Rattle.masked_keccak.proofs.chi.chi.Goals as goal
 
 -- ---- facts
 -- five masks stand in the strip from i on
-fits : (s : goal.After-row_at-10) (i : ℕ) → i ≤ 20
-    → 5 ≤ length (take (length s.args.ws.now - i) (drop i s.args.ws.now))
-fits s i h = simp (length-take, length-drop) (omega (arith, s.requires))
+fits : (ws : List ℕ) (i : ℕ) → 25 ≤ length ws → i ≤ 20 → 5 ≤ length (take (length ws - i) (drop i ws))
+fits ws i e h = simp (length-take, length-drop) (omega arith)
 
 pub returns : goal.returns
 unfolding masked_chi_rows zip tab
@@ -33,12 +33,10 @@ returns c cs =
     (bind _ (rows_ran c.row_at-9.ensures c.row_at-10.ensures ran4) over)))))
 
 pub chi_row-r2-requires : goal.chi_row-r2-requires
-chi_row-r2-requires c = fits c 10 (omega arith)
+chi_row-r2-requires c = fits c.args.ws.now 10 c.requires (omega arith)
 
 pub chi_row-r3-requires : goal.chi_row-r3-requires
-chi_row-r3-requires c = fits c 15 (omega arith)
+chi_row-r3-requires c = fits c.args.ws.now 15 c.requires (omega arith)
 
 pub chi_row-r4-requires : goal.chi_row-r4-requires
-chi_row-r4-requires c = fits c 20 (omega arith)
-
--- left: fits is used at After-row_at-10, After-row_at-6, After-row_at-8
+chi_row-r4-requires c = fits c.args.ws.now 20 c.requires (omega arith)

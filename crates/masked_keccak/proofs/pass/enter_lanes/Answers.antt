@@ -1,5 +1,4 @@
 -- Each turn enters the next lane: the entries so far are those of the first i lanes.
-use Prim.Native.Nat.{◌-◌}
 use borrow.Author.Rules.{rules}
 use Rattle.masked_keccak.proofs.EnteredLanes.{enters_start, enters_turn, enters_end}
 use Rattle.masked_keccak.proofs.pass.enter_lanes.Goals as goal
