@@ -1,8 +1,6 @@
 -- Turn by turn one coefficient is replaced by its compression; the others are still as they were.
-use Prim.Native.Nat.{◌-◌}
 use native.Mathlib.Omega.{arith}
 use Rattle.words.specs.Fill.{mapped_start, mapped_turn, mapped_end}
-use Rattle.codec.specs.Compress.{compress}
 use Rattle.codec.proofs.compression.compress_all.Goals as goal
 
 pub loop-i-init : goal.loop-i-init

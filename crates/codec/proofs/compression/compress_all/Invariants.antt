@@ -1,5 +1,4 @@
 -- Turn by turn one coefficient is replaced by its compression; the others are still as they were.
-use Prim.Native.Nat.{◌-◌}
 use Rattle.words.specs.Fill.{Mapped}
 use Rattle.codec.specs.Compress.{compress}
 use Rattle.codec.proofs.compression.compress_all.Given as goal

@@ -1,9 +1,7 @@
 -- Turn by turn one coefficient is replaced by its decompression; the others are still as they were, so below 2^d.
-use Prim.Native.Nat.{◌-◌}
 use borrow.Author.Rules.{rules}
 use native.Mathlib.Omega.{arith}
 use Rattle.words.specs.Fill.{mapped_start, mapped-below, mapped_turn, mapped_end}
-use Rattle.codec.specs.Compress.{decompress}
 use Rattle.codec.proofs.compression.decompress_all.Goals as goal
 
 pub loop-i-init : goal.loop-i-init

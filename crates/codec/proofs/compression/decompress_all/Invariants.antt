@@ -1,5 +1,4 @@
 -- Turn by turn one coefficient is replaced by its decompression; the others are still as they were, so below 2^d.
-use Prim.Native.Nat.{◌-◌}
 use Rattle.words.specs.Fill.{Mapped}
 use Rattle.codec.specs.Compress.{decompress}
 use Rattle.codec.proofs.compression.decompress_all.Given as goal

@@ -1,6 +1,6 @@
 -- Turn by turn one number is replaced by its remainder; the others are still as they were.
 use mathlib.Core.Path.{ap, ◌∙◌}
-use Prim.Native.Nat.{ℕ, ◌-◌, ◌%◌}
+use Prim.Native.Nat.{ℕ, ◌%◌}
 use native.Mathlib.Omega.{arith}
 use Rattle.words.specs.Residue.{q}
 use Rattle.words.specs.Fill.{mapped_start, mapped_turn, mapped_end}

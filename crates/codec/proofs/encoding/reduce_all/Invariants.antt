@@ -1,5 +1,5 @@
 -- Turn by turn one number is replaced by its remainder; the others are still as they were.
-use Prim.Native.Nat.{◌-◌, ◌%◌}
+use Prim.Native.Nat.{◌%◌}
 use Rattle.words.specs.Residue.{q}
 use Rattle.words.specs.Fill.{Mapped}
 use Rattle.codec.proofs.encoding.reduce_all.Given as goal
