@@ -7,7 +7,6 @@ use lib.ListN.{length-set, get_or}
 use Rattle.words.specs.Bits.{Bits}
 use Rattle.worksheet.specs.Ran.{next_bits}
 use Rattle.worksheet.specs.RanLoops.{chain_start, chain_turn}
-use Rattle.masked_adder.specs.Adder.{at}
 use Rattle.worksheet.specs.SharedList.{shared_list}
 use Rattle.worksheet.specs.SharedListLaws.{zip-set, get_d_zip, zip_one}
 use Rattle.masked_adder.proofs.carry_planes.Goals as goal
@@ -19,7 +18,7 @@ loop-i-preserved c =
     let i = l.i in
     let g = c.args in
     let word : Bits 64 (get_or g.ws.now i 0) =
-    record { lt = omega (arith, c.shared_slice_known-in-loop-i-1.given i) } in (
+    record { lt = omega (arith, c.type_inv.ws i) } in (
       omega arith,
       omega arith,
       simp length-set (omega arith),
@@ -28,8 +27,8 @@ loop-i-preserved c =
           rw (zip-set l.s0 l.s1 (i + 1) _ _ (omega arith) (omega arith))
           (chain_turn _ _ i (l.invariant.4 cs) (get_d_zip (i + 1) (shared_list l.s0 l.s1) i _ (omega arith))
           (rw (
-            get_d_zip g.n (shared_list g.t3.s0 g.t3.s1) i _ (omega arith),
-            get_d_zip g.n (shared_list g.t4.s0 g.t4.s1) i _ (omega arith),
+            get_d_zip g.n (shared_list g.a.s0 g.a.s1) i _ (omega arith),
+            get_d_zip g.n (shared_list g.b.s0 g.b.s1) i _ (omega arith),
           )
           (next_bits 64 g.ws.now i word c.carry_step-o.ensures))),
     )

@@ -1,6 +1,6 @@
 -- The loop is the definition's chain: i carries have been made on the first i masks, and the last of them, which the
 -- next turn reads, stands at place i of the two arrays.
-use Prim.Native.Nat.{ℕ, ◌+◌, ◌≤◌, ◌-◌}
+use Prim.Native.Nat.{ℕ, ◌+◌, ◌≤◌}
 use mathlib.Core.Path.{◌≡◌}
 use mathlib.Core.List.{List}
 use lib.ListN.{length, drop}

@@ -1,6 +1,5 @@
 -- The loop is the definition's own: the first i planes have taken the first i masks, and their shares stand in two
 -- arrays.
-use Prim.Native.Nat.{◌-◌}
 use mathlib.Core.Path.{refl}
 use native.Mathlib.Omega.{arith}
 use Rattle.worksheet.specs.Ran.{bind, over, draws_word, next_word}

@@ -1,6 +1,5 @@
 -- The loop is the definition's own: the first i planes have taken the first i masks, and their shares stand in two
 -- arrays.
-use Prim.Native.Nat.{◌-◌}
 use lib.ListN.{get_or}
 use Rattle.worksheet.specs.Prog.{word}
 use Rattle.worksheet.specs.Ran.{Draws}
@@ -11,6 +10,3 @@ use Rattle.masked_adder.proofs.mask_planes.Given as goal
 -- i planes masked, i masks drawn
 abbrev pub invariant-loop-i : goal.invariant-loop-i
 invariant-loop-i l = StoredSharings (λ k ys r. Draws word k (mask_planes k (λ j. get_or l.x j 0)) l.initial.rec l.ws ys r) l.n 24 l.s0 l.s1 l.rec l.i
-
-abbrev pub decreases-loop-i : goal.decreases-loop-i
-decreases-loop-i l = l.n - l.i

@@ -1,6 +1,5 @@
 -- The loop is the definition's own: the first i sum planes are made of the planes at the same places, and stand in two
 -- arrays.
-use Prim.Native.Nat.{◌-◌}
 use mathlib.Core.Path.{refl}
 use native.Mathlib.Omega.{arith}
 use Rattle.worksheet.specs.Ran.{bind, over}
@@ -17,13 +16,13 @@ unfolding sum_plane
 loop-i-preserved c =
     let l = c.loop-i in
     let g = c.args in
-    let h = c.loop-i-test.taken in
+    let h = c.loop-i-test.true in
     sharings_turn l.invariant _ _ (omega arith) (λ ws cs.
     times_turn _ l.i (l.invariant.ran ws cs)
     (rw (
-      get_d_zip g.n (shared_list g.t3.s0 g.t3.s1) l.i _ h,
-      get_d_zip g.n (shared_list g.t4.s0 g.t4.s1) l.i _ h,
-      get_d_zip g.n (shared_list g.t5.s0 g.t5.s1) l.i _ h,
+      get_d_zip g.n (shared_list g.a.s0 g.a.s1) l.i _ h,
+      get_d_zip g.n (shared_list g.b.s0 g.b.s1) l.i _ h,
+      get_d_zip g.n (shared_list g.c.s0 g.c.s1) l.i _ h,
     )
     (bind _ (c.enter_xor3-x.ensures _ _) (bind _ (c.enter_xor3-y.ensures _ _) over))))
 
