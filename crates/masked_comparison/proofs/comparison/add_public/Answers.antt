@@ -1,6 +1,5 @@
 -- The loop is the definition's own: the first j words have taken their public word and been entered, and the others
 -- still stand as they were lent, so that the next turn reads what the definition reads.
-use Prim.Native.Nat.{◌-◌}
 use mathlib.Core.Path.{◌≡◌, refl, ◌∙◌}
 use native.Mathlib.Omega.{arith}
 use lib.ListN.{length, length-set}

@@ -1,6 +1,6 @@
 -- The loop is the definition's own: the first j words have taken their public word and been entered, and the others
 -- still stand as they were lent, so that the next turn reads what the definition reads.
-use Prim.Native.Nat.{ℕ, ◌-◌, ◌≤◌}
+use Prim.Native.Nat.{ℕ, ◌≤◌}
 use mathlib.Core.Path.{◌≡◌}
 use mathlib.Core.List.{List}
 use lib.ListN.{length, get_or}

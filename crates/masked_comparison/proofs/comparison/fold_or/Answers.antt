@@ -1,6 +1,5 @@
 -- The loop is the definition's own: j turns of it have run on the first j masks, and each mask has 64 bits as it
 -- stands.
-use Prim.Native.Nat.{◌-◌}
 use mathlib.Core.Path.{◌≡◌, refl}
 use native.Mathlib.Omega.{arith}
 use Rattle.words.specs.Word.{ones}
@@ -22,7 +21,7 @@ loop-j-preserved c =
       omega arith,
       λ cs.
           loop_turn _ _ j (c.loop-j.invariant.1 cs)
-          (next_bits 64 ws j (record { lt = omega (arith, c.shared_slice_known-in-loop-j-3-1.given j) })
+          (next_bits 64 ws j (record { lt = omega (arith, c.type_inv.ws j) })
           (c.masked_or-o.ensures 64 refl)),
     )
 

@@ -1,6 +1,5 @@
 -- The loop is the definition's own: j turns of it have run on the first j masks, and the code's width at turn j is the
 -- definition's.
-use Prim.Native.Nat.{◌-◌}
 use mathlib.Core.Path.{◌≡◌}
 use native.Mathlib.Omega.{arith}
 use Rattle.worksheet.specs.Ran.{next_word}

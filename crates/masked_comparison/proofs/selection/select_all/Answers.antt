@@ -1,5 +1,4 @@
 -- Turn j stores the selected word j of both shares, with mask word j.
-use Prim.Native.Nat.{◌-◌}
 use mathlib.Core.Path.{refl}
 use native.Mathlib.Omega.{arith}
 use Rattle.worksheet.specs.Ran.{bind, over, next_bits}
@@ -12,7 +11,7 @@ use Rattle.masked_comparison.proofs.selection.select_all.Goals as goal
 pub loop-j-preserved : goal.loop-j-preserved
 loop-j-preserved c =
     let l = c.loop-j in
-    let mask = c.shared_slice_known-in-loop-j-5-1.given l.j in
+    let mask = c.type_inv.ws l.j in
     sharings_turn l.invariant _ _ (omega arith) (λ cs.
     times_turn _ l.j (l.invariant.ran cs)
     (next_bits 64 c.args.ws.now l.j (record { lt = omega (arith, mask) }) c.select-o.ensures))

@@ -1,5 +1,4 @@
 -- Turn j stores the selected word j of both shares, with mask word j.
-use Prim.Native.Nat.{◌-◌}
 use Rattle.worksheet.specs.Prog.{word, times}
 use Rattle.worksheet.specs.Ran.{Draws}
 use Rattle.worksheet.specs.SharedList.{shared_list, shared_at}
@@ -13,6 +12,3 @@ invariant-loop-j l = StoredSharings
     (λ m ys r.
     Draws word m (times m (λ i. select l.b (shared_at (shared_list l.x0 l.x1) i) (shared_at (shared_list l.y0 l.y1) i))) l.initial.rec l.ws ys r)
     l.n l.n l.out0 l.out1 l.rec l.j
-
-abbrev pub decreases-loop-j : goal.decreases-loop-j
-decreases-loop-j l = l.n - l.j
