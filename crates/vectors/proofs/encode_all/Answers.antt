@@ -16,7 +16,7 @@ byte_encode-requires c =
     record {
       polynomial = length_span a 256 c.args.v.now (omega arith);
       bytes =
-          length_span (32 * c.args.d * c.loop-i.i) (32 * c.args.d) c.loop-i.out-1
+          length_span (32 * c.args.d * c.loop-i.i) (32 * c.args.d) c.loop-i.out
           (concatenated_fits c.loop-i.invariant.1 (omega arith));
       some = omega arith;
       most = omega arith;
