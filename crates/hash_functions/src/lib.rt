@@ -2,7 +2,7 @@
 #![tactic(auto)]
 
 ghost use Rattle.std.specs.Prelude.{[], ◌∷◌, ◌++◌, ◌≡◌, length};
-ghost use Rattle.fips202.specs.Sponge.{sha3-256, sha3-512, shake256};
+ghost use Rattle.fips202.specs.Sponge.{sha3_256, sha3_512, shake256};
 ghost use Rattle.hash_functions.specs.Functions.{J, XOF};
 
 use slices::concat_bytes;
@@ -10,7 +10,7 @@ use slices::concat_bytes;
 // H (4.4).
 pub fn hash_h(s: &[u8], out: &mut [u8])
     requires { length out.old ≡ 32 }
-    ensures { out.new ≡ sha3-256 s.now }
+    ensures { out.new ≡ sha3_256 s.now }
 {
     fips202::sha3_256(s, out);
 }
@@ -18,7 +18,7 @@ pub fn hash_h(s: &[u8], out: &mut [u8])
 // G (4.5) of the seed d and the rank k, as algorithm 13 calls it on line 1.
 pub fn hash_g_seed(d: &[u8], k: u8, out: &mut [u8])
     requires { (length d.now ≡ 32) × (length out.old ≡ 64) }
-    ensures { out.new ≡ sha3-512 (d.now ++ k ∷ []) }
+    ensures { out.new ≡ sha3_512 (d.now ++ k ∷ []) }
 {
     let mut t = [0u8; 33];
     let b = [k];
@@ -29,7 +29,7 @@ pub fn hash_g_seed(d: &[u8], k: u8, out: &mut [u8])
 // G (4.5) of the seed d alone, as Kyber's algorithm 4 calls it on line 2.
 pub fn hash_g_alone(d: &[u8], out: &mut [u8])
     requires { length out.old ≡ 64 }
-    ensures { out.new ≡ sha3-512 d.now }
+    ensures { out.new ≡ sha3_512 d.now }
 {
     fips202::sha3_512(d, out);
 }
@@ -37,7 +37,7 @@ pub fn hash_g_alone(d: &[u8], out: &mut [u8])
 // G (4.5) of the message m and the hash h, as algorithm 17 calls it on line 1.
 pub fn hash_g(m: &[u8], h: &[u8], out: &mut [u8])
     requires { (length m.now ≡ 32) × (length h.now ≡ 32) × (length out.old ≡ 64) }
-    ensures { out.new ≡ sha3-512 (m.now ++ h.now) }
+    ensures { out.new ≡ sha3_512 (m.now ++ h.now) }
 {
     let mut t = [0u8; 64];
     concat_bytes(m, h, &mut t);
@@ -47,7 +47,7 @@ pub fn hash_g(m: &[u8], h: &[u8], out: &mut [u8])
 // Kyber's KDF, which is J (4.4), of k and H(c), as Kyber's algorithm 8 calls it on line 5.
 pub fn hash_kdf(k: &[u8], c: &[u8], out: &mut [u8])
     requires { (length k.now ≡ 32) × (length out.old ≡ 32) }
-    ensures { out.new ≡ J (k.now ++ sha3-256 c.now) }
+    ensures { out.new ≡ J (k.now ++ sha3_256 c.now) }
 {
     let mut h = [0u8; 32];
     let mut t = [0u8; 64];

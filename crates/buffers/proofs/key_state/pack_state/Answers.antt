@@ -9,7 +9,6 @@ use Rattle.buffers.specs.Split.{split_bytes}
 use Rattle.buffers.specs.SplitLaws.{length-split_bytes}
 use Rattle.buffers.proofs.key_state.pack_state.Goals as goal
 
--- ---- facts
 pub returns : goal.returns
 returns c =
     let a = c.args in
@@ -17,7 +16,7 @@ returns c =
     let count = digits 256 4 a.count in
     two_parts
     {t₁ = split_bytes a.s0.now a.s1.now a.z0.now a.z1.now a.public.now}
-    a.out-1.now
+    a.out.now
     c.split_bytes-n.result
     (length-split_bytes c.requires.0 ∙ omega (arith, c.split_bytes-n.ensures))
     (omega (

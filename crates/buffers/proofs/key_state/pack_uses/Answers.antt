@@ -4,11 +4,10 @@ use Rattle.words.specs.Overwrite.{two_parts}
 use Rattle.words.specs.NumeralLaws.{length_digits}
 use Rattle.buffers.proofs.key_state.pack_uses.Goals as goal
 
--- ---- facts
 pub returns : goal.returns
 returns c =
     let a = c.args in
-    two_parts a.out-1.now 4
+    two_parts a.out.now 4
     (length_digits 256 4 a.limit)
     (omega (arith, length_digits 256 4 a.count, c.requires))
     c.put_number.ensures

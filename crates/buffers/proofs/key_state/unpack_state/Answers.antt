@@ -7,15 +7,14 @@ use Rattle.words.specs.Part.{part_rest, part_span}
 use Rattle.buffers.specs.SplitLaws.{unpacked_front}
 use Rattle.buffers.proofs.key_state.unpack_state.Goals as goal
 
--- ---- facts
 pub returns : goal.returns
 returns c =
     let b = c.args.b.now in
     let n = c.split_bytes-n.result in
     let e = c.split_bytes-n.ensures in
     record {
-      c = unpacked_front b e c.unpack.ensures;
-      c =
+      key = unpacked_front b e c.unpack.ensures;
+      limit =
           c.get_number.ensures
           ∙ ap (value 256) (part_span n 4 b)
           ∙ ap (λ (m : ℕ). value 256 (take 4 (drop m b))) e;

@@ -14,4 +14,4 @@ value-of-four p h = ap (value 256) (sym (tab_of 0 p 4 h (λ i _. refl)))
 
 pub returns : goal.returns
 unfolding tab
-returns c = c.number_of_lem.ensures ∙ value-of-four _ (search rules)
+returns c = c.number_of.ensures ∙ value-of-four _ (search rules)

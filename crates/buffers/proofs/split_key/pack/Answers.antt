@@ -10,13 +10,12 @@ use Rattle.buffers.specs.LittleEndian.{length_bytes_two}
 use Rattle.buffers.specs.Split.{split_bytes}
 use Rattle.buffers.proofs.split_key.pack.Goals as goal
 
--- ---- facts
 pub returns : goal.returns
 unfolding split_bytes
 returns c =
     let a = c.args in
     let z = words_to_bytes 8 a.z0.now ++ words_to_bytes 8 a.z1.now in
-    two_parts a.out-1.now (1024 * a.k)
+    two_parts a.out.now (1024 * a.k)
     (length_bytes_two 2 a.s0.now a.s1.now ∙ omega (arith, c.requires))
     (omega (arith, length-append z a.public.now, length_bytes_two 8 a.z0.now a.z1.now, c.requires))
     c.pack_coefficients.ensures

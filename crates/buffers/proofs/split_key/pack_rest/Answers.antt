@@ -5,11 +5,10 @@ use Rattle.words.specs.Overwrite.{two_parts}
 use Rattle.buffers.specs.LittleEndian.{length_bytes_two}
 use Rattle.buffers.proofs.split_key.pack_rest.Goals as goal
 
--- ---- facts
 pub returns : goal.returns
 returns c =
     let a = c.args in
-    two_parts a.out-1.now 64
+    two_parts a.out.now 64
     (length_bytes_two 8 a.z0.now a.z1.now ∙ omega (arith, c.requires))
     (omega (arith, c.requires))
     c.pack_words.ensures

@@ -4,11 +4,10 @@ use Rattle.words.specs.Overwrite.{two_parts}
 use Rattle.words.specs.LittleEndianLaws.{length-words_to_bytes}
 use Rattle.buffers.proofs.split_key.pack_words.Goals as goal
 
--- ---- facts
 pub returns : goal.returns
 returns c =
     let a = c.args in
-    two_parts a.out-1.now 32
+    two_parts a.out.now 32
     (omega (arith, length-words_to_bytes 8 a.z0.now, c.requires))
     (omega (arith, length-words_to_bytes 8 a.z1.now, c.requires))
     c.put_words.ensures

@@ -6,7 +6,6 @@ use Rattle.words.specs.Part.{part_rest}
 use Rattle.buffers.specs.LittleEndian.{numbers_part}
 use Rattle.buffers.proofs.split_key.unpack.Goals as goal
 
--- ---- facts
 pub returns : goal.returns
 returns c =
     let b = c.args.b.now in
