@@ -21,12 +21,12 @@ loop-i-preserved c =
     let i = c.loop-i.i in
     let v = c.load.ensures ∙ ap (value 256) (part_span (8 * i) 8 s.z.now) in (
       filled_turn c.loop-i.invariant.0 (omega arith) refl,
-      filled_turn c.loop-i.invariant.1 (omega arith) (ap (λ (x : ℕ). xor x (get_or s.mask-words.now i 0)) v),
+      filled_turn c.loop-i.invariant.1 (omega arith) (ap (λ (x : ℕ). xor x (get_or s.mask_words.now i 0)) v),
     )
 
 pub returns : goal.returns
 returns c =
-    let whole = tab_of 0 c.args.mask-words.now 4 c.requires.masks (λ i g. refl) in
+    let whole = tab_of 0 c.args.mask_words.now 4 c.requires.masks (λ i g. refl) in
     ap₂ shared_list (filled_end c.loop-i.invariant.0 (omega arith) ∙ sym whole) (filled_end c.loop-i.invariant.1 (omega arith))
 
 pub loop-i-init : goal.loop-i-init
