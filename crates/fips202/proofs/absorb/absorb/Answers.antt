@@ -1,5 +1,4 @@
 -- A block is taken in while a whole one is left; the rest with its padding is the padded message's last block.
-use Prim.Native.Nat.{◌-◌}
 use mathlib.Core.Path.{ap, ◌∙◌}
 use borrow.Author.Rules.{rules}
 use Rattle.keccak.specs.KeccakP.{keccak_p}

@@ -1,5 +1,5 @@
 -- The first rate / 8 lanes take a lane of the block each; the block has no more, so that the other lanes take zeros.
-use Prim.Native.Nat.{ℕ, ◌-◌, ◌/◌, ◌%◌, ◌≤◌}
+use Prim.Native.Nat.{ℕ, ◌/◌, ◌%◌, ◌≤◌}
 use mathlib.Core.Path.{◌≡◌, sym}
 use mathlib.Core.List.{List}
 use borrow.Author.Rules.{rules}

@@ -4,7 +4,7 @@ use mathlib.Core.List.{List}
 use lib.ListN.{get_or, take}
 use Rattle.words.specs.Word.{xor}
 use Rattle.words.specs.Fill.{Replaced}
-use Rattle.fips202.specs.Sponge.{lane_of, mixed}
+use Rattle.fips202.specs.Sponge.{lane_of}
 use Rattle.fips202.proofs.absorb.mix_block.Given as goal
 
 abbrev pub lanes_of : ℕ → List ℕ → List ℕ → ℕ → ℕ

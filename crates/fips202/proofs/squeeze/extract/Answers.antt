@@ -28,7 +28,7 @@ loop-j-preserved c =
     let w : 8 * (j + 1) ≡ 8 * j + 8 = omega arith in (
       rw w
           (filled_part c.loop-j.invariant.0 (omega arith) (omega arith)
-          (c.store.ensures ∙ lane-bytes c.args.t1.lanes j)),
+          (c.store.ensures ∙ lane-bytes c.args.s.lanes j)),
       search rules,
     )
 

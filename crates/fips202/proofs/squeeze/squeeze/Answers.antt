@@ -1,6 +1,5 @@
 -- Each block of output comes from a state of its own, one permutation after the one before; what is left at the end is
 -- one block at most.
-use Prim.Native.Nat.{◌-◌}
 use mathlib.Core.Path.{refl}
 use native.Mathlib.Omega.{arith}
 use Rattle.words.specs.IterateLaws.{reached_by_start, reached_by_turn}
