@@ -1,5 +1,4 @@
 -- Turn by turn one number of 2 eta bits is replaced by its coefficient; the others are still as they were.
-use Prim.Native.Nat.{◌-◌}
 use borrow.Author.Rules.{rules}
 use native.Mathlib.Omega.{arith}
 use Rattle.words.specs.Fill.{mapped_start, mapped-below, mapped_turn, mapped_end}

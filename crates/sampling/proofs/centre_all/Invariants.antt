@@ -1,5 +1,4 @@
 -- Turn by turn one number of 2 eta bits is replaced by its coefficient; the others are still as they were.
-use Prim.Native.Nat.{◌-◌}
 use Rattle.words.specs.Fill.{Mapped}
 use Rattle.sampling.specs.SampleLaws.{centred}
 use Rattle.sampling.proofs.centre_all.Given as goal

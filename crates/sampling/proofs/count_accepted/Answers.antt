@@ -1,7 +1,7 @@
 -- Each group adds as many as the definition keeps of its two numbers.
 use mathlib.Core.Path.{◌≡◌, ap, ◌∙◌}
 use mathlib.Core.List.{◌++◌}
-use Prim.Native.Nat.{ℕ, ◌-◌}
+use Prim.Native.Nat.{ℕ}
 use native.Mathlib.Omega.{arith}
 use lib.ListN.{length, length-append}
 use Rattle.sampling.specs.Sample.{d₁, d₂, kept, accepted}

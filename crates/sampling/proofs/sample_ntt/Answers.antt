@@ -12,15 +12,15 @@ use Rattle.sampling.proofs.sample_ntt.Goals as goal
 
 -- ---- facts
 -- what is stored where b says whether the stream is enough
-abbrev stored : goal.After-slice_known-2-1 → Bool → List ℕ
-stored c b = cond b (sample_ntt c.args.stream.now) c.args.f-1.now
+abbrev stored : List ℕ → List ℕ → Bool → List ℕ
+stored s f b = cond b (sample_ntt s) f
 
 pub returns-then-count_accepted-lt256 : goal.returns-then-count_accepted-lt256
 returns-then-count_accepted-lt256 c =
     let s = c.args.stream.now in
     let short : full s ≡ false =
     lt-leb 256 (length (accepted 280 s)) (omega (arith, c.count_accepted.ensures)) in
-    (sym (ap answer_of short), sym (ap (stored c) short))
+    record { value = sym (ap answer_of short); f_after = sym (ap (stored s c.args.f.now) short) }
 
 pub returns : goal.returns
 returns c =
@@ -28,6 +28,7 @@ returns c =
     let s = c.args.stream.now in
     let enough : full s ≡ true =
     le-leb 256 (length (accepted 280 s)) (omega (arith, c.count_accepted.ensures)) in
-    (sym (ap answer_of enough), fill.holds (fill.answer ∙ enough) ∙ sym (ap (stored c) enough))
-
--- left: stored is used at After-slice_known-2-1, Then-count_accepted-lt256
+    record {
+      value = sym (ap answer_of enough);
+      f_after = fill.holds (fill.answer ∙ enough) ∙ sym (ap (stored s c.args.f.now) enough);
+    }
