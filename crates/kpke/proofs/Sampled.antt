@@ -1,10 +1,9 @@
 -- A loop that tests p at 0, 1, .., k - 1 and writes part i where p i holds: it stops at the first i where p fails, or
 -- has written all k parts.
 use mathlib.Core.Path.{◌≡◌, sym, ◌∙◌}
-use mathlib.Core.Bool.{Bool, true, false, not}
+use mathlib.Core.Bool.{Bool, true, false}
 use mathlib.Core.List.{List, ◌++◌}
 use Prim.Native.Nat.{ℕ, ◌+◌, ◌-◌, ◌*◌, ◌<◌, ◌≤◌}
-use borrow.Author.Tests.{not-true, not-false}
 use lib.ListN.{length, take, drop}
 use Rattle.words.specs.Table.{every}
 use Rattle.sampling.specs.Results.{Sampling}
@@ -24,10 +23,9 @@ module _ {n k : ℕ} {p : ℕ → Bool} {f : ℕ → List ℕ} where
   module _ {l₀ : List ℕ} {i : ℕ} {l : List ℕ} (s : Sampled n k p f l₀ i l) where
     -- the test b of place i is passed, and r is its part
     pub sampled_turn : {b : Bool} {r : List ℕ} → i < k → length r ≡ length (take (n * i + n - n * i) (drop (n * i) l))
-        → Sampling (p i) (f i) b r → not b ≡ false
+        → Sampling (p i) (f i) b r → b ≡ true
         → Sampled n k p f l₀ (i + 1) (take (n * i) l ++ (r ++ drop (n * i + n - n * i) (drop (n * i) l)))
-    sampled_turn {b} h w e t =
-        let o = not-false b t in
+    sampled_turn h w e o =
         record {
           passed = walked_turn s.passed h (sym e.answer ∙ o);
           written = concatenated_turn s.written h w (e.holds o);
@@ -39,6 +37,6 @@ module _ {n k : ℕ} {p : ℕ → Bool} {f : ℕ → List ℕ} where
 
 -- the test b of place i is not passed
 pub sampled_stop : (k : ℕ) (p : ℕ → Bool) (f : ℕ → List ℕ) (i : ℕ) {b : Bool} {l : List ℕ} → i < k → b ≡ p i
-    → not b ≡ true → Sampling (every k p) (concat k f) false l
-sampled_stop k p f i {b} h e t =
-    record { answer = sym (every-false k p i h (sym e ∙ not-true b t)); holds = λ w. cc }
+    → b ≡ false → Sampling (every k p) (concat k f) false l
+sampled_stop k p f i h e t =
+    record { answer = sym (every-false k p i h (sym e ∙ t)); holds = λ w. cc }

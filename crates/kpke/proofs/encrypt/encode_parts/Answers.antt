@@ -11,7 +11,6 @@ use Rattle.kpke.proofs.Encoded.{below_compressed, encoded_compressed, length_enc
 use Rattle.words.specs.Overwrite.{two_parts}
 use Rattle.kpke.proofs.encrypt.encode_parts.Goals as goal
 
--- ---- facts
 pub encode_all-requires : goal.encode_all-requires
 encode_all-requires c =
     let s = c.args in
@@ -19,7 +18,7 @@ encode_all-requires c =
       vector = omega arith;
       some = omega arith;
       most = omega arith;
-      below = below_compressed s.du s.u-1.now c.compress_all.ensures;
+      below = below_compressed s.du s.u.now c.compress_all.ensures;
       bytes = omega arith;
     }
 
@@ -31,13 +30,13 @@ byte_encode-requires c =
       bytes = omega arith;
       some = omega arith;
       most = omega arith;
-      below = below_compressed s.dv s.v-1.now c.compress_all-2.ensures;
+      below = below_compressed s.dv s.v.now c.compress_all-2.ensures;
     }
 
 pub returns : goal.returns
 returns c =
     let s = c.args in
-    two_parts s.ct-1.now (32 * s.du * s.k) (length_encoded s.du s.k _)
-    (omega (arith, length-byte_encode s.dv (map (compress s.dv) s.v-1.now)))
-    (encoded_compressed s.du s.k s.u-1.now c.compress_all.ensures c.encode_all.ensures)
+    two_parts s.ct.now (32 * s.du * s.k) (length_encoded s.du s.k _)
+    (omega (arith, length-byte_encode s.dv (map (compress s.dv) s.v.now)))
+    (encoded_compressed s.du s.k s.u.now c.compress_all.ensures c.encode_all.ensures)
     (c.byte_encode.ensures ∙ ap (byte_encode s.dv) c.compress_all-2.ensures)

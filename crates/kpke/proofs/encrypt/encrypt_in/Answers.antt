@@ -16,8 +16,8 @@ second_part-requires c =
     let i = c.requires.0 in
     let f = i.fits in (
       record {
-        public = c.decode12_all.auto.v ∙ c.requires.1.t-1;
-        vector = c.transformed_noise.auto.v ∙ c.requires.1.y-1;
+        public = c.decode12_all.auto.v ∙ c.requires.1.t;
+        vector = c.transformed_noise.auto.v ∙ c.requires.1.y;
         message = i.message;
         noise = record { long = i.coins; some = f.eta2.least; most = f.eta2.most };
         rank = omega (arith, f.rank.most);
@@ -29,7 +29,7 @@ pub encode_parts-requires : goal.encode_parts-requires
 encode_parts-requires c =
     let f = c.requires.0.fits in (
       record {
-        first = c.first_parts.auto.u ∙ c.requires.1.u-1;
+        first = c.first_parts.auto.u ∙ c.requires.1.u;
         second = omega arith;
         du_some = f.du.least;
         du_most = f.du.most;

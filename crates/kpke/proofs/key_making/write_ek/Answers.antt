@@ -10,7 +10,7 @@ use Rattle.kpke.proofs.key_making.write_ek.Goals as goal
 pub returns : goal.returns
 returns c =
     let s = c.args in
-    two_parts s.ek-1.now (384 * s.k) (length_encoded 12 s.k _) (omega arith) c.encode_all.ensures
+    two_parts s.ek.now (384 * s.k) (length_encoded 12 s.k _) (omega arith) c.encode_all.ensures
     c.copy_bytes.ensures
 
 pub encode_all-requires : goal.encode_all-requires

@@ -29,6 +29,6 @@ returns c =
     let p = c.args.p in
     let sigma = c.args.sigma.now in
     record {
-      c = ek-parts p sigma es c.requires.0.matrix c.public_vector.ensures c.write_ek.ensures;
-      c = dk-parts p sigma es c.encode_all.ensures;
+      ek = ek-parts p sigma es c.requires.0.matrix c.public_vector.ensures c.write_ek.ensures;
+      dk = dk-parts p sigma es c.encode_all.ensures;
     }
