@@ -7,4 +7,4 @@ use Rattle.stages.proofs.entry_counts.compress_poly_entries.Goals as goal
 
 pub returns : goal.returns
 unfolding compress_poly_entries compress_entries adder_entries
-returns c = (omega arith, omega (arith, c.requires.most))
+returns c = record { value = omega arith; upper_bound = omega (arith, c.requires.most) }

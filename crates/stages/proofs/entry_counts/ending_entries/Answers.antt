@@ -8,8 +8,8 @@ pub returns-in-MlKem : goal.returns-in-MlKem
 unfolding ending_entries
 returns-in-MlKem c =
     let n = c.stage9_entries.ensures in
-    rw c.enum_told-1.given.1 (omega (arith, n.0), omega (arith, n.1))
+    rw c.in-MlKem.is (record { value = omega (arith, n.value); upper_bound = omega (arith, n.upper_bound) })
 
 pub returns-in-Kyber : goal.returns-in-Kyber
 unfolding ending_entries shake256_entries
-returns-in-Kyber c = rw c.enum_told-in-Kyber-1.given.1 (omega arith, omega arith)
+returns-in-Kyber c = rw c.in-Kyber.is (record { value = omega arith; upper_bound = omega arith })

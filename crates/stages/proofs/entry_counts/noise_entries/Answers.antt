@@ -13,4 +13,4 @@ further eta h = omega arith
 
 pub returns : goal.returns
 unfolding noise_entries shake256_entries sampler_entries
-returns c = (omega arith, omega (arith, c.requires.most, further _ c.requires.most))
+returns c = record { value = omega arith; upper_bound = omega (arith, c.requires.most, further _ c.requires.most) }

@@ -4,7 +4,4 @@ use Rattle.stages.proofs.entry_counts.stage5_entries.Goals as goal
 
 pub returns : goal.returns
 unfolding stage5_entries
-returns c = (
-  rw (c.noise_entries.ensures.0, c.noise_entries-2.ensures.0) at c.noise_sum.ensures.0,
-  c.noise_sum.ensures.1,
-)
+returns c = record { value = rw (c.noise_entries.ensures.value, c.noise_entries-2.ensures.value) at c.noise_sum.ensures.value; upper_bound = c.noise_sum.ensures.upper_bound }

@@ -4,8 +4,8 @@ use Rattle.stages.proofs.entry_counts.stage7_entries.Goals as goal
 
 pub returns : goal.returns
 unfolding stage7_entries
-returns c = (
-  rw (c.compress_poly_entries.ensures.0, c.compress_poly_entries-2.ensures.0) at
-      c.ciphertext_sum.ensures.0,
-  c.ciphertext_sum.ensures.1,
-)
+returns c = record {
+  value = rw (c.compress_poly_entries.ensures.value, c.compress_poly_entries-2.ensures.value) at
+      c.ciphertext_sum.ensures.value;
+  upper_bound = c.ciphertext_sum.ensures.upper_bound;
+}

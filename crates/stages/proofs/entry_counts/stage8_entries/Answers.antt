@@ -6,4 +6,4 @@ use Rattle.stages.proofs.entry_counts.stage8_entries.Goals as goal
 
 pub returns : goal.returns
 unfolding stage8_entries all_zero_entries
-returns c = (search rules, search rules)
+returns c = record { value = search rules; upper_bound = search rules }

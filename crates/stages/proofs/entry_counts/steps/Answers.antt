@@ -11,13 +11,13 @@ use Rattle.stages.proofs.entry_counts.steps.Goals as goal
 pub returns : goal.returns
 unfolding steps compared_entries decrypt_entries encrypt_entries stage6_entries compress_poly_entries compress_entries
     adder_entries sha3_512_entries
-returns c = (
-  omega (
+returns c = record {
+  value = omega (
     arith,
-    c.stage5_entries.ensures.0,
-    c.stage7_entries.ensures.0,
-    c.stage8_entries.ensures.0,
-    c.ending_entries.ensures.0,
-  ),
-  search rules,
-)
+    c.stage5_entries.ensures.value,
+    c.stage7_entries.ensures.value,
+    c.stage8_entries.ensures.value,
+    c.ending_entries.ensures.value,
+  );
+  upper_bound = search rules;
+}

@@ -10,4 +10,4 @@ returns c =
     let words = c.word_count.ensures in
     let encrypted = c.encrypt_words.ensures in
     let f = c.requires in
-    (omega (arith, words.0, encrypted.0, f.dv.least), omega (arith, words.1, encrypted.1))
+    record { value = omega (arith, words.value, encrypted.value, f.dv.least); upper_bound = omega (arith, words.upper_bound, encrypted.upper_bound) }

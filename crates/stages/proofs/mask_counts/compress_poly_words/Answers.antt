@@ -5,4 +5,4 @@ use Rattle.stages.proofs.mask_counts.compress_poly_words.Goals as goal
 
 pub returns : goal.returns
 unfolding compress_poly_words
-returns c = (omega arith, omega (arith, c.requires.most))
+returns c = record { value = omega arith; upper_bound = omega (arith, c.requires.most) }

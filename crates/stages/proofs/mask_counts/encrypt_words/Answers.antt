@@ -5,4 +5,4 @@ use Rattle.stages.proofs.mask_counts.encrypt_words.Goals as goal
 
 pub returns : goal.returns
 unfolding encrypt_words
-returns c = (search rules, search rules)
+returns c = record { value = search rules; upper_bound = search rules }

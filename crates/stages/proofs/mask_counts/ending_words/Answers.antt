@@ -8,8 +8,8 @@ pub returns-in-MlKem : goal.returns-in-MlKem
 unfolding ending_words
 returns-in-MlKem c =
     let w = c.stage9_words.ensures in
-    rw c.enum_told-1.given.1 (omega (arith, w.0), omega (arith, w.1))
+    rw c.in-MlKem.is (record { value = omega (arith, w.value); upper_bound = omega (arith, w.upper_bound) })
 
 pub returns-in-Kyber : goal.returns-in-Kyber
 unfolding ending_words shake256_mask_words
-returns-in-Kyber c = rw c.enum_told-in-Kyber-1.given.1 (omega arith, omega arith)
+returns-in-Kyber c = rw c.in-Kyber.is (record { value = omega arith; upper_bound = omega arith })

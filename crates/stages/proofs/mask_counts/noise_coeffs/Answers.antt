@@ -5,4 +5,4 @@ use Rattle.stages.proofs.mask_counts.noise_coeffs.Goals as goal
 
 pub returns : goal.returns
 unfolding noise_coeffs
-returns c = (omega arith, omega (arith, c.requires.most))
+returns c = record { value = omega arith; upper_bound = omega (arith, c.requires.most) }

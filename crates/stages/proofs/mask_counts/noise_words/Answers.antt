@@ -6,4 +6,4 @@ use Rattle.stages.proofs.mask_counts.noise_words.Goals as goal
 
 pub returns : goal.returns
 unfolding noise_words shake256_mask_words
-returns c = (omega arith, omega (arith, c.requires.most))
+returns c = record { value = omega arith; upper_bound = omega (arith, c.requires.most) }

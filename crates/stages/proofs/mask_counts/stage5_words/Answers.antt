@@ -4,7 +4,4 @@ use Rattle.stages.proofs.mask_counts.stage5_words.Goals as goal
 
 pub returns : goal.returns
 unfolding stage5_words
-returns c = (
-  rw (c.noise_words.ensures.0, c.noise_words-2.ensures.0) at c.noise_sum.ensures.0,
-  c.noise_sum.ensures.1,
-)
+returns c = record { value = rw (c.noise_words.ensures.value, c.noise_words-2.ensures.value) at c.noise_sum.ensures.value; upper_bound = c.noise_sum.ensures.upper_bound }

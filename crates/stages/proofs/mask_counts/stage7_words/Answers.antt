@@ -4,8 +4,8 @@ use Rattle.stages.proofs.mask_counts.stage7_words.Goals as goal
 
 pub returns : goal.returns
 unfolding stage7_words
-returns c = (
-  rw (c.compress_poly_words.ensures.0, c.compress_poly_words-2.ensures.0) at
-      c.ciphertext_sum.ensures.0,
-  c.ciphertext_sum.ensures.1,
-)
+returns c = record {
+  value = rw (c.compress_poly_words.ensures.value, c.compress_poly_words-2.ensures.value) at
+      c.ciphertext_sum.ensures.value;
+  upper_bound = c.ciphertext_sum.ensures.upper_bound;
+}

@@ -10,7 +10,7 @@ bytes c = omega (arith, c.ct_bytes.ensures, ct_bytes_most c.requires)
 
 pub returns : goal.returns
 unfolding shake256_mask_words
-returns c = (omega (arith, c.ct_bytes.ensures), omega (arith, bytes c))
+returns c = record { value = omega (arith, c.ct_bytes.ensures); upper_bound = omega (arith, bytes c) }
 
 pub overflow_add-result : goal.overflow_add-result
 overflow_add-result c = record { fits = omega (arith, bytes c) }

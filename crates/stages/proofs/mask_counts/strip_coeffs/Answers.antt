@@ -5,4 +5,4 @@ use Rattle.stages.proofs.mask_counts.strip_coeffs.Goals as goal
 
 pub returns : goal.returns
 unfolding strip_coeffs encrypt_coeffs
-returns c = (search rules, search rules)
+returns c = record { value = search rules; upper_bound = search rules }

@@ -5,4 +5,4 @@ use Rattle.stages.proofs.mask_counts.strip_words.Goals as goal
 
 pub returns : goal.returns
 unfolding strip_words
-returns c = (search rules, search rules)
+returns c = record { value = search rules; upper_bound = search rules }

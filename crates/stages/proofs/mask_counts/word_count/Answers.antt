@@ -5,6 +5,6 @@ use Rattle.stages.proofs.mask_counts.word_count.Goals as goal
 
 pub returns : goal.returns
 returns c =
-    let e = c.ciphertext_sum.ensures.0 in
+    let e = c.ciphertext_sum.ensures.value in
     let fits = c.requires in
-    (e, omega (arith, e, planes_most fits, fits.dv.most))
+    record { value = e; upper_bound = omega (arith, e, planes_most fits, fits.dv.most) }

@@ -5,7 +5,7 @@ use mathlib.Core.Path.{refl}
 use Rattle.stages.proofs.sums.ciphertext_sum.Goals as goal
 
 pub returns : goal.returns
-returns c = (refl, omega (arith, mul-le-mul c.requires.0 c.requires.1, c.requires.2))
+returns c = record { value = refl; upper_bound = omega (arith, mul-le-mul c.requires.0 c.requires.1, c.requires.2) }
 
 pub overflow_mul-result : goal.overflow_mul-result
 overflow_mul-result c = record { fits = omega (arith, mul-le-mul c.requires.0 c.requires.1) }

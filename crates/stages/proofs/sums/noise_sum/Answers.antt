@@ -22,4 +22,4 @@ pub overflow_add-result-2 : goal.overflow_add-result-2
 overflow_add-result-2 c = record { fits = omega (arith, first c, others c) }
 
 pub returns : goal.returns
-returns c = (refl, omega (arith, first c, others c))
+returns c = record { value = refl; upper_bound = omega (arith, first c, others c) }
