@@ -1,9 +1,8 @@
 // Bytes as hexadecimal digits, in lower case.
 ghost use Rattle.std.specs.Prelude.{◌≡◌, ◌*◌, ◌/◌, ◌%◌, ◌≤◌, ◌<◌, length};
-ghost use Rattle.io.specs.Digits.{hex_digit_ascii as glyph_of};
-ghost use Rattle.text.specs.Hex.{hex as hex_of, digit_at};
+ghost use Rattle.text.specs.Hex.{glyph as glyph_of, hex as hex_of, digit_at};
 
-use libc::STDOUT_FILENO;
+use std::io;
 
 fn glyph(d: u8) -> u8
     requires { d < 16 }
@@ -34,33 +33,29 @@ fn spell(b: &[u8], out: &mut [u8])
 }
 
 // At most 2,048 bytes, by way of text.
-fn print_some(b: &[u8], text: &mut [u8]) -> bool
+fn print_some(rt: &impl Print, b: &[u8], text: &mut [u8]) -> io::Result<()>
     requires { (length b.now ≤ 2048) × (length text.old ≡ 4096) }
 {
     let n = 2 * b.len();
     spell(b, &mut text[..n]);
-    io::write_all(STDOUT_FILENO, &text[..n])
+    rt.write_all(&text[..n])
 }
 
-fn print_all(b: &[u8], text: &mut [u8]) -> bool
+fn print_all(rt: &impl Print, b: &[u8], text: &mut [u8]) -> io::Result<()>
     requires { length text.old ≡ 4096 }
 {
     let mut at: usize = 0;
     while b.len() - at > 2048 {
         let e = at + 2048;
-        if !print_some(&b[at..e], text) {
-            return false;
-        }
+        print_some(rt, &b[at..e], text)?;
         at = e;
     }
-    print_some(&b[at..], text)
+    print_some(rt, &b[at..], text)
 }
 
-// All the digits, and a line end; false where standard output doesn't take them.
-pub fn print_hex(b: &[u8]) -> bool {
-    let mut text = io::buffer();
-    if !print_all(b, &mut text) {
-        return false;
-    }
-    io::write_all(STDOUT_FILENO, b"\n")
+// All the digits, and a line end; an error where standard output doesn't take them.
+pub fn print_hex(rt: &impl Print, b: &[u8]) -> io::Result<()> {
+    let mut text = [0u8; 4096];
+    print_all(rt, b, &mut text)?;
+    rt.write_all(b"\n")
 }

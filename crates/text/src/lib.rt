@@ -1,16 +1,15 @@
 // Text on standard output.
 #![tactic(auto)]
 
-use libc::STDOUT_FILENO;
-
 mod hex; // bytes as hexadecimal digits
 
 pub use hex::print_hex;
 
-pub fn print(text: &[u8]) {
-    io::write_all(STDOUT_FILENO, text);
+// Where standard output doesn't take the text, what it hasn't taken is left out.
+pub fn print(rt: &impl Print, text: &[u8]) {
+    let _ = rt.write_all(text);
 }
 
-pub fn print_decimal(n: u64) {
-    io::print_decimal(STDOUT_FILENO, n);
+pub fn print_decimal(rt: &impl Print, n: u64) {
+    let _ = rt.print(n);
 }
