@@ -1,3 +1,4 @@
+pub mod Counts
 pub mod Numbers
 pub mod StripFile
 pub mod Bounded

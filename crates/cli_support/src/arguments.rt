@@ -1,14 +1,42 @@
 // The words of the command line.
-ghost use Rattle.std.specs.Prelude.{◌≡◌};
+ghost use Rattle.std.specs.Prelude.{◌≡◌, length};
 ghost use Rattle.refusals.specs.Same.{same as same_of};
+ghost use Rattle.cli_support.specs.Counts.{IsPrefixLen};
 ghost use Rattle.cli_support.specs.Numbers.{AtMost};
 
+use crate::desk::Desk;
 use crate::messages;
+use std::env::FillError;
 
 #[derive(Clone, Copy)]
 pub enum Natural {
     Is(u64),
     None,
+}
+
+// Room for a word that is a path.
+pub fn buffer() -> [u8; 4096]
+    ensures { 4096 ≡ length result }
+{
+    [0; 4096]
+}
+
+// Argument i at the start of out, and its length; 0 where it is missing or longer than out.
+pub fn arg(desk: &impl Desk, i: usize, out: &mut [u8]) -> usize
+    ensures { IsPrefixLen result out.new }
+{
+    desk.arg(i, out).unwrap_or(0)
+}
+
+// How many words the command line has, the program's name among them.
+pub fn arg_count(desk: &impl Desk) -> usize {
+    let mut room = [0u8; 1];
+    for i in 0..usize::MAX {
+        if let Err(FillError::NotPresent) = desk.arg(i, &mut room) {
+            return i;
+        }
+    }
+    usize::MAX
 }
 
 // Two strings are equal.
@@ -59,13 +87,13 @@ fn decimal(word: &[u8], most: u64) -> Natural
 }
 
 // Argument i as a number from 0 to most; a line says where it is none.
-pub fn number(i: usize, most: u64) -> Natural
+pub fn number(desk: &impl Desk, i: usize, most: u64) -> Natural
     ensures { AtMost most result }
 {
     let mut word = [0u8; 32];
-    let n = os::arg(i, &mut word);
+    let n = arg(desk, i, &mut word);
     let Natural::Is(m) = decimal(&word[..n], most) else {
-        messages::no_number(&word[..n], most);
+        messages::no_number(desk, &word[..n], most);
         return Natural::None;
     };
     Natural::Is(m)

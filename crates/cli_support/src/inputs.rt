@@ -1,7 +1,11 @@
 // Files, read whole. A file is named by the number of its argument. Where reading fails a line says why.
-ghost use Rattle.io.specs.Counts.{IsPrefixLen};
+ghost use Rattle.cli_support.specs.Counts.{IsPrefixLen};
 
+use crate::arguments::{arg, buffer};
+use crate::desk::Desk;
+use crate::files::open_read;
 use crate::messages;
+use std::io::Read;
 
 // How many bytes were read, and whether they are the whole file.
 #[derive(Clone, Copy)]
@@ -10,84 +14,99 @@ pub struct Got {
     pub whole: bool,
 }
 
-// From a descriptor, into the start of out.
-fn read_open(fd: i32, path: &[u8], out: &mut [u8]) -> Got
+// Until out is full, the file ends or reading fails.
+fn read_full(file: &mut impl Read, out: &mut [u8]) -> usize
+    ensures { IsPrefixLen result out.new }
+{
+    let mut done: usize = 0;
+    while done < out.len() {
+        match file.read(&mut out[done..]) {
+            Ok(0) => break,
+            Ok(n) => done += n,
+            Err(_) => break,
+        }
+    }
+    done
+}
+
+// From an open file, into the start of out.
+fn read_open<D: Desk>(desk: &D, mut file: D::File, path: &[u8], out: &mut [u8]) -> Got
     ensures { IsPrefixLen result.count out.new }
 {
-    let n = io::read_full(fd, out);
+    let n = read_full(&mut file, out);
     let mut next = [0u8; 1];
-    let more = libc::read(fd, &mut next);
-    if more < 0 {
-        messages::failed(path);
-        return Got {
+    match file.read(&mut next) {
+        Err(e) => {
+            messages::failed(desk, path, e);
+            Got {
+                count: n,
+                whole: false,
+            }
+        }
+        Ok(0) => Got {
             count: n,
-            whole: false,
-        };
-    }
-    if more > 0 {
-        messages::longer(path, out.len());
-        return Got {
-            count: n,
-            whole: false,
-        };
-    }
-    Got {
-        count: n,
-        whole: true,
+            whole: true,
+        },
+        Ok(_) => {
+            messages::longer(desk, path, out.len());
+            Got {
+                count: n,
+                whole: false,
+            }
+        }
     }
 }
 
-fn read_path(path: &[u8], out: &mut [u8]) -> Got
+fn read_path(desk: &impl Desk, path: &[u8], out: &mut [u8]) -> Got
     ensures { IsPrefixLen result.count out.new }
 {
-    let fd = os::open_read(path);
-    if fd < 0 {
-        messages::failed(path);
-        return Got {
-            count: 0,
-            whole: false,
-        };
+    match open_read(desk, path) {
+        Ok(file) => read_open(desk, file, path, out),
+        Err(e) => {
+            messages::failed(desk, path, e);
+            Got {
+                count: 0,
+                whole: false,
+            }
+        }
     }
-    let got = read_open(fd, path, out);
-    libc::close(fd);
-    got
 }
 
 // A file of at most out's length, into its start.
-pub fn read_up_to(i: usize, out: &mut [u8]) -> Got
+pub fn read_up_to(desk: &impl Desk, i: usize, out: &mut [u8]) -> Got
     ensures { IsPrefixLen result.count out.new }
 {
-    let mut path = io::buffer();
-    let n = os::arg(i, &mut path);
+    let mut path = buffer();
+    let n = arg(desk, i, &mut path);
     if n == 0 {
-        messages::bad_argument(i);
+        messages::bad_argument(desk, i);
         return Got {
             count: 0,
             whole: false,
         };
     }
-    read_path(&path[..n], out)
+    read_path(desk, &path[..n], out)
 }
 
-fn read_sized(path: &[u8], out: &mut [u8]) -> bool {
-    let got = read_path(path, out);
+fn read_sized(desk: &impl Desk, path: &[u8], out: &mut [u8]) -> bool {
+    let got = read_path(desk, path, out);
     if !got.whole {
         return false;
     }
     if got.count != out.len() {
-        messages::shorter(path, got.count, out.len());
+        messages::shorter(desk, path, got.count, out.len());
         return false;
     }
     true
 }
 
 // A file of exactly out's length; false where it isn't one.
-pub fn read_exact(i: usize, out: &mut [u8]) -> bool {
-    let mut path = io::buffer();
-    let n = os::arg(i, &mut path);
+pub fn read_exact(desk: &impl Desk, i: usize, out: &mut [u8]) -> bool {
+    let mut path = buffer();
+    let n = arg(desk, i, &mut path);
     if n == 0 {
-        messages::bad_argument(i);
+        messages::bad_argument(desk, i);
         return false;
     }
-    read_sized(&path[..n], out)
+    read_sized(desk, &path[..n], out)
 }

@@ -3,6 +3,8 @@
 
 pub mod answers; // refused calls
 pub mod arguments; // the words of the command line
+pub mod desk; // what the program reaches outside itself
+mod files; // files by their paths
 pub mod inputs; // files, read whole
 pub mod mask_file; // the file of masks for import and refreshing
 pub mod messages; // lines on standard error

@@ -3,8 +3,14 @@
 // is replaced itself, and what it names stays.
 ghost use Rattle.std.specs.Prelude.{◌≡◌, ◌+◌, length};
 
+use crate::arguments::{arg, buffer};
+use crate::desk::Desk;
+use crate::files::{create_temp, rename, unlink};
 use crate::messages;
 use slices::copy_bytes;
+use std::fs::OpenFile;
+use std::io;
+use std::io::Write;
 
 // The path, and what create_temp makes a name of that is free.
 fn name_beside(path: &[u8], name: &mut [u8])
@@ -16,56 +22,60 @@ fn name_beside(path: &[u8], name: &mut [u8])
 }
 
 // On the device, not only on the way to it.
-fn is_stored(fd: i32, bytes: &[u8]) -> bool {
-    if !io::write_all(fd, bytes) {
-        return false;
-    }
-    libc::fsync(fd) == 0
+fn store<F: Write + OpenFile>(file: &mut F, bytes: &[u8]) -> io::Result<()> {
+    file.write_all(bytes)?;
+    file.sync_all()
 }
 
-// False where something failed.
-fn fill(fd: i32, name: &[u8], bytes: &[u8]) -> bool {
-    if !is_stored(fd, bytes) {
-        messages::failed(name);
-        libc::close(fd);
+fn is_stored<D: Desk>(desk: &D, file: &mut D::File, name: &[u8], bytes: &[u8]) -> bool {
+    match store(file, bytes) {
+        Ok(()) => true,
+        Err(e) => {
+            messages::failed(desk, name, e);
+            false
+        }
+    }
+}
+
+// False where something failed. What is stored is closed with no error.
+fn fill<D: Desk>(desk: &D, mut file: D::File, name: &[u8], bytes: &[u8]) -> bool {
+    is_stored(desk, &mut file, name, bytes)
+}
+
+fn replace_by<D: Desk>(desk: &D, file: D::File, path: &[u8], name: &[u8], bytes: &[u8]) -> bool {
+    if !fill(desk, file, name, bytes) {
+        let _ = unlink(desk, name);
         return false;
     }
-    if libc::close(fd) != 0 {
-        messages::failed(name);
+    if let Err(e) = rename(desk, name, path) {
+        messages::failed(desk, path, e);
+        let _ = unlink(desk, name);
         return false;
     }
     true
 }
 
-fn replace(path: &[u8], name: &mut [u8], bytes: &[u8]) -> bool {
-    let fd = os::create_temp(name);
-    if fd < 0 {
-        messages::failed(name);
-        return false;
+fn replace(desk: &impl Desk, path: &[u8], name: &mut [u8], bytes: &[u8]) -> bool {
+    match create_temp(desk, name) {
+        Ok(file) => replace_by(desk, file, path, name, bytes),
+        Err(e) => {
+            messages::failed(desk, name, e);
+            false
+        }
     }
-    if !fill(fd, name, bytes) {
-        os::unlink(name);
-        return false;
-    }
-    if os::rename(name, path) != 0 {
-        messages::failed(path);
-        os::unlink(name);
-        return false;
-    }
-    true
 }
 
 // The file that argument i names; false where it isn't replaced.
-pub fn replace_secret(i: usize, bytes: &[u8]) -> bool {
-    let mut path = io::buffer();
-    let n = os::arg(i, &mut path);
+pub fn replace_secret(desk: &impl Desk, i: usize, bytes: &[u8]) -> bool {
+    let mut path = buffer();
+    let n = arg(desk, i, &mut path);
     if n == 0 {
-        messages::bad_argument(i);
+        messages::bad_argument(desk, i);
         return false;
     }
     let mut room = [0u8; 4103];
     let m = n + 7;
     let name: &mut [u8] = &mut room[0..m];
     name_beside(&path[..n], name);
-    replace(&path[..n], name, bytes)
+    replace(desk, &path[..n], name, bytes)
 }

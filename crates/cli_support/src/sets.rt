@@ -2,7 +2,8 @@
 ghost use Rattle.parameters.specs.Fits.{Fits};
 ghost use Rattle.cli_support.specs.Bounded.{Bounded, SetBounded};
 
-use crate::arguments::same;
+use crate::arguments::{arg, same};
+use crate::desk::Desk;
 use parameters::{Edition, Parameters, ct_bytes, dk_bytes, ek_bytes, of_rank};
 use stages::entry_counts::steps;
 use stages::mask_counts::{strip_coeffs, strip_words};
@@ -38,9 +39,9 @@ fn set_named(word: &[u8]) -> Set {
 }
 
 // The set that argument i names.
-pub fn set_at(i: usize) -> Set {
+pub fn set_at(desk: &impl Desk, i: usize) -> Set {
     let mut word = [0u8; 16];
-    let n = os::arg(i, &mut word);
+    let n = arg(desk, i, &mut word);
     set_named(&word[..n])
 }
 

@@ -3,12 +3,14 @@ ghost use Rattle.std.specs.Prelude.{◌≡◌, ◌≤◌, length};
 ghost use Rattle.buffers.specs.Split.{Sized};
 ghost use Rattle.buffers.specs.State.{state_length};
 
+use crate::desk::Desk;
 use crate::inputs::read_exact;
 use crate::outputs::write_secret;
 use crate::replacement::replace_secret;
 use buffers::key_state::{pack_state, state_bytes, unpack_state};
 
 pub fn write_split(
+    desk: &impl Desk,
     i: usize,
     k: usize,
     s0: &[u16],
@@ -25,11 +27,12 @@ pub fn write_split(
     let n = state_bytes(k);
     let file: &mut [u8] = &mut b[0..n];
     pack_state(k, s0, s1, z0, z1, public, limit, count, file);
-    write_secret(i, file);
+    write_secret(desk, i, file);
 }
 
 // In place of the file that was read; false where it isn't replaced.
 pub fn replace_split(
+    desk: &impl Desk,
     i: usize,
     k: usize,
     s0: &[u16],
@@ -46,10 +49,11 @@ pub fn replace_split(
     let n = state_bytes(k);
     let file: &mut [u8] = &mut b[0..n];
     pack_state(k, s0, s1, z0, z1, public, limit, count, file);
-    replace_secret(i, file)
+    replace_secret(desk, i, file)
 }
 
 fn read_packed(
+    desk: &impl Desk,
     i: usize,
     k: usize,
     b: &mut [u8],
@@ -64,7 +68,7 @@ fn read_packed(
     requires { (length b.old ≡ state_length k)
         × Sized k s0.old s1.old z0.old z1.old public.old × (k ≤ 4) }
 {
-    if !read_exact(i, b) {
+    if !read_exact(desk, i, b) {
         return false;
     }
     unpack_state(k, b, s0, s1, z0, z1, public, limit, count);
@@ -72,6 +76,7 @@ fn read_packed(
 }
 
 pub fn read_split(
+    desk: &impl Desk,
     i: usize,
     k: usize,
     s0: &mut [u16],
@@ -86,5 +91,17 @@ pub fn read_split(
 {
     let mut b = [0u8; 5768];
     let n = state_bytes(k);
-    read_packed(i, k, &mut b[0..n], s0, s1, z0, z1, public, limit, count)
+    read_packed(
+        desk,
+        i,
+        k,
+        &mut b[0..n],
+        s0,
+        s1,
+        z0,
+        z1,
+        public,
+        limit,
+        count,
+    )
 }

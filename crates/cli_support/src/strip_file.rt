@@ -2,6 +2,7 @@
 ghost use Rattle.std.specs.Prelude.{◌≡◌, ◌+◌, ◌*◌, ◌≤◌, length};
 ghost use Rattle.cli_support.specs.StripFile.{StripUnpacked};
 
+use crate::desk::Desk;
 use crate::inputs::read_exact;
 use buffers::little_endian::{get_coefficients, get_words};
 
@@ -15,10 +16,16 @@ pub fn unpack(b: &[u8], words: &mut [u64], coeffs: &mut [u16])
     get_coefficients(&b[n..], coeffs);
 }
 
-fn read_packed(i: usize, b: &mut [u8], words: &mut [u64], coeffs: &mut [u16]) -> bool
+fn read_packed(
+    desk: &impl Desk,
+    i: usize,
+    b: &mut [u8],
+    words: &mut [u64],
+    coeffs: &mut [u16],
+) -> bool
     requires { length b.old ≡ 8 * length words.old + 2 * length coeffs.old }
 {
-    if !read_exact(i, b) {
+    if !read_exact(desk, i, b) {
         return false;
     }
     unpack(b, words, coeffs);
@@ -32,12 +39,12 @@ fn zeros() -> [u8; 140480]
     [0; 140480]
 }
 
-pub fn read_strip(i: usize, words: &mut [u64], coeffs: &mut [u16]) -> bool
+pub fn read_strip(desk: &impl Desk, i: usize, words: &mut [u64], coeffs: &mut [u16]) -> bool
     requires { (length words.old ≤ 15192) × (length coeffs.old ≤ 9472) }
 {
     let mut b = zeros();
     let n = 8 * words.len() + 2 * coeffs.len();
-    read_packed(i, &mut b[0..n], words, coeffs)
+    read_packed(desk, i, &mut b[0..n], words, coeffs)
 }
 
 // Room for the largest set's.
