@@ -1,7 +1,5 @@
 -- The three sets lie within the bounds in either edition: their numbers, with the counts of the table, are compared.
-use mathlib.Core.Path.{◌≡◌}
-use Prim.Native.Nat.{ℕ}
-use borrow.Author.Rules.{rules}
+use Rattle.std.proofs.Common.{◌≡◌, ℕ, rules}
 use Rattle.parameters.specs.declared.Edition.{Edition}
 use Rattle.parameters.specs.declared.Edition.TheVariants.{MlKem, Kyber}
 use Rattle.parameters.specs.declared.Parameters.{Parameters}
