@@ -4,13 +4,14 @@ ghost use Rattle.buffers.specs.Split.{Sized};
 
 use buffers::split_key::pack_words;
 use cli_support::answers::is_refused;
+use cli_support::desk::Desk;
 use cli_support::split_file::replace_split;
 use cli_support::{messages, outputs};
-use libc::STDOUT_FILENO;
 use parameters::Edition;
 
 // The shares of K as 64 bytes. The split key is replaced by one with the raised count; false where it isn't.
 fn decapsulate(
+    desk: &impl Desk,
     e: Edition,
     k: usize,
     s0: &[u16],
@@ -47,16 +48,17 @@ fn decapsulate(
         &mut k0,
         &mut k1,
     );
-    if is_refused(answer) {
+    if is_refused(desk, answer) {
         return false;
     }
     pack_words(&k0, &k1, shares);
-    replace_split(3, k, s0, s1, z0, z1, public, limit, raised)
+    replace_split(desk, 3, k, s0, s1, z0, z1, public, limit, raised)
 }
 
 // The file of the shares, argument 6, is opened first and written last: a split key is used only where they can be
 // handed out, and they are handed out only where its use is counted.
 pub fn write_shares(
+    desk: &impl Desk,
     e: Edition,
     k: usize,
     s0: &[u16],
@@ -72,12 +74,13 @@ pub fn write_shares(
 )
     requires { Sized k s0.now s1.now z0.now z1.now public.now × (k ≤ 4) }
 {
-    let output = outputs::open_secret_at(6);
-    if !outputs::is_open(output) {
+    let output = outputs::open_secret_at(desk, 6);
+    if !outputs::is_open(&output) {
         return;
     }
     let mut shares = [0u8; 64];
     if !decapsulate(
+        desk,
         e,
         k,
         s0,
@@ -92,13 +95,14 @@ pub fn write_shares(
         coeffs,
         &mut shares,
     ) {
-        outputs::give_up_at(6, output);
+        outputs::give_up_at(desk, 6, output);
         return;
     }
-    outputs::put_at(6, output, &shares);
+    outputs::put_at(desk, 6, output, &shares);
 }
 
 pub fn print_step(
+    desk: &impl Desk,
     e: Edition,
     rank: u32,
     s0: &[u16],
@@ -115,11 +119,11 @@ pub fn print_step(
     let answer = decapsulation::trace(
         e, rank, s0, s1, z0, z1, public, ct, words, coeffs, step, &mut value,
     );
-    if is_refused(answer) {
+    if is_refused(desk, answer) {
         return;
     }
-    io::print_decimal(STDOUT_FILENO, value);
-    if !io::write_all(STDOUT_FILENO, b"\n") {
-        messages::failed(b"standard output");
+    let _ = desk.print(value);
+    if let Err(e) = desk.write_all(b"\n") {
+        messages::failed(desk, b"standard output", e);
     }
 }

@@ -7,6 +7,7 @@ ghost use Rattle.cli_support.specs.Bounded.{Bounded};
 
 use crate::answering::{print_step, write_shares};
 use cli_support::arguments::Natural;
+use cli_support::desk::Desk;
 use cli_support::inputs::read_exact;
 use cli_support::sets::Sizes;
 use cli_support::split_file::read_split;
@@ -25,6 +26,7 @@ enum Asked {
 
 // With the file of argument 5, a strip.
 fn run_strip(
+    desk: &impl Desk,
     e: Edition,
     k: usize,
     asked: Asked,
@@ -42,21 +44,22 @@ fn run_strip(
     requires { Sized k s0.now s1.now z0.now z1.now public.now × (k ≤ 4)
         × (length words.old ≤ 15192) × (length coeffs.old ≤ 9472) }
 {
-    if !read_strip(5, words, coeffs) {
+    if !read_strip(desk, 5, words, coeffs) {
         return;
     }
     match asked {
         Asked::Shares => write_shares(
-            e, k, s0, s1, z0, z1, public, limit, count, ct, words, coeffs,
+            desk, e, k, s0, s1, z0, z1, public, limit, count, ct, words, coeffs,
         ),
         Asked::Step(step) => print_step(
-            e, k as u32, s0, s1, z0, z1, public, ct, words, coeffs, step,
+            desk, e, k as u32, s0, s1, z0, z1, public, ct, words, coeffs, step,
         ),
     }
 }
 
 // With the file of argument 4, a ciphertext.
 fn run_ciphertext(
+    desk: &impl Desk,
     set: Sizes,
     asked: Asked,
     s0: &[u16],
@@ -70,7 +73,7 @@ fn run_ciphertext(
 )
     requires { Bounded set × Sized set.k s0.now s1.now z0.now z1.now public.now }
 {
-    if !read_exact(4, ct) {
+    if !read_exact(desk, 4, ct) {
         return;
     }
     let e = set.edition;
@@ -79,6 +82,7 @@ fn run_ciphertext(
     let m = set.words;
     let n = set.coeffs;
     run_strip(
+        desk,
         e,
         set.k,
         asked,
@@ -97,6 +101,7 @@ fn run_ciphertext(
 
 // With the file of argument 3, a split key.
 fn run_split(
+    desk: &impl Desk,
     set: Sizes,
     asked: Asked,
     s0: &mut [u16],
@@ -109,12 +114,15 @@ fn run_split(
 {
     let mut limit: u32 = 0;
     let mut count: u32 = 0;
-    if !read_split(3, set.k, s0, s1, z0, z1, public, &mut limit, &mut count) {
+    if !read_split(
+        desk, 3, set.k, s0, s1, z0, z1, public, &mut limit, &mut count,
+    ) {
         return;
     }
     let mut ct = [0u8; 1568];
     let n = set.ct;
     run_ciphertext(
+        desk,
         set,
         asked,
         s0,
@@ -128,7 +136,7 @@ fn run_split(
     );
 }
 
-fn run(set: Sizes, asked: Asked)
+fn run(desk: &impl Desk, set: Sizes, asked: Asked)
     requires { Bounded set }
 {
     let mut s0 = [0u16; 1024];
@@ -139,6 +147,7 @@ fn run(set: Sizes, asked: Asked)
     let m = set.coefficients;
     let n = set.public;
     run_split(
+        desk,
         set,
         asked,
         &mut s0[0..m],
@@ -150,21 +159,21 @@ fn run(set: Sizes, asked: Asked)
 }
 
 // mlkem decaps SET SPLIT CT STRIP SHARES
-pub fn decaps(set: Sizes)
+pub fn decaps(desk: &impl Desk, set: Sizes)
     requires { Bounded set }
 {
-    if outputs::are_same_at(3, 6) {
+    if outputs::are_same_at(desk, 3, 6) {
         return;
     }
-    run(set, Asked::Shares);
+    run(desk, set, Asked::Shares);
 }
 
 // mlkem trace SET SPLIT CT STRIP STEP
-pub fn trace(set: Sizes)
+pub fn trace(desk: &impl Desk, set: Sizes)
     requires { Bounded set }
 {
-    let Natural::Is(step) = arguments::number(6, 0xffff_ffff_ffff_ffff) else {
+    let Natural::Is(step) = arguments::number(desk, 6, 0xffff_ffff_ffff_ffff) else {
         return;
     };
-    run(set, Asked::Step(step));
+    run(desk, set, Asked::Step(step));
 }

@@ -7,20 +7,22 @@ ghost use Rattle.cli_demo.specs.Lent.{KeyLent};
 use crate::splits::run_split;
 use cli_demo_uses::lines::{print_bytes, print_start};
 use cli_support::answers::is_refused;
+use cli_support::desk::Desk;
 use cli_support::sets::Sizes;
 use parameters::Edition;
 
-fn print_encapsulated(ek: &[u8], dk: &[u8], ct: &[u8], secret: &[u8])
+fn print_encapsulated(desk: &impl Desk, ek: &[u8], dk: &[u8], ct: &[u8], secret: &[u8])
     requires { (16 ≤ length ek.now) × (16 ≤ length dk.now) × (16 ≤ length ct.now) }
 {
-    print_start(b"public key", ek);
-    print_start(b"decapsulation key", dk);
-    print_start(b"ciphertext", ct);
-    print_bytes(b"encapsulation's K: ", secret);
+    print_start(desk, b"public key", ek);
+    print_start(desk, b"decapsulation key", dk);
+    print_start(desk, b"ciphertext", ct);
+    print_bytes(desk, b"encapsulation's K: ", secret);
 }
 
 // The seeds are d, z and m.
 fn encapsulate(
+    desk: &impl Desk,
     e: Edition,
     rank: u32,
     seeds: &[u8],
@@ -31,17 +33,24 @@ fn encapsulate(
 ) -> bool
     requires { KeyLent seeds.now ek.old dk.old ct.old }
 {
-    if is_refused(mlkem_keygen::keygen(e, rank, &seeds[0..32], &seeds[32..64], ek, dk)) {
+    if is_refused(
+        desk,
+        mlkem_keygen::keygen(e, rank, &seeds[0..32], &seeds[32..64], ek, dk),
+    ) {
         return false;
     }
-    if is_refused(mlkem_encaps::encaps(e, rank, ek, &seeds[64..96], ct, secret)) {
+    if is_refused(
+        desk,
+        mlkem_encaps::encaps(e, rank, ek, &seeds[64..96], ct, secret),
+    ) {
         return false;
     }
-    print_encapsulated(ek, dk, ct, secret);
+    print_encapsulated(desk, ek, dk, ct, secret);
     true
 }
 
 fn run_encapsulated(
+    desk: &impl Desk,
     set: Sizes,
     seeds: &[u8],
     mask_coeffs: &[u16],
@@ -58,10 +67,11 @@ fn run_encapsulated(
 {
     let e = set.edition;
     let mut secret = [0u8; 32];
-    if !encapsulate(e, set.k as u32, seeds, ek, dk, ct, &mut secret) {
+    if !encapsulate(desk, e, set.k as u32, seeds, ek, dk, ct, &mut secret) {
         return false;
     }
     run_split(
+        desk,
         set,
         dk,
         ct,
@@ -76,6 +86,7 @@ fn run_encapsulated(
 }
 
 pub fn run_key(
+    desk: &impl Desk,
     set: Sizes,
     seeds: &[u8],
     mask_coeffs: &[u16],
@@ -94,6 +105,7 @@ pub fn run_key(
     let n = set.dk;
     let l = set.ct;
     run_encapsulated(
+        desk,
         set,
         seeds,
         mask_coeffs,

@@ -8,9 +8,9 @@ ghost use Rattle.cli_demo.specs.Lent.{drawn};
 
 use crate::keys::run_key;
 use buffers::values::reduce;
+use cli_support::desk::Desk;
 use cli_support::sets::Sizes;
 use cli_support::{mask_file, messages, strip_file};
-use libc::STDOUT_FILENO;
 use text::print;
 
 mod keys; // keys and encapsulation
@@ -28,6 +28,7 @@ fn draw_masks(draws: &[u8], mask_coeffs: &mut [u16], mask_words: &mut [u64])
 
 // The draws are seeds and import's masks; the others are refreshing's masks.
 fn run_masks(
+    desk: &impl Desk,
     set: Sizes,
     draws: &[u8],
     others: &[u8],
@@ -44,6 +45,7 @@ fn run_masks(
     draw_masks(&draws[96..], mask_coeffs, &mut mask_words);
     draw_masks(others, fresh_coeffs, &mut fresh_words);
     run_key(
+        desk,
         set,
         &draws[0..96],
         mask_coeffs,
@@ -55,7 +57,14 @@ fn run_masks(
     )
 }
 
-fn run_drawn(set: Sizes, draws: &[u8], others: &[u8], words: &[u64], coeffs: &[u16]) -> bool
+fn run_drawn(
+    desk: &impl Desk,
+    set: Sizes,
+    draws: &[u8],
+    others: &[u8],
+    words: &[u64],
+    coeffs: &[u16],
+) -> bool
     requires { Bounded set × (length draws.now ≡ 512 * set.k + 128)
         × (length others.now ≡ 512 * set.k + 32) }
 {
@@ -63,6 +72,7 @@ fn run_drawn(set: Sizes, draws: &[u8], others: &[u8], words: &[u64], coeffs: &[u
     let mut fresh_coeffs = [0u16; 1024];
     let m = set.coefficients;
     run_masks(
+        desk,
         set,
         draws,
         others,
@@ -74,7 +84,13 @@ fn run_drawn(set: Sizes, draws: &[u8], others: &[u8], words: &[u64], coeffs: &[u
 }
 
 // The draws are seeds, import's masks, a strip and refreshing's masks.
-fn run_strip(set: Sizes, draws: &[u8], words: &mut [u64], coeffs: &mut [u16]) -> bool
+fn run_strip(
+    desk: &impl Desk,
+    set: Sizes,
+    draws: &[u8],
+    words: &mut [u64],
+    coeffs: &mut [u16],
+) -> bool
     requires { Bounded set × (length words.old ≡ set.words) × (length coeffs.old ≡ set.coeffs)
         × (length draws.now ≡ drawn set) }
 {
@@ -82,31 +98,34 @@ fn run_strip(set: Sizes, draws: &[u8], words: &mut [u64], coeffs: &mut [u16]) ->
     let m = n + 8 * set.words + 2 * set.coeffs;
     strip_file::unpack(&draws[n..m], words, coeffs);
     reduce(coeffs);
-    run_drawn(set, &draws[0..n], &draws[m..], words, coeffs)
+    run_drawn(desk, set, &draws[0..n], &draws[m..], words, coeffs)
 }
 
-fn run(set: Sizes, draws: &[u8]) -> bool
+fn run(desk: &impl Desk, set: Sizes, draws: &[u8]) -> bool
     requires { Bounded set × (length draws.now ≡ drawn set) }
 {
     let mut words = strip_file::words();
     let mut coeffs = strip_file::coefficients();
     let m = set.words;
     let n = set.coeffs;
-    run_strip(set, draws, &mut words[0..m], &mut coeffs[0..n])
+    run_strip(desk, set, draws, &mut words[0..m], &mut coeffs[0..n])
 }
 
-fn show(set: Sizes, draws: &mut [u8])
+fn show(desk: &impl Desk, set: Sizes, draws: &mut [u8])
     requires { Bounded set × (length draws.old ≡ drawn set) }
 {
     fips202::shake256(b"mlkem demo", draws);
-    print(b"Seeds and masks are SHAKE256 of 'mlkem demo', known to all: ");
-    print(b"for demonstration, not for use.\n");
-    if !run(set, draws) {
-        print(b"not done: a call was refused\n");
+    print(
+        desk,
+        b"Seeds and masks are SHAKE256 of 'mlkem demo', known to all: ",
+    );
+    print(desk, b"for demonstration, not for use.\n");
+    if !run(desk, set, draws) {
+        print(desk, b"not done: a call was refused\n");
         return;
     }
-    if !io::write_all(STDOUT_FILENO, b"done\n") {
-        messages::failed(b"standard output");
+    if let Err(e) = desk.write_all(b"done\n") {
+        messages::failed(desk, b"standard output", e);
     }
 }
 
@@ -118,10 +137,10 @@ fn room() -> [u8; 144736]
 }
 
 // mlkem demo SET
-pub fn demo(set: Sizes)
+pub fn demo(desk: &impl Desk, set: Sizes)
     requires { Bounded set }
 {
     let mut draws = room();
     let n = 1024 * set.k + 160 + (8 * set.words + 2 * set.coeffs);
-    show(set, &mut draws[0..n]);
+    show(desk, set, &mut draws[0..n]);
 }

@@ -6,6 +6,7 @@ ghost use Rattle.cli_support.specs.Bounded.{Bounded};
 use cli_demo_uses::lines::print_uses;
 use cli_demo_uses::uses::{decapsulate, run_ciphertexts};
 use cli_support::answers::is_refused;
+use cli_support::desk::Desk;
 use cli_support::sets::Sizes;
 use parameters::Edition;
 use text::print;
@@ -15,6 +16,7 @@ const LIMIT: u32 = 3;
 
 // Decapsulation of the ciphertext with fresh shares.
 fn run_refreshed(
+    desk: &impl Desk,
     e: Edition,
     rank: u32,
     fresh_coeffs: &[u16],
@@ -31,21 +33,22 @@ fn run_refreshed(
     coeffs: &[u16],
     secret: &[u8],
 ) -> bool {
-    print_uses(*count, limit);
+    print_uses(desk, *count, limit);
     let answer = split_key_refresh::refresh(rank, fresh_coeffs, fresh_words, s0, s1, z0, z1, count);
-    if is_refused(answer) {
+    if is_refused(desk, answer) {
         return false;
     }
-    print(b"refreshed\n");
-    print_uses(*count, limit);
-    print(b"decapsulation, with the fresh shares\n");
+    print(desk, b"refreshed\n");
+    print_uses(desk, *count, limit);
+    print(desk, b"decapsulation, with the fresh shares\n");
     decapsulate(
-        e, rank, s0, s1, z0, z1, public, limit, count, ct, words, coeffs, secret,
+        desk, e, rank, s0, s1, z0, z1, public, limit, count, ct, words, coeffs, secret,
     )
 }
 
 // First with the shares that import made, then with fresh ones.
 fn run_uses(
+    desk: &impl Desk,
     e: Edition,
     rank: u32,
     last_step: u64,
@@ -66,9 +69,10 @@ fn run_uses(
     requires { 0 < length ct.old }
 {
     let first = run_ciphertexts(
-        e, rank, last_step, s0, s1, z0, z1, public, limit, count, ct, words, coeffs, secret,
+        desk, e, rank, last_step, s0, s1, z0, z1, public, limit, count, ct, words, coeffs, secret,
     );
     let fresh = run_refreshed(
+        desk,
         e,
         rank,
         fresh_coeffs,
@@ -89,6 +93,7 @@ fn run_uses(
 }
 
 fn run_imported(
+    desk: &impl Desk,
     e: Edition,
     rank: u32,
     last_step: u64,
@@ -125,10 +130,11 @@ fn run_imported(
         &mut limit,
         &mut count,
     );
-    if is_refused(answer) {
+    if is_refused(desk, answer) {
         return false;
     }
     run_uses(
+        desk,
         e,
         rank,
         last_step,
@@ -149,6 +155,7 @@ fn run_imported(
 }
 
 pub fn run_split(
+    desk: &impl Desk,
     set: Sizes,
     dk: &[u8],
     ct: &mut [u8],
@@ -169,6 +176,7 @@ pub fn run_split(
     let m = set.coefficients;
     let n = set.public;
     run_imported(
+        desk,
         e,
         set.k as u32,
         set.steps - 1,

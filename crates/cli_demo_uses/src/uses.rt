@@ -7,30 +7,32 @@ use buffers::little_endian::put_words;
 use buffers::values::xor_words;
 use cli_support::answers::is_refused;
 use cli_support::arguments::same;
+use cli_support::desk::Desk;
 use parameters::Edition;
 use text::print;
 
 // The shares of K, what they join to, and whether that is the secret of encapsulation.
-fn print_secret(k0: &[u64], k1: &[u64], secret: &[u8])
+fn print_secret(desk: &impl Desk, k0: &[u64], k1: &[u64], secret: &[u8])
     requires { (length k0.now ≡ 4) × (length k1.now ≡ 4) }
 {
     let mut k = [0u64; 4];
     let mut bytes = [0u8; 32];
     put_words(k0, &mut bytes);
-    print_bytes(b"  share 0 of K: ", &bytes);
+    print_bytes(desk, b"  share 0 of K: ", &bytes);
     put_words(k1, &mut bytes);
-    print_bytes(b"  share 1 of K: ", &bytes);
+    print_bytes(desk, b"  share 1 of K: ", &bytes);
     xor_words(k0, k1, &mut k);
     put_words(&k, &mut bytes);
-    print_bytes(b"  their xor:    ", &bytes);
+    print_bytes(desk, b"  their xor:    ", &bytes);
     if same(&bytes, secret) {
-        print(b"  equal to encapsulation's K\n");
+        print(desk, b"  equal to encapsulation's K\n");
     } else {
-        print(b"  not equal to encapsulation's K\n");
+        print(desk, b"  not equal to encapsulation's K\n");
     }
 }
 
 pub fn decapsulate(
+    desk: &impl Desk,
     e: Edition,
     rank: u32,
     s0: &[u16],
@@ -50,15 +52,16 @@ pub fn decapsulate(
     let answer = decapsulation::decaps(
         e, rank, s0, s1, z0, z1, public, limit, count, ct, words, coeffs, &mut k0, &mut k1,
     );
-    if is_refused(answer) {
+    if is_refused(desk, answer) {
         return false;
     }
-    print_secret(&k0, &k1, secret);
+    print_secret(desk, &k0, &k1, secret);
     true
 }
 
 // The ciphertext's first bit is changed, and changed back.
 fn decapsulate_damaged(
+    desk: &impl Desk,
     e: Edition,
     rank: u32,
     s0: &[u16],
@@ -77,13 +80,14 @@ fn decapsulate_damaged(
 {
     ct[0] = ct[0] ^ 1;
     let done = decapsulate(
-        e, rank, s0, s1, z0, z1, public, limit, count, ct, words, coeffs, secret,
+        desk, e, rank, s0, s1, z0, z1, public, limit, count, ct, words, coeffs, secret,
     );
     ct[0] = ct[0] ^ 1;
     done
 }
 
 fn trace(
+    desk: &impl Desk,
     e: Edition,
     rank: u32,
     s0: &[u16],
@@ -100,15 +104,16 @@ fn trace(
     let answer = decapsulation::trace(
         e, rank, s0, s1, z0, z1, public, ct, words, coeffs, step, &mut value,
     );
-    if is_refused(answer) {
+    if is_refused(desk, answer) {
         return false;
     }
-    print_step(step, value);
+    print_step(desk, step, value);
     true
 }
 
 // Three steps of the decapsulation of the ciphertext.
 fn run_traces(
+    desk: &impl Desk,
     e: Edition,
     rank: u32,
     last_step: u64,
@@ -121,17 +126,20 @@ fn run_traces(
     words: &[u64],
     coeffs: &[u16],
 ) -> bool {
-    print(b"trace of the first decapsulation\n");
-    let first = trace(e, rank, s0, s1, z0, z1, public, ct, words, coeffs, 0);
-    let second = trace(e, rank, s0, s1, z0, z1, public, ct, words, coeffs, 256);
+    print(desk, b"trace of the first decapsulation\n");
+    let first = trace(desk, e, rank, s0, s1, z0, z1, public, ct, words, coeffs, 0);
+    let second = trace(
+        desk, e, rank, s0, s1, z0, z1, public, ct, words, coeffs, 256,
+    );
     let last = trace(
-        e, rank, s0, s1, z0, z1, public, ct, words, coeffs, last_step,
+        desk, e, rank, s0, s1, z0, z1, public, ct, words, coeffs, last_step,
     );
     first & second & last
 }
 
 // The ciphertext and a damaged one.
 fn decapsulate_both(
+    desk: &impl Desk,
     e: Edition,
     rank: u32,
     s0: &[u16],
@@ -148,19 +156,20 @@ fn decapsulate_both(
 ) -> bool
     requires { 0 < length ct.old }
 {
-    print(b"decapsulation\n");
+    print(desk, b"decapsulation\n");
     let own = decapsulate(
-        e, rank, s0, s1, z0, z1, public, limit, count, ct, words, coeffs, secret,
+        desk, e, rank, s0, s1, z0, z1, public, limit, count, ct, words, coeffs, secret,
     );
-    print(b"decapsulation, the ciphertext's first bit changed\n");
+    print(desk, b"decapsulation, the ciphertext's first bit changed\n");
     let other = decapsulate_damaged(
-        e, rank, s0, s1, z0, z1, public, limit, count, ct, words, coeffs, secret,
+        desk, e, rank, s0, s1, z0, z1, public, limit, count, ct, words, coeffs, secret,
     );
     own & other
 }
 
 // Both, and steps of the first.
 pub fn run_ciphertexts(
+    desk: &impl Desk,
     e: Edition,
     rank: u32,
     last_step: u64,
@@ -179,10 +188,10 @@ pub fn run_ciphertexts(
     requires { 0 < length ct.old }
 {
     let both = decapsulate_both(
-        e, rank, s0, s1, z0, z1, public, limit, count, ct, words, coeffs, secret,
+        desk, e, rank, s0, s1, z0, z1, public, limit, count, ct, words, coeffs, secret,
     );
     let traced = run_traces(
-        e, rank, last_step, s0, s1, z0, z1, public, ct, words, coeffs,
+        desk, e, rank, last_step, s0, s1, z0, z1, public, ct, words, coeffs,
     );
     both & traced
 }

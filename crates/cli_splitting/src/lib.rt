@@ -8,6 +8,7 @@ ghost use Rattle.cli_support.specs.Bounded.{Bounded};
 use cli_support::answers::is_refused;
 use cli_support::arguments;
 use cli_support::arguments::Natural;
+use cli_support::desk::Desk;
 use cli_support::inputs::read_exact;
 use cli_support::mask_file::read_masks;
 use cli_support::sets::Sizes;
@@ -17,6 +18,7 @@ use cli_support::split_file::{read_split, replace_split, write_split};
 
 // False where it is refused.
 fn is_imported(
+    desk: &impl Desk,
     rank: u32,
     dk: &[u8],
     mask_coeffs: &[u16],
@@ -44,11 +46,12 @@ fn is_imported(
         limit_out,
         count,
     );
-    !is_refused(answer)
+    !is_refused(desk, answer)
 }
 
 // The split key is written to the file of argument 6.
 fn write_imported(
+    desk: &impl Desk,
     k: usize,
     dk: &[u8],
     mask_coeffs: &[u16],
@@ -65,6 +68,7 @@ fn write_imported(
     let mut limit_out: u32 = 0;
     let mut count: u32 = 0;
     if is_imported(
+        desk,
         k as u32,
         dk,
         mask_coeffs,
@@ -78,11 +82,18 @@ fn write_imported(
         &mut limit_out,
         &mut count,
     ) {
-        write_split(6, k, s0, s1, z0, z1, public, limit_out, count);
+        write_split(desk, 6, k, s0, s1, z0, z1, public, limit_out, count);
     }
 }
 
-fn import_masked(set: Sizes, dk: &[u8], mask_coeffs: &[u16], mask_words: &[u64], limit: u32)
+fn import_masked(
+    desk: &impl Desk,
+    set: Sizes,
+    dk: &[u8],
+    mask_coeffs: &[u16],
+    mask_words: &[u64],
+    limit: u32,
+)
     requires { Bounded set }
 {
     let mut s0 = [0u16; 1024];
@@ -93,6 +104,7 @@ fn import_masked(set: Sizes, dk: &[u8], mask_coeffs: &[u16], mask_words: &[u64],
     let m = set.coefficients;
     let n = set.public;
     write_imported(
+        desk,
         set.k,
         dk,
         mask_coeffs,
@@ -107,42 +119,43 @@ fn import_masked(set: Sizes, dk: &[u8], mask_coeffs: &[u16], mask_words: &[u64],
 }
 
 // With the files of arguments 3 and 4, a decapsulation key and masks.
-fn import_files(set: Sizes, limit: u32, dk: &mut [u8], mask_coeffs: &mut [u16])
+fn import_files(desk: &impl Desk, set: Sizes, limit: u32, dk: &mut [u8], mask_coeffs: &mut [u16])
     requires { Bounded set × (length mask_coeffs.old ≤ 1024) }
 {
     let mut mask_words = [0u64; 4];
-    if !read_exact(3, dk) {
+    if !read_exact(desk, 3, dk) {
         return;
     }
-    if read_masks(4, mask_coeffs, &mut mask_words) {
-        import_masked(set, dk, mask_coeffs, &mask_words, limit);
+    if read_masks(desk, 4, mask_coeffs, &mut mask_words) {
+        import_masked(desk, set, dk, mask_coeffs, &mask_words, limit);
     }
 }
 
-fn import_limited(set: Sizes, limit: u32)
+fn import_limited(desk: &impl Desk, set: Sizes, limit: u32)
     requires { Bounded set }
 {
     let mut dk = [0u8; 3168];
     let mut mask_coeffs = [0u16; 1024];
     let m = set.dk;
     let n = set.coefficients;
-    import_files(set, limit, &mut dk[0..m], &mut mask_coeffs[0..n]);
+    import_files(desk, set, limit, &mut dk[0..m], &mut mask_coeffs[0..n]);
 }
 
 // mlkem import SET DK MASKS LIMIT SPLIT
-pub fn import(set: Sizes)
+pub fn import(desk: &impl Desk, set: Sizes)
     requires { Bounded set }
 {
-    let Natural::Is(limit) = arguments::number(5, 0xffff_ffff) else {
+    let Natural::Is(limit) = arguments::number(desk, 5, 0xffff_ffff) else {
         return;
     };
-    import_limited(set, limit as u32);
+    import_limited(desk, set, limit as u32);
 }
 
 // ---- refreshing
 
 // Reads the file of argument 4, a split key, and refreshes it; false where that isn't done.
 fn is_refreshed(
+    desk: &impl Desk,
     k: usize,
     mask_coeffs: &[u16],
     mask_words: &[u64],
@@ -156,7 +169,7 @@ fn is_refreshed(
 ) -> bool
     requires { Sized k s0.old s1.old z0.old z1.old public.old × (k ≤ 4) }
 {
-    if !read_split(4, k, s0, s1, z0, z1, public, limit, count) {
+    if !read_split(desk, 4, k, s0, s1, z0, z1, public, limit, count) {
         return false;
     }
     let answer = split_key_refresh::refresh(
@@ -169,11 +182,12 @@ fn is_refreshed(
         z1,
         count,
     );
-    !is_refused(answer)
+    !is_refused(desk, answer)
 }
 
 // The file of the split key is replaced.
 fn replace_refreshed(
+    desk: &impl Desk,
     k: usize,
     mask_coeffs: &[u16],
     mask_words: &[u64],
@@ -188,6 +202,7 @@ fn replace_refreshed(
     let mut limit: u32 = 0;
     let mut count: u32 = 0;
     if is_refreshed(
+        desk,
         k,
         mask_coeffs,
         mask_words,
@@ -199,11 +214,11 @@ fn replace_refreshed(
         &mut limit,
         &mut count,
     ) {
-        replace_split(4, k, s0, s1, z0, z1, public, limit, count);
+        replace_split(desk, 4, k, s0, s1, z0, z1, public, limit, count);
     }
 }
 
-fn refresh_masked(set: Sizes, mask_coeffs: &[u16], mask_words: &[u64])
+fn refresh_masked(desk: &impl Desk, set: Sizes, mask_coeffs: &[u16], mask_words: &[u64])
     requires { Bounded set }
 {
     let mut s0 = [0u16; 1024];
@@ -214,6 +229,7 @@ fn refresh_masked(set: Sizes, mask_coeffs: &[u16], mask_words: &[u64])
     let m = set.coefficients;
     let n = set.public;
     replace_refreshed(
+        desk,
         set.k,
         mask_coeffs,
         mask_words,
@@ -226,20 +242,20 @@ fn refresh_masked(set: Sizes, mask_coeffs: &[u16], mask_words: &[u64])
 }
 
 // With the file of argument 3, masks.
-fn refresh_files(set: Sizes, mask_coeffs: &mut [u16])
+fn refresh_files(desk: &impl Desk, set: Sizes, mask_coeffs: &mut [u16])
     requires { Bounded set × (length mask_coeffs.old ≤ 1024) }
 {
     let mut mask_words = [0u64; 4];
-    if read_masks(3, mask_coeffs, &mut mask_words) {
-        refresh_masked(set, mask_coeffs, &mask_words);
+    if read_masks(desk, 3, mask_coeffs, &mut mask_words) {
+        refresh_masked(desk, set, mask_coeffs, &mask_words);
     }
 }
 
 // mlkem refresh SET MASKS SPLIT
-pub fn refresh(set: Sizes)
+pub fn refresh(desk: &impl Desk, set: Sizes)
     requires { Bounded set }
 {
     let mut mask_coeffs = [0u16; 1024];
     let n = set.coefficients;
-    refresh_files(set, &mut mask_coeffs[0..n]);
+    refresh_files(desk, set, &mut mask_coeffs[0..n]);
 }

@@ -4,61 +4,62 @@
 
 ghost use Rattle.cli_support.specs.Bounded.{Bounded};
 
-use cli_commands::commands::{Call, Command};
+use cli_commands::commands::{Call, Command, Stream};
 use cli_commands::{commands, hashes, keys, sampling};
+use cli_support::arguments::{arg, arg_count, buffer};
+use cli_support::desk::Desk;
 use cli_support::messages;
 use cli_support::sets::{Set, Sizes, set_at, sizes_of};
-use libc::{STDERR_FILENO, STDOUT_FILENO};
 
-fn run_call(call: Call, set: Sizes)
+fn run_call(desk: &impl Desk, call: Call, set: Sizes)
     requires { Bounded set }
 {
     match call {
-        Call::KeyGen => keys::keygen(set),
-        Call::Encaps => keys::encaps(set),
-        Call::Import => cli_splitting::import(set),
-        Call::Refresh => cli_splitting::refresh(set),
-        Call::Decaps => cli_decapsulating::decaps(set),
-        Call::Trace => cli_decapsulating::trace(set),
-        Call::Demo => cli_demo::demo(set),
+        Call::KeyGen => keys::keygen(desk, set),
+        Call::Encaps => keys::encaps(desk, set),
+        Call::Import => cli_splitting::import(desk, set),
+        Call::Refresh => cli_splitting::refresh(desk, set),
+        Call::Decaps => cli_decapsulating::decaps(desk, set),
+        Call::Trace => cli_decapsulating::trace(desk, set),
+        Call::Demo => cli_demo::demo(desk, set),
     }
 }
 
 // For the parameter set that argument 2 names.
-fn run_named(call: Call) {
-    let Set::Is(e, rank) = set_at(2) else {
-        commands::print_form_line(Command::Calling(call));
+fn run_named(desk: &impl Desk, call: Call) {
+    let Set::Is(e, rank) = set_at(desk, 2) else {
+        commands::print_form_line(desk, Command::Calling(call));
         return;
     };
-    run_call(call, sizes_of(e, rank));
+    run_call(desk, call, sizes_of(e, rank));
 }
 
-fn run(command: Command) {
+fn run(desk: &impl Desk, command: Command) {
     match command {
-        Command::Help => commands::print_usage(STDOUT_FILENO),
-        Command::Hashing(hash) => hashes::run(hash),
-        Command::Sampling => sampling::sample(),
-        Command::Calling(call) => run_named(call),
-        Command::Unknown => commands::print_usage(STDERR_FILENO),
+        Command::Help => commands::print_usage(desk, Stream::Output),
+        Command::Hashing(hash) => hashes::run(desk, hash),
+        Command::Sampling => sampling::sample(desk),
+        Command::Calling(call) => run_named(desk, call),
+        Command::Unknown => commands::print_usage(desk, Stream::Error),
     }
 }
 
-fn main() {
-    let count = os::arg_count();
+fn main(rt: HostRuntime) {
+    let count = arg_count(&rt);
     if count < 2 {
-        commands::print_usage(STDERR_FILENO);
+        commands::print_usage(&rt, Stream::Error);
         return;
     }
-    let mut word = io::buffer();
-    let n = os::arg(1, &mut word);
+    let mut word = buffer();
+    let n = arg(&rt, 1, &mut word);
     let command = commands::named(&word[..n]);
     if let Command::Unknown = command {
-        messages::unknown(&word[..n]);
+        messages::unknown(&rt, &word[..n]);
         return;
     }
     if count != commands::word_count(command) {
-        commands::print_form_line(command);
+        commands::print_form_line(&rt, command);
         return;
     }
-    run(command);
+    run(&rt, command);
 }
