@@ -15,21 +15,18 @@ bit-mul i b w h g l =
     let m = mul-le-mul y z in
     (x, omega arith)
 
-small : (c : goal.Start) → let a = c.args in (bit_xor a.i a.b1 < 2) × (bit_xor a.i a.b1 * a.w ≤ 65535)
-small c = let a = c.args in bit-mul a.i a.b1 a.w (omega arith) (omega arith) (omega arith)
-
 pub returns : goal.returns
 unfolding xor
 returns c = c.enter_reduced.ensures
 
 pub overflow_cast-i : goal.overflow_cast-i
-overflow_cast-i c = omega (arith, small c)
+overflow_cast-i c = omega (arith, bit-mul c.args.i c.args.b1 c.args.w (omega arith) (omega arith) (omega arith))
 
 pub overflow_mul-i : goal.overflow_mul-i
-overflow_mul-i c = omega (arith, small c)
+overflow_mul-i c = omega (arith, bit-mul c.args.i c.args.b1 c.args.w (omega arith) (omega arith) (omega arith))
 
 pub overflow_add-i : goal.overflow_add-i
-overflow_add-i c = omega (arith, small c)
+overflow_add-i c = omega (arith, bit-mul c.args.i c.args.b1 c.args.w (omega arith) (omega arith) (omega arith))
 
 pub enter_reduced-requires : goal.enter_reduced-requires
-enter_reduced-requires c = omega (arith, small c)
+enter_reduced-requires c = omega (arith, bit-mul c.args.i c.args.b1 c.args.w (omega arith) (omega arith) (omega arith))

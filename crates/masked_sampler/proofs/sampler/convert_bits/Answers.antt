@@ -1,11 +1,8 @@
 -- The loop is the definition's own: the first j conversions have run on the first j masks, and stand in two arrays.
-use Prim.Native.Nat.{◌-◌}
 use native.Mathlib.Omega.{arith}
 use Rattle.worksheet.specs.Ran.{next_coeff}
 use Rattle.worksheet.specs.RanLoops.{times_start, times_turn}
 use Rattle.worksheet.specs.StoredSharings.{sharings_start, sharings_turn, sharings_end}
-use Rattle.masked_sampler.specs.Coefficient.{weight}
-use Rattle.masked_sampler.specs.Bit.{bit_of}
 use Rattle.masked_sampler.proofs.sampler.convert_bits.Goals as goal
 
 -- ---- facts

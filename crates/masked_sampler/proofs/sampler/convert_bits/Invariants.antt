@@ -1,5 +1,5 @@
 -- The loop is the definition's own: the first j conversions have run on the first j masks, and stand in two arrays.
-use Prim.Native.Nat.{◌*◌, ◌-◌}
+use Prim.Native.Nat.{◌*◌}
 use Rattle.worksheet.specs.Prog.{coeff, times}
 use Rattle.worksheet.specs.Ran.{Draws}
 use Rattle.worksheet.specs.StoredSharings.{StoredSharings}

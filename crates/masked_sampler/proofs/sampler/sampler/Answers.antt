@@ -4,14 +4,9 @@ use mathlib.Core.Path.{refl}
 use native.Mathlib.Omega.{arith}
 use lib.ListN.{drop}
 use Rattle.worksheet.specs.Ran.{bind, over}
-use Rattle.worksheet.specs.SharedList.{SharedList, shared_list}
 use Rattle.masked_sampler.specs.Coefficient.{sampler}
 use Rattle.masked_sampler.proofs.SumsZip.{sums_zip0, sums_zip1}
 use Rattle.masked_sampler.proofs.sampler.sampler.Goals as goal
-
--- the terms
-abbrev terms : goal.After-last-1 → SharedList
-terms c = shared_list c.convert_bits-rec.new.s0 c.convert_bits-rec.new.s1
 
 pub returns : goal.returns
 unfolding sampler
@@ -19,8 +14,8 @@ returns c ws =
     let a = c.args in
     let n = 2 * a.eta in
     let cs = drop n a.cs.now in
-    let l = (terms c).s0-1 in
-    let m = (terms c).s1-1 in
+    let l = c.convert_bits-rec.new.s0 in
+    let m = c.convert_bits-rec.new.s1 in
     bind _ (c.convert_bits-rec.ensures ws)
     (bind _ (rw (← sums_zip0 n (n - 1) l m (omega arith)) at (c.sum_terms-a0.ensures ws cs))
     (bind _ (rw (← sums_zip1 n (n - 1) l m (omega arith)) at (c.sum_terms-a1.ensures ws cs)) over))

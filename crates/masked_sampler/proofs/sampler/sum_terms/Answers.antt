@@ -1,5 +1,4 @@
 -- The loop is the definition's own: s is the sum of the first j + 1 terms, entered from the left.
-use Prim.Native.Nat.{◌-◌}
 use mathlib.Core.Path.{◌≡◌}
 use native.Mathlib.Omega.{arith}
 use Rattle.worksheet.specs.RanLoops.{loop_start, loop_turn}
@@ -20,4 +19,4 @@ loop-j-preserved c =
 pub returns : goal.returns
 returns c ws cs =
     let e : c.loop-j.j ≡ c.args.n = omega arith in
-    rw e c (c.loop-j.invariant.1 ws cs)
+    rw e at (c.loop-j.invariant.1 ws cs)

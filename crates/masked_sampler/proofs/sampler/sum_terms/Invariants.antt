@@ -1,5 +1,5 @@
 -- The loop is the definition's own: s is the sum of the first j + 1 terms, entered from the left.
-use Prim.Native.Nat.{ℕ, ◌-◌, ◌≤◌}
+use Prim.Native.Nat.{ℕ, ◌≤◌}
 use mathlib.Core.List.{List}
 use lib.ListN.{get_or}
 use Rattle.worksheet.specs.Ran.{Ran}
@@ -9,6 +9,3 @@ use Rattle.masked_sampler.proofs.sampler.sum_terms.Given as goal
 -- j sums entered
 abbrev pub invariant-loop-j : goal.invariant-loop-j
 invariant-loop-j l = (l.j ≤ l.n) × ((ws cs : List ℕ) → Ran (sums l.j (λ k. get_or l.x k 0)) l.initial.rec ws cs l.s l.rec ws cs)
-
-abbrev pub decreases-loop-j : goal.decreases-loop-j
-decreases-loop-j l = l.n - l.j
