@@ -1,30 +1,16 @@
 -- A rank that isn't accepted is refused before anything else; else the call is that with the rank's set.
-use mathlib.Core.Path.{refl}
+use mathlib.Core.Path.{refl, ap}
+use mathlib.Core.Bool.{not}
 use Rattle.parameters.specs.ByRankLaws.{by_rank_refused, by_rank_called}
 use Rattle.split_key_import.proofs.import.Goals as goal
 
 pub returns-then-not-is_rank : goal.returns-then-not-is_rank
-returns-then-not-is_rank c = by_rank_refused _ c.is_rank.ensures c.if-not-is_rank.true refl refl
+returns-then-not-is_rank c = by_rank_refused _ c.is_rank.ensures (ap not c.if-not-is_rank.true) refl refl
 
 pub import_at-requires : goal.import_at-requires
-import_at-requires c = c.of_rank.ensures.1
+import_at-requires c = c.of_rank.ensures.fits
 
 pub returns : goal.returns
 returns c =
-    by_rank_called _ c.is_rank.ensures c.if-not-is_rank.left c.of_rank.ensures.0
+    by_rank_called _ c.is_rank.ensures (ap not c.if-not-is_rank.false) c.of_rank.ensures.value
     c.import_at.ensures
-
-pub shape_of-s0 : goal.shape_of-s0
-shape_of-s0 c = c.import_at.auto.s0
-
-pub shape_of-s1 : goal.shape_of-s1
-shape_of-s1 c = c.import_at.auto.s1
-
-pub shape_of-z0 : goal.shape_of-z0
-shape_of-z0 c = c.import_at.auto.z0
-
-pub shape_of-z1 : goal.shape_of-z1
-shape_of-z1 c = c.import_at.auto.z1
-
-pub shape_of-public : goal.shape_of-public
-shape_of-public c = c.import_at.auto.public

@@ -38,24 +38,9 @@ returns c =
     let i = c.args in
     let n = c.vector_bytes-n in
     let m = c.ek_bytes.ensures in
-    let w = i.mask-words.now in
+    let w = i.mask_words.now in
     let split-z : List ℕ → SharedList = λ l. shared_list w (tab 4 (λ i. xor (lane_of l i) (get_or w i 0))) in
     let secret : n.result - 0 ≡ vector_bytes i.p = omega (arith, n.ensures) in
     same_key (rw secret at c.split_coefficients.ensures)
     (c.split_words.ensures ∙ ap split-z (z-by i.dk.now n.ensures m))
     (c.copy_public.ensures ∙ public-by i.dk.now n.ensures m)
-
-pub shape_of-s0 : goal.shape_of-s0
-shape_of-s0 c = c.split_coefficients.auto.s0
-
-pub shape_of-s1 : goal.shape_of-s1
-shape_of-s1 c = c.split_coefficients.auto.s1
-
-pub shape_of-z0 : goal.shape_of-z0
-shape_of-z0 c = c.split_words.auto.z0
-
-pub shape_of-z1 : goal.shape_of-z1
-shape_of-z1 c = c.split_words.auto.z1
-
-pub shape_of-public : goal.shape_of-public
-shape_of-public c = c.copy_public.auto.public
