@@ -1,5 +1,5 @@
-// What the program reaches outside itself: the words of its command line, files, standard output and standard error, and
-// random letters for the name of a new file.
+// What the program reaches outside itself: the words of its command line, files, standard output and standard error,
+// and random bytes for the name of a new file.
 use std::io;
 use std::random::RandomSource;
 use std::rt::{Env, Files, HostRuntime};
