@@ -2,29 +2,32 @@
 // name the files; for each it prints how many of its cases hold, and the first that doesn't.
 #![tactic(auto)]
 
+use std::env::{Env, FillError};
+use std::fs::File;
+use std::io::{Print, Read};
+use std::{io, str};
 use test_calls::case;
 use test_memory::memory::{BYTES, COEFFICIENTS, WORDS, number, part};
-use text::{print, print_decimal};
 
 // ---- reading
 
 // All of out; false where the file ends before.
-fn fill(fd: i32, out: &mut [u8]) -> bool {
-    io::read_full(fd, out) == out.len()
+fn fill(input: &mut File, out: &mut [u8]) -> bool {
+    input.read_exact(out).is_ok()
 }
 
 // The largest where the file ends before.
-fn read_number(fd: i32) -> u32 {
+fn read_number(input: &mut File) -> u32 {
     let mut b = [0u8; 4];
-    if !fill(fd, &mut b) {
+    if !fill(input, &mut b) {
         return 0xffff_ffff;
     }
     number(&b, 0)
 }
 
-fn is_at_end(fd: i32) -> bool {
+fn is_at_end(input: &mut File) -> bool {
     let mut next = [0u8; 1];
-    !fill(fd, &mut next)
+    !fill(input, &mut next)
 }
 
 // ---- a case
@@ -43,9 +46,9 @@ enum Found {
     Damaged,
 }
 
-fn read_name(fd: i32) -> Name {
+fn read_name(input: &mut File) -> Name {
     let mut text = [0u8; 256];
-    let n = read_number(fd) as usize;
+    let n = read_number(input) as usize;
     if n > 256 {
         return Name {
             text: text,
@@ -53,7 +56,7 @@ fn read_name(fd: i32) -> Name {
             read: false,
         };
     }
-    let read = fill(fd, &mut text[0..n]);
+    let read = fill(input, &mut text[0..n]);
     Name {
         text: text,
         length: n,
@@ -62,13 +65,13 @@ fn read_name(fd: i32) -> Name {
 }
 
 fn read_records(
-    fd: i32,
+    input: &mut File,
     records: &mut [u8],
     bytes: &mut [u8; BYTES],
     coefficients: &mut [u16; COEFFICIENTS],
     words: &mut [u64; WORDS],
 ) -> Found {
-    if !fill(fd, records) {
+    if !fill(input, records) {
         return Found::Damaged;
     }
     if case(records, bytes, coefficients, words) {
@@ -79,17 +82,17 @@ fn read_records(
 
 // Records have 262,144 bytes at most.
 fn read_case(
-    fd: i32,
+    input: &mut File,
     bytes: &mut [u8; BYTES],
     coefficients: &mut [u16; COEFFICIENTS],
     words: &mut [u64; WORDS],
 ) -> Found {
     let mut records = [0u8; 262144];
-    let n = read_number(fd) as usize;
+    let n = read_number(input) as usize;
     if n > 262144 {
         return Found::Damaged;
     }
-    read_records(fd, &mut records[0..n], bytes, coefficients, words)
+    read_records(input, &mut records[0..n], bytes, coefficients, words)
 }
 
 // ---- a file
@@ -154,19 +157,19 @@ fn add(tally: Tally, name: Name, found: Found) -> Tally {
 
 fn add_next(
     tally: Tally,
-    fd: i32,
+    input: &mut File,
     bytes: &mut [u8; BYTES],
     coefficients: &mut [u16; COEFFICIENTS],
     words: &mut [u64; WORDS],
 ) -> Tally {
-    let name = read_name(fd);
-    let found = read_case(fd, bytes, coefficients, words);
+    let name = read_name(input);
+    let found = read_case(input, bytes, coefficients, words);
     add(tally, name, found)
 }
 
 // Until the file is found damaged.
 fn all_cases(
-    fd: i32,
+    input: &mut File,
     count: u32,
     bytes: &mut [u8; BYTES],
     coefficients: &mut [u16; COEFFICIENTS],
@@ -177,57 +180,73 @@ fn all_cases(
         if tally.damaged {
             return tally;
         }
-        tally = add_next(tally, fd, bytes, coefficients, words);
+        tally = add_next(tally, input, bytes, coefficients, words);
     }
     tally
 }
 
 // The memory is zero when a file begins.
-fn carry_out(fd: i32, count: u32) -> Tally {
+fn carry_out(input: &mut File, count: u32) -> Tally {
     let mut bytes = [0u8; BYTES];
     let mut coefficients = [0u16; COEFFICIENTS];
     let mut words = [0u64; WORDS];
-    all_cases(fd, count, &mut bytes, &mut coefficients, &mut words)
+    all_cases(input, count, &mut bytes, &mut coefficients, &mut words)
 }
 
-fn print_tally(count: u32, tally: Tally, at_end: bool) {
-    print_decimal(tally.agreed);
-    print(b" of ");
-    print_decimal(count as u64);
+fn print_tally(rt: &HostRuntime, count: u32, tally: Tally, at_end: bool) -> io::Result<()> {
+    let agreed = tally.agreed;
+    print!(rt; "{agreed} of {count}")?;
     if !tally.all {
         let first = tally.first;
         let text = first.text;
-        print(b", the first that differs: ");
-        print(part(&text, 0, first.length));
+        print!(rt; ", the first that differs: ")?;
+        rt.write_all(part(&text, 0, first.length))?;
     }
     if tally.damaged | !at_end {
-        print(b", file damaged");
+        print!(rt; ", file damaged")?;
     }
-    print(b"\n");
+    print!(rt; "\n")
 }
 
-fn file(name: &[u8]) {
-    print(name);
-    print(b": ");
-    let fd = os::open_read(name);
-    if fd < 0 {
-        print(b"no file\n");
-        return;
+// A path is text.
+fn open(rt: &HostRuntime, name: &[u8]) -> Option<File> {
+    match str::from_utf8(name) {
+        Ok(path) => File::open(rt, path).ok(),
+        Err(_) => None,
     }
-    let count = read_number(fd);
-    let tally = carry_out(fd, count);
-    print_tally(count, tally, is_at_end(fd));
-    libc::close(fd);
 }
 
-fn named(i: usize) {
-    let mut name = io::buffer();
-    let n = os::arg(i, &mut name);
-    file(part(&name, 0, n));
+fn file(rt: &HostRuntime, name: &[u8]) -> io::Result<()> {
+    rt.write_all(name)?;
+    print!(rt; ": ")?;
+    match open(rt, name) {
+        None => print!(rt; "no file\n"),
+        Some(opened) => {
+            let mut input = opened;
+            let count = read_number(&mut input);
+            let tally = carry_out(&mut input, count);
+            let at_end = is_at_end(&mut input);
+            print_tally(rt, count, tally, at_end)
+        }
+    }
 }
 
-fn main() {
-    for i in 1..os::arg_count() {
-        named(i);
+// False where there are fewer arguments. What is longer than a path can be names no file.
+fn named(rt: &HostRuntime, i: usize) -> io::Result<bool> {
+    let mut name = [0u8; 4096];
+    match rt.arg(i, &mut name) {
+        Ok(n) => file(rt, part(&name, 0, n))?,
+        Err(FillError::TooLong) => file(rt, part(&name, 0, 0))?,
+        Err(FillError::NotPresent) => return Ok(false),
     }
+    Ok(true)
+}
+
+fn main(rt: HostRuntime) -> io::Result<()> {
+    for i in 1..usize::MAX {
+        if !named(&rt, i)? {
+            return Ok(());
+        }
+    }
+    Ok(())
 }
