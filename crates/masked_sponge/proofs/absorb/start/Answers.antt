@@ -1,5 +1,4 @@
 -- Lane i is mask i of the strip, and one state serves as both shares, since both take the same masks.
-use Prim.Native.Nat.{◌-◌}
 use mathlib.Core.Path.{refl}
 use borrow.Author.Rules.{rules}
 use Rattle.words.specs.Fill.{filled_start, filled_turn, filled_end}

@@ -1,6 +1,5 @@
 -- Turn i stores lane i at place i, so the filled front grows to the whole slice.
 use mathlib.Core.Path.{refl}
-use Prim.Native.Nat.{◌-◌}
 use native.Mathlib.Omega.{arith}
 use Rattle.words.specs.Fill.{filled_start, filled_turn, filled_end}
 use Rattle.masked_sponge.proofs.squeeze.first_lanes.Goals as goal

@@ -1,6 +1,5 @@
 -- Turn i stores lane i at place i, so the filled front grows to the whole slice.
 use mathlib.Core.Path.{◌≡◌}
-use Prim.Native.Nat.{◌-◌}
 use lib.ListN.{length}
 use Rattle.words.specs.Fill.{Filled}
 use Rattle.masked_sponge.specs.MaskedSteps.{lane}
