@@ -14,4 +14,4 @@ unfolding masked_sha3_512 sha3_512_answer hash_answer answer sized
 returns c =
     let e = c.if-out0-ne64.false in
     let h = c.masked_hash.ensures in
-    record { answer = h.answer ∙ rw (eq-eqb _ _ e); out0 = rw e at h.out0-1; out1 = rw e at h.out1-1 }
+    record { answer = h.answer ∙ rw (eq-eqb _ _ e); out0 = rw e at h.out0; out1 = rw e at h.out1 }

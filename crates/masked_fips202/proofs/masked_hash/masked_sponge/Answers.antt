@@ -10,6 +10,6 @@ pub returns : goal.returns
 returns c =
     let a = c.args in
     let k = hash_mask_words (input_blocks a.rate (length a.in0.now)) in
-    hash_value a.rate a.suffix a.in0.now a.in1.now (length a.out0-1.now)
+    hash_value a.rate a.suffix a.in0.now a.in1.now (length a.out0.now)
     (c.masked_absorb-o.ensures [])
     (rw (part_rest k a.masks.now) at (c.masked_squeeze.ensures []))

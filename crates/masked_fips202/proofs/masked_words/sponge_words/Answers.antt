@@ -13,8 +13,8 @@ unfolding masked_sponge
 returns c cs =
     let a = c.args in
     let k = hash_mask_words (input_blocks a.rate (length a.in0.now)) in
-    let m = keccak_p_words * further_blocks (a.rate / 8) (length a.o0-1.now) in
-    let e : k + m ≡ sponge_mask_words a.rate (length a.in0.now) (length a.o0-1.now) = omega arith in
+    let m = keccak_p_words * further_blocks (a.rate / 8) (length a.o0.now) in
+    let e : k + m ≡ sponge_mask_words a.rate (length a.in0.now) (length a.o0.now) = omega arith in
     rw (← e)
     (bind _ (c.masked_absorb-o.ensures cs)
     (part_words a.ws.now k m (c.masked_squeeze_words.ensures cs)))

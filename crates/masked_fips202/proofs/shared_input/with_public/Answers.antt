@@ -9,5 +9,5 @@ use Rattle.masked_fips202.proofs.shared_input.with_public.Goals as goal
 pub returns : goal.returns
 returns c =
     let a = c.args in
-    two_parts a.b-1.now (8 * length a.w.now) (length-words_to_bytes 8 a.w.now) (omega arith)
+    two_parts a.b.now (8 * length a.w.now) (length-words_to_bytes 8 a.w.now) (omega arith)
     c.words_to_bytes.ensures c.copy_bytes.ensures

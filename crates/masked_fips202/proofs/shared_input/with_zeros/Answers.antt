@@ -9,5 +9,5 @@ use Rattle.masked_fips202.proofs.shared_input.with_zeros.Goals as goal
 pub returns : goal.returns
 returns c =
     let a = c.args in
-    zeros_behind a.b-1.now (8 * length a.w.now) a.n (length-words_to_bytes 8 a.w.now) (omega arith)
+    zeros_behind a.b.now (8 * length a.w.now) a.n (length-words_to_bytes 8 a.w.now) (omega arith)
     c.words_to_bytes.ensures c.zero_bytes.ensures

@@ -9,7 +9,7 @@ use Rattle.masked_fips202.proofs.shared_input.words_to_bytes.Goals as goal
 
 -- ---- facts
 pub store-requires : goal.store-requires
-store-requires c = let l = c.loop-i in length_span (8 * l.i) 8 l.out-1 (omega arith)
+store-requires c = let l = c.loop-i in length_span (8 * l.i) 8 l.out (omega arith)
 
 pub loop-i-preserved : goal.loop-i-preserved
 loop-i-preserved c =
