@@ -4,10 +4,9 @@ use mathlib.Core.Bool.{Bool}
 use Prim.Native.Nat.{ℕ}
 use borrow.Author.Tests.{eq-eqb, ne_eqb, eqb-true}
 use lib.Dec.{eqb}
-use lib.ListN.{length}
 use Rattle.refusals.specs.Refusals.{answer, sized}
 use Rattle.worksheet.specs.SharedList.{SharedList}
-use Rattle.masked_sponge.specs.MaskedSponge.{permutations, hash_mask_words}
+use Rattle.masked_sponge.specs.MaskedSponge.{hash_mask_words}
 use Rattle.masked_fips202.specs.MaskedCalls.{hash_answer}
 use Rattle.masked_fips202.proofs.masked_hash.masked_hash.Goals as goal
 

@@ -1,6 +1,6 @@
 -- Turn i writes the eight bytes of word i behind those of the words before it.
 use mathlib.Core.Path.{refl, ◌∙◌}
-use Prim.Native.Nat.{◌-◌, ◌*◌}
+use Prim.Native.Nat.{◌*◌}
 use native.Mathlib.Omega.{arith}
 use Rattle.words.specs.Part.{length_span}
 use Rattle.vectors.proofs.Concatenated.{concatenated_start, concatenated_turn, concatenated_end}

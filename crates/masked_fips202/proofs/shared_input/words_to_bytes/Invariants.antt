@@ -1,6 +1,5 @@
 -- Turn i writes the eight bytes of word i behind those of the words before it.
 use mathlib.Core.Path.{◌≡◌}
-use Prim.Native.Nat.{◌-◌}
 use lib.ListN.{length, get_or}
 use Rattle.words.specs.Numeral.{digits}
 use Rattle.vectors.proofs.Concatenated.{Concatenated}

@@ -1,6 +1,5 @@
 -- Turn i stores 0 at place i.
 use mathlib.Core.Path.{refl}
-use Prim.Native.Nat.{◌-◌}
 use native.Mathlib.Omega.{arith}
 use Rattle.words.specs.Fill.{filled_start, filled_turn, filled_constant}
 use Rattle.masked_fips202.proofs.shared_input.zero_bytes.Goals as goal

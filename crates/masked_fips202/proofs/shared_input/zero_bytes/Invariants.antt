@@ -1,6 +1,5 @@
 -- Turn i stores 0 at place i.
 use mathlib.Core.Path.{◌≡◌}
-use Prim.Native.Nat.{◌-◌}
 use lib.ListN.{length}
 use Rattle.words.specs.Fill.{Filled}
 use Rattle.masked_fips202.proofs.shared_input.zero_bytes.Given as goal
