@@ -8,7 +8,7 @@ use Rattle.masked_sampler.proofs.sampler.convert_bits.Goals as goal
 -- ---- facts
 pub bit_to_coeff-z-requires : goal.bit_to_coeff-z-requires
 bit_to_coeff-z-requires c =
-    (c.bit_of.ensures.bits, c.requires.lent.below.at c.loop-j.j)
+    (c.bit_of.ensures.bits, c.requires.lent.below.at _)
 
 pub loop-j-preserved : goal.loop-j-preserved
 loop-j-preserved c =
