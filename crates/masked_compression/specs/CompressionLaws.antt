@@ -18,7 +18,7 @@ use Rattle.worksheet.specs.SharingLaws.{Sharing}
 use Rattle.masked_compression.specs.Compression.{fixed_point, fixed_points, masked_compress}
 use Rattle.masked_compression.specs.Compression.{compress_words}
 use Rattle.masked_compression.specs.EntryCounts.{compress_entries}
-use Rattle.masked_adder.specs.AdderLaws.{uses-adder, gives-adder}
+use Rattle.masked_adder.proofs.AdderLaws.{uses-adder, gives-adder}
 
 uses-fixed_points : (d h : ℕ) (x : ℕ → ℕ) → Uses 64 0 0 (fixed_points d h x)
 unfolding entry

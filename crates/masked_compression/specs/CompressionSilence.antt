@@ -19,7 +19,7 @@ use Rattle.worksheet.specs.SharedList.{SharedList, shared_at}
 use Rattle.worksheet.specs.Choice.{Kept, KeptList, chosen, SameShares, SameShare, same_share_at}
 use Rattle.worksheet.specs.PassLaws.{like_entries, silent_entries}
 use Rattle.masked_adder.specs.PlaneSum.{plain_sum, plane_add}
-use Rattle.masked_adder.specs.AdderSilence.{like-adder, coupled-adder, silent-adder}
+use Rattle.masked_adder.proofs.AdderSilence.{like-adder, coupled-adder, silent-adder}
 use Rattle.masked_adder.specs.Adder.{adder}
 use Rattle.masked_adder.specs.EntryCounts.{adder_entries}
 use Rattle.masked_compression.specs.EntryCounts.{compress_entries}

@@ -3,7 +3,7 @@
 use Prim.Native.Nat.{◌+◌}
 use Rattle.words.specs.Fill.{filled_at}
 use Rattle.worksheet.specs.Ran.{bind, over}
-use Rattle.masked_adder.specs.AdderLaws.{adder_cong}
+use Rattle.masked_adder.proofs.AdderLaws.{adder_cong}
 use Rattle.masked_compression.specs.Compression.{masked_compress}
 use Rattle.masked_compression.proofs.masked_compress.Goals as goal
 

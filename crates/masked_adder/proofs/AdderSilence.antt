@@ -21,10 +21,10 @@ use Rattle.worksheet.specs.SharingLaws.{keep, share-keep, keep-bits, keep-xor, k
 use Rattle.masked_adder.specs.Adder.{carry_step, at, mask_planes, carries, sum_planes, adder}
 use Rattle.masked_adder.specs.EntryCounts.{adder_entries, carry_entries}
 use Rattle.masked_adder.specs.PlaneSum.{plain_carry, plain_sum}
-use Rattle.masked_adder.specs.AdderStepsSilence.{like-mask_plane, coupled-mask_plane, silent-mask_plane}
-use Rattle.masked_adder.specs.AdderStepsSilence.{sum_read, carry_read, bits_carry, sum_shares}
-use Rattle.masked_adder.specs.AdderStepsSilence.{like-carry_step, coupled-carry_step, same_at_carry_step}
-use Rattle.masked_adder.specs.AdderStepsSilence.{like-sum_plane, coupled-sum_plane, same_at_sum_plane}
+use Rattle.masked_adder.proofs.AdderStepsSilence.{like-mask_plane, coupled-mask_plane, silent-mask_plane}
+use Rattle.masked_adder.proofs.AdderStepsSilence.{sum_read, carry_read, bits_carry, sum_shares}
+use Rattle.masked_adder.proofs.AdderStepsSilence.{like-carry_step, coupled-carry_step, same_at_carry_step}
+use Rattle.masked_adder.proofs.AdderStepsSilence.{like-sum_plane, coupled-sum_plane, same_at_sum_plane}
 
 module _ (n : ℕ) where
   like-mask_planes : (x x' : ℕ → ℕ) → Like (n * 1) (mask_planes n x) (mask_planes n x')

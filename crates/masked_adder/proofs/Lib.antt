@@ -1,0 +1,3 @@
+pub mod AdderLaws
+pub mod AdderStepsSilence
+pub mod AdderSilence
