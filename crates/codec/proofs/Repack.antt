@@ -31,7 +31,8 @@ pub repacked_start : (a b : ℕ) (s t : List ℕ) → Repacked a b s t 0 0 0 0
 unfolding bits_of digits
 repacked_start a b s t = record { room = omega arith; count = omega arith; below = below_nil (pow_pos b); same = refl }
 
-pub repacked_load : {a b i k n acc : ℕ} {s t : List ℕ} → Repacked a b s t i k n acc → i < length s → get_or s i 0 < 2 ^ a
+pub repacked_load : {a b i k n acc : ℕ} {s t : List ℕ} → Repacked a b s t i k n acc → i < length s
+    → get_or s i 0 < 2 ^ a
     → Repacked a b s t (i + 1) k (n + a) (acc + get_or s i 0 * 2 ^ n)
 repacked_load {a} {b} {i} {k} {n} {acc} {s} {t} r h l =
     let x = get_or s i 0 in

@@ -90,7 +90,8 @@ pub below-byte_decode : (d : ℕ) (b : List ℕ) → length b ≡ 32 * d → Bel
 unfolding byte_decode
 below-byte_decode d b e = below-numbers_of d 256 (length-bits_of 8 b ∙ omega arith) (below-bits_of 8 b)
 
-pub byte_decode-byte_encode : (d : ℕ) (f : List ℕ) → length f ≡ 256 → Below (2 ^ d) f → byte_decode d (byte_encode d f) ≡ f
+pub byte_decode-byte_encode : (d : ℕ) (f : List ℕ) → length f ≡ 256 → Below (2 ^ d) f
+    → byte_decode d (byte_encode d f) ≡ f
 unfolding byte_decode byte_encode
 byte_decode-byte_encode d f e h =
     ap (numbers_of d 256)
@@ -99,10 +100,12 @@ byte_decode-byte_encode d f e h =
     ∙ ap (λ (n : ℕ). numbers_of d n (bits_of d f)) (sym e)
     ∙ numbers_of-bits_of d f h
 
-pub byte_encode-byte_decode : (d : ℕ) (b : List ℕ) → length b ≡ 32 * d → Below 256 b → byte_encode d (byte_decode d b) ≡ b
+pub byte_encode-byte_decode : (d : ℕ) (b : List ℕ) → length b ≡ 32 * d → Below 256 b
+    → byte_encode d (byte_decode d b) ≡ b
 unfolding byte_decode byte_encode
 byte_encode-byte_decode d b e h =
-    ap (numbers_of 8 (32 * d)) (bits_of-numbers_of d 256 (bits_of 8 b) (length-bits_of 8 b ∙ omega arith) (below-bits_of 8 b))
+    ap (numbers_of 8 (32 * d))
+    (bits_of-numbers_of d 256 (bits_of 8 b) (length-bits_of 8 b ∙ omega arith) (below-bits_of 8 b))
     ∙ ap (λ (n : ℕ). numbers_of 8 n (bits_of 8 b)) (sym e)
     ∙ numbers_of-bits_of 8 b h
 

@@ -59,4 +59,5 @@ compress_shares d x₀ x₁ =
 pub decompress_lt : (d y : ℕ) → d ≤ 11 → y < 2 ^ d → decompress d y < q
 unfolding decompress
 decompress_lt d y h g =
-    (div-lt_iff_lt-mul {k = 2 * 2 ^ d} {y = q} (omega (arith, pow_pos d))).1 (omega (arith, pow_mono {i = d} {j = 11} h))
+    (div-lt_iff_lt-mul {k = 2 * 2 ^ d} {y = q} (omega (arith, pow_pos d))).1
+    (omega (arith, pow_mono {i = d} {j = 11} h))

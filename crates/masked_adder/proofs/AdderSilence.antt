@@ -88,7 +88,8 @@ module _ (n : ℕ) {x y x' y' : ℕ → ℕ} (wx : (j : ℕ) → Bits 64 (x j)) 
 
   module _ {d e : ℕ → ℕ} {a b a' b' : List Shares} (ra : Masked d x x' a a') (rb : Masked e y y' b b') where
     kept_carry_step : (q : Bool) (j : ℕ) → j < n - 1 → (c c' : Shares) → KeptCarry q j c c'
-        → Coupled (KeptCarry q (suc j)) carry_entries (carry_step (at a j) (at b j) c) (carry_step (at a' j) (at b' j) c')
+        → Coupled (KeptCarry q (suc j)) carry_entries (carry_step (at a j) (at b j) c)
+        (carry_step (at a' j) (at b' j) c')
     unfolding plain_carry
     kept_carry_step q j h c c' rc =
         let s = ra.at none none j (omega arith) in

@@ -56,7 +56,8 @@ abbrev pub is_zero : ℕ → Bool
 is_zero zero = true
 is_zero (suc n) = false
 
-both_zero : (a b c : ℕ) → (a ≡ 0 → b ≡ 0) → (a ≡ 0 → c ≡ 0) → (b ≡ 0 → c ≡ 0 → a ≡ 0) → is_zero a ≡ is_zero b && is_zero c
+both_zero : (a b c : ℕ) → (a ≡ 0 → b ≡ 0) → (a ≡ 0 → c ≡ 0) → (b ≡ 0 → c ≡ 0 → a ≡ 0)
+    → is_zero a ≡ is_zero b && is_zero c
 both_zero zero zero zero f g h = refl
 both_zero zero (suc b) c f g h = absurd (omega (arith, f refl))
 both_zero zero zero (suc c) f g h = absurd (omega (arith, g refl))

@@ -25,7 +25,8 @@ use Rattle.masked_comparison.specs.HalvesSilence.{KeptHalves, keeping_halves, ha
 abbrev add_word : ℕ → Shares → Shares
 add_word c w = shares (xor w.s0 c) w.s1
 
-kept-add_word : {c : ℕ} (q : Bool) {w w' : Shares} → Bits 64 c → Kept 64 q w w' → Kept 64 q (add_word c w) (add_word c w')
+kept-add_word : {c : ℕ} (q : Bool) {w w' : Shares} → Bits 64 c → Kept 64 q w w'
+    → Kept 64 q (add_word c w) (add_word c w')
 kept-add_word {c} q {w} {w'} b k =
     record {
       both =

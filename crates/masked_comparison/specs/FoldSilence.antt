@@ -47,7 +47,8 @@ module _ (n : ℕ) {c : ℕ → Bool} {w w' : ℕ → Shares} (r : KeptWords (n 
       → SameAt (j * or_entries + i) (fold_or n w) (fold_or n w')
   unfolding fold_or
   same_at_fold_or j i h g p q =
-      same_at_loop (λ j. Kept 64 (or_reads_left i)) n j (λ j h s s'. like-masked_or 64 s _ s' _) (kept_turn (or_reads_left i))
+      same_at_loop (λ j. Kept 64 (or_reads_left i)) n j (λ j h s s'. like-masked_or 64 s _ s' _)
+      (kept_turn (or_reads_left i))
       (rw p at (r.at 0 (omega arith))) h
       (λ s s' k. same_at_masked_or-kept (omega arith) g k (rw q at (r.at (j + 1) (omega arith))))
 

@@ -24,7 +24,8 @@ uses-fixed_points : (d h : ℕ) (x : ℕ → ℕ) → Uses 64 0 0 (fixed_points 
 unfolding entry
 uses-fixed_points d h x = uses-times 64 (λ i. enter_u ret_u)
 
-pub uses-masked_compress : (d : ℕ) (x : ℕ → Shares) → Uses (compress_entries d) (compress_words d) 0 (masked_compress d x)
+pub uses-masked_compress : (d : ℕ) (x : ℕ → Shares)
+    → Uses (compress_entries d) (compress_words d) 0 (masked_compress d x)
 unfolding masked_compress compress_entries
 uses-masked_compress d x =
     uses_recount refl (omega arith) refl

@@ -88,5 +88,6 @@ silent-bit_to_coeff w b b' (suc (suc zero)) h =
     (cond_table (eqb b.s0 0) _ _ w r
     ∙ same_masked (coeff_of w b) (coeff_of w b') r
     ∙ sym (cond_table (eqb b'.s0 0) _ _ w _)) (enter_c (ret_c tt)))))
-silent-bit_to_coeff w b b' (suc (suc (suc zero))) h = under identity (λ r g. there (there (there (here refl (ret_c tt)))))
+silent-bit_to_coeff w b b' (suc (suc (suc zero))) h =
+    under identity (λ r g. there (there (there (here refl (ret_c tt)))))
 silent-bit_to_coeff w b b' (suc (suc (suc (suc i)))) h = absurd (omega arith)

@@ -65,7 +65,8 @@ module _ (n : ℕ) (x x' : ℕ → ℕ) where
 
 coeff_apart_sum_to : (d X X' : ℕ → ℕ) (z z' : ℕ → Shares) (n : ℕ)
     → ((j : ℕ) → j < suc n → CoeffApart q (d j) (X j) (X' j) (z j) (z' j))
-    → CoeffApart q (sum_to d n) (sum_to X n) (sum_to X' n) (shares (sum_to (λ j. (z j).s0) n) (sum_to (λ j. (z j).s1) n))
+    → CoeffApart q (sum_to d n) (sum_to X n) (sum_to X' n)
+    (shares (sum_to (λ j. (z j).s0) n) (sum_to (λ j. (z j).s1) n))
     (shares (sum_to (λ j. (z' j).s0) n) (sum_to (λ j. (z' j).s1) n))
 unfolding sum_to
 coeff_apart_sum_to d X X' z z' zero r = r 0 (omega arith)
@@ -94,7 +95,8 @@ module _ (eta : ℕ) (b b' : ℕ → Shares) where
       Turns (λ j. CoeffApart q (d j) (coeff_of (weight eta j) (b j) % q) (coeff_of (weight eta j) (b' j) % q)) (2 * eta)
 
   converted : (d : ℕ → ℕ)
-      → Coupled (Converted d) (2 * eta * bit_to_coeff_entries) (times (2 * eta) (λ j. bit_to_coeff (weight eta j) (b j)))
+      → Coupled (Converted d) (2 * eta * bit_to_coeff_entries)
+      (times (2 * eta) (λ j. bit_to_coeff (weight eta j) (b j)))
       (times (2 * eta) (λ j. bit_to_coeff (weight eta j) (b' j)))
   converted d = coupled-times (2 * eta) (λ j h. coupled-bit_to_coeff (weight eta j) (b j) (b' j) (d j))
 

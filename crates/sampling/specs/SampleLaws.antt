@@ -67,7 +67,8 @@ module _ (eta : ℕ) (bytes : List ℕ) (e : length bytes ≡ 64 * eta) where
   -- eta bits, from a on
   part_long : (a : ℕ) → a + eta ≤ 512 * eta → length (take eta (drop a (bits_of 8 bytes))) ≡ eta
   part_long a h =
-      length-take eta (drop a (bits_of 8 bytes)) ∙ omega (arith, length-drop a (bits_of 8 bytes), length-bits_of 8 bytes)
+      length-take eta (drop a (bits_of 8 bytes))
+      ∙ omega (arith, length-drop a (bits_of 8 bytes), length-bits_of 8 bytes)
 
   pub sample_poly_cbd-byte_decode : sample_poly_cbd eta bytes ≡ map (centred eta) (byte_decode (2 * eta) bytes)
   unfolding sample_poly_cbd byte_decode

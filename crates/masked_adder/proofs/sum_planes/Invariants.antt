@@ -13,4 +13,5 @@ abbrev pub invariant-loop-i : goal.invariant-loop-i
 invariant-loop-i l = let x = zip l.n (shared_list l.a.s0 l.a.s1) in
     let y = zip l.n (shared_list l.b.s0 l.b.s1) in
     let z = zip l.n (shared_list l.c.s0 l.c.s1) in
-    StoredSharings (λ k ys r. Makes (times k (λ j. sum_plane (at x j) (at y j) (at z j))) l.initial.rec ys r) l.n 24 l.s0 l.s1 l.rec l.i
+    StoredSharings (λ k ys r. Makes (times k (λ j. sum_plane (at x j) (at y j) (at z j))) l.initial.rec ys r)
+    l.n 24 l.s0 l.s1 l.rec l.i

@@ -44,4 +44,9 @@ returns c =
 pub overflow_cast-high : goal.overflow_cast-high
 overflow_cast-high c =
     let eta = c.args.eta in
-    omega (arith, upper eta c.high.ensures c.wide16-2.ensures, upper_lt c.args.v eta c.requires.below, pow_mono {i = eta} {j = 3} c.requires.most)
+    omega (
+      arith,
+      upper eta c.high.ensures c.wide16-2.ensures,
+      upper_lt c.args.v eta c.requires.below,
+      pow_mono {i = eta} {j = 3} c.requires.most,
+    )

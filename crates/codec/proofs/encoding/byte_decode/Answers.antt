@@ -15,7 +15,9 @@ bits : (d : ℕ) {m : ℕ} → m ≡ 256 → d * m ≡ d * 256
 bits d e = ap (λ (m : ℕ). d * m) e
 
 -- where a store has to wait, there is one more byte to load
-more : {d i k n acc : ℕ} (b f : List ℕ) → Repacked 8 d b f i k n acc → length b ≡ 32 * d → length f ≡ 256 → n < d → k < length f
+more : {d i k n acc : ℕ} (b f : List ℕ) → Repacked 8 d b f i k n acc → length b ≡ 32 * d → length f ≡ 256
+    → n < d
+    → k < length f
     → i < length b
 more {d} b f r h e = repacked_more r (omega (arith, bits d e))
 
@@ -51,7 +53,8 @@ loop-k-preserved c = (
 pub returns : goal.returns
 unfolding byte_decode
 returns c =
-    repacked_end c.loop-k.invariant.4 (omega (arith, bits c.args.d c.loop-k.invariant.2)) (omega arith) (omega arith) (omega arith)
+    repacked_end c.loop-k.invariant.4 (omega (arith, bits c.args.d c.loop-k.invariant.2)) (omega arith) (omega arith)
+    (omega arith)
     ∙ ap (λ (m : ℕ). numbers_of c.args.d m (bits_of 8 c.args.b.now)) c.loop-k.invariant.2
 
 pub loop-k-init : goal.loop-k-init
@@ -61,4 +64,8 @@ pub bounds-b-i : goal.bounds-b-i
 bounds-b-i c = more _ _ c.loop-k.invariant.4 c.requires.bytes c.loop-k.invariant.2 c.if-n-d.true c.loop-k-test.true
 
 pub loop-k-smaller-then-n-d : goal.loop-k-smaller-then-n-d
-loop-k-smaller-then-n-d c = omega (arith, more _ _ c.loop-k.invariant.4 c.requires.bytes c.loop-k.invariant.2 c.if-n-d.true c.loop-k-test.true)
+loop-k-smaller-then-n-d c =
+    omega (
+      arith,
+      more _ _ c.loop-k.invariant.4 c.requires.bytes c.loop-k.invariant.2 c.if-n-d.true c.loop-k-test.true,
+    )

@@ -8,7 +8,8 @@ use Rattle.codec.proofs.encoding.byte_decode.Given as goal
 
 -- i bytes read, k numbers written, n bits held
 abbrev pub invariant-loop-k : goal.invariant-loop-k
-invariant-loop-k l = (l.i ≤ length l.b) × (l.k ≤ 256) × (length l.f ≡ 256) × (l.n < 8 + l.d) × Repacked 8 l.d l.b l.f l.i l.k l.n l.acc
+invariant-loop-k l = (l.i ≤ length l.b) × (l.k ≤ 256) × (length l.f ≡ 256) × (l.n < 8 + l.d)
+    × Repacked 8 l.d l.b l.f l.i l.k l.n l.acc
 
 abbrev pub decreases-loop-k : goal.decreases-loop-k
 decreases-loop-k l = length l.b - l.i + (256 - l.k)

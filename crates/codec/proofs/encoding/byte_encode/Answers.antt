@@ -53,17 +53,26 @@ loop-k-preserved c = (
 pub returns : goal.returns
 unfolding byte_encode
 returns c =
-    repacked_end c.loop-k.invariant.4 (omega (arith, bits c.args.d c.requires.polynomial)) c.requires.some (omega arith) (omega arith)
+    repacked_end c.loop-k.invariant.4 (omega (arith, bits c.args.d c.requires.polynomial)) c.requires.some (omega arith)
+    (omega arith)
     ∙ ap (λ (m : ℕ). numbers_of 8 m (bits_of c.args.d c.args.f.now)) (omega arith)
 
 pub loop-k-init : goal.loop-k-init
 loop-k-init c = (omega arith, omega arith, refl, omega arith, repacked_start _ _ _ _)
 
 pub offset_bounds-f-i : goal.offset_bounds-f-i
-offset_bounds-f-i c = omega (arith, more _ _ c.loop-k.invariant.4 c.requires.polynomial (omega arith) c.if-n-lt8.true c.loop-k-test.true)
+offset_bounds-f-i c =
+    omega (
+      arith,
+      more _ _ c.loop-k.invariant.4 c.requires.polynomial (omega arith) c.if-n-lt8.true c.loop-k-test.true,
+    )
 
 pub bounds-f-i : goal.bounds-f-i
 bounds-f-i c = more _ _ c.loop-k.invariant.4 c.requires.polynomial (omega arith) c.if-n-lt8.true c.loop-k-test.true
 
 pub loop-k-smaller-then-n-lt8 : goal.loop-k-smaller-then-n-lt8
-loop-k-smaller-then-n-lt8 c = omega (arith, more _ _ c.loop-k.invariant.4 c.requires.polynomial (omega arith) c.if-n-lt8.true c.loop-k-test.true)
+loop-k-smaller-then-n-lt8 c =
+    omega (
+      arith,
+      more _ _ c.loop-k.invariant.4 c.requires.polynomial (omega arith) c.if-n-lt8.true c.loop-k-test.true,
+    )

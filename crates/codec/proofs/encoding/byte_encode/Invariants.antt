@@ -8,7 +8,8 @@ use Rattle.codec.proofs.encoding.byte_encode.Given as goal
 
 -- i numbers read, k bytes written, n bits held
 abbrev pub invariant-loop-k : goal.invariant-loop-k
-invariant-loop-k l = (l.i ≤ 256) × (l.k ≤ length l.out) × (length l.out ≡ length l.initial.out) × (l.n < 8 + l.d) × Repacked l.d 8 l.f l.out l.i l.k l.n l.acc
+invariant-loop-k l = (l.i ≤ 256) × (l.k ≤ length l.out) × (length l.out ≡ length l.initial.out) × (l.n < 8 + l.d)
+    × Repacked l.d 8 l.f l.out l.i l.k l.n l.acc
 
 abbrev pub decreases-loop-k : goal.decreases-loop-k
 decreases-loop-k l = 256 - l.i + (length l.initial.out - l.k)

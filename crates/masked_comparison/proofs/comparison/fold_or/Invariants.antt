@@ -10,4 +10,6 @@ use Rattle.masked_comparison.proofs.comparison.fold_or.Given as goal
 
 -- j words folded into the first, j masks drawn
 abbrev pub invariant-loop-j : goal.invariant-loop-j
-invariant-loop-j l = (l.j ≤ l.n) × ((cs : List ℕ) → Ran (fold_or l.j (shared_at (shared_list l.w0 l.w1))) l.initial.rec l.ws cs l.acc l.rec (drop l.j l.ws) cs)
+invariant-loop-j l = (l.j ≤ l.n)
+    × ((cs : List ℕ)
+    → Ran (fold_or l.j (shared_at (shared_list l.w0 l.w1))) l.initial.rec l.ws cs l.acc l.rec (drop l.j l.ws) cs)

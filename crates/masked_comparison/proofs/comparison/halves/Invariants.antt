@@ -11,4 +11,5 @@ use Rattle.masked_comparison.proofs.comparison.halves.Given as goal
 -- j times halved, j masks drawn
 abbrev pub invariant-loop-j : goal.invariant-loop-j
 invariant-loop-j l = (l.j ≤ 6)
-    × ((cs : List ℕ) → Ran (loop l.j (λ k. halve (2 ^ (6 - 1 - k))) l.initial.acc) l.initial.rec l.ws cs l.acc l.rec (drop l.j l.ws) cs)
+    × ((cs : List ℕ)
+    → Ran (loop l.j (λ k. halve (2 ^ (6 - 1 - k))) l.initial.acc) l.initial.rec l.ws cs l.acc l.rec (drop l.j l.ws) cs)

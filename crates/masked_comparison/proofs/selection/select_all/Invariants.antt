@@ -10,5 +10,7 @@ use Rattle.masked_comparison.proofs.selection.select_all.Given as goal
 abbrev pub invariant-loop-j : goal.invariant-loop-j
 invariant-loop-j l = StoredSharings
     (λ m ys r.
-    Draws word m (times m (λ i. select l.b (shared_at (shared_list l.x0 l.x1) i) (shared_at (shared_list l.y0 l.y1) i))) l.initial.rec l.ws ys r)
+    Draws word m
+    (times m (λ i. select l.b (shared_at (shared_list l.x0 l.x1) i) (shared_at (shared_list l.y0 l.y1) i)))
+    l.initial.rec l.ws ys r)
     l.n l.n l.out0 l.out1 l.rec l.j

@@ -8,4 +8,5 @@ use Rattle.masked_sampler.proofs.sampler.sum_terms.Given as goal
 
 -- j sums entered
 abbrev pub invariant-loop-j : goal.invariant-loop-j
-invariant-loop-j l = (l.j ≤ l.n) × ((ws cs : List ℕ) → Ran (sums l.j (λ k. get_or l.x k 0)) l.initial.rec ws cs l.s l.rec ws cs)
+invariant-loop-j l = (l.j ≤ l.n)
+    × ((ws cs : List ℕ) → Ran (sums l.j (λ k. get_or l.x k 0)) l.initial.rec ws cs l.s l.rec ws cs)
