@@ -1,46 +1,49 @@
 -- A wrong length is row 1 and a stream that is too short row 7; SampleNTT says which, and leaves out as it was where
 -- it gives up.
-use mathlib.Core.Path.{◌≡◌, refl}
-use mathlib.Core.Bool.{true}
-use mathlib.Core.List.{[], ◌∷◌}
+use mathlib.Core.Path.{◌≡◌, refl, ap}
+use mathlib.Core.Bool.{Bool, not}
+use mathlib.Core.List.{List, [], ◌∷◌}
+use Prim.Native.Nat.{ℕ}
+use lib.ListN.{length}
+use Rattle.refusals.specs.Same.{same}
 use native.Mathlib.Omega.{arith}
 use Rattle.refusals.specs.declared.Answer.TheVariants.{WrongLength}
-use Rattle.refusals.specs.Refusals.{lent, sized}
+use Rattle.refusals.specs.Refusals.{lent}
 use Rattle.refusals.specs.RefusalLaws.{LengthsTested, lengths_tested, row1_refused, row1_sized, row1_exact}
 use Rattle.mlkem.specs.Calls.{sample_answer}
 use Rattle.mlkem.specs.CallLaws.{sample_refused}
 use Rattle.mlkem.proofs.Sampled.{stream-sampled}
 use Rattle.mlkem.proofs.stream.sample.Goals as goal
 
--- ---- needs
-row1 : (c : goal.After-sample_ntt-arg-1)
-    → (let s = c.args in
-    LengthsTested (lent s.stream.now 840 ∷ lent s.out-1.now 256 ∷ []) c.exact.result)
-row1 c = lengths_tested _ c.exact.ensures refl
+-- row 1's test, as `exact` makes it
+row1 : (stream out : List ℕ) {t : Bool}
+    → t ≡ same (length stream ∷ length out ∷ []) (840 ∷ 256 ∷ [])
+    → LengthsTested (lent stream 840 ∷ lent out 256 ∷ []) t
+row1 stream out e = lengths_tested _ e refl
 
 pub returns-then-not-exact : goal.returns-then-not-exact
 unfolding sample_answer
-returns-then-not-exact c = sample_refused WrongLength (omega arith) (row1_refused (row1 c) _ c.if-not-exact.true)
+returns-then-not-exact c =
+    let s = c.args in
+    let r = row1 s.stream.now s.out.now c.exact.ensures in
+    sample_refused WrongLength (omega arith) (row1_refused r _ (ap not c.if-not-exact.true))
 
 pub sample_ntt-requires : goal.sample_ntt-requires
 sample_ntt-requires c =
-    let e = row1_exact (row1 c) c.if-not-exact.false in
+    let s = c.args in
+    let e = row1_exact (row1 s.stream.now s.out.now c.exact.ensures) (ap not c.if-not-exact.false) in
     (e.0, e.1.0)
-
--- the lengths are exact where the stream is sampled
-sized-passed : (c : goal.In-Full)
-    → (let s = c.args in sized (lent s.stream.now 840 ∷ lent s.out-1.now 256 ∷ []) ≡ true)
-sized-passed c = row1_sized (row1 c) c.if-not-exact.false
 
 pub returns-in-Full : goal.returns-in-Full
 returns-in-Full c =
+    let s = c.args in
+    let r = row1 s.stream.now s.out.now c.exact.ensures in
     let n = c.sample_ntt.ensures in
-    stream-sampled c.enum_told-1.given.1 (sized-passed c) n.0 n.1
+    stream-sampled c.in-Full.is (row1_sized r (ap not c.if-not-exact.false)) n.value n.f_after
 
 pub returns-in-Short : goal.returns-in-Short
 returns-in-Short c =
+    let s = c.args in
+    let r = row1 s.stream.now s.out.now c.exact.ensures in
     let n = c.sample_ntt.ensures in
-    stream-sampled c.enum_told-in-Short-1.given.1 (sized-passed c) n.0 n.1
-
--- left: row1 is used at After-sample_ntt-arg-1, In-Full, In-Short, Then-not-exact
--- left: sized-passed is used at In-Full, In-Short
+    stream-sampled c.in-Short.is (row1_sized r (ap not c.if-not-exact.false)) n.value n.f_after
