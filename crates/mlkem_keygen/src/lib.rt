@@ -2,7 +2,7 @@
 #![tactic(auto)]
 
 ghost use Rattle.std.specs.Prelude.{◌++◌, ◌≡◌, ◌+◌, length};
-ghost use Rattle.fips202.specs.Sponge.{sha3-256};
+ghost use Rattle.fips202.specs.Sponge.{sha3_256};
 ghost use Rattle.parameters.specs.Fits.{Fits};
 ghost use Rattle.mlkem.specs.Calls.{KeysMade, KeysMadeBy};
 ghost use Rattle.mlkem.specs.Sized.{KeyGenSized};
@@ -19,7 +19,7 @@ use slices::copy_bytes;
 // Algorithm 16, line 3, what follows K-PKE's key: ek || H(ek) || z.
 fn write_rest(ek: &[u8], z: &[u8], rest: &mut [u8])
     requires { (length z.now ≡ 32) × (length rest.old ≡ length ek.now + 64) }
-    ensures { rest.new ≡ ek.now ++ (sha3-256 ek.now ++ z.now) }
+    ensures { rest.new ≡ ek.now ++ (sha3_256 ek.now ++ z.now) }
 {
     let h = ek.len();
     let e = h + 32;

@@ -1,11 +1,13 @@
 -- The seeds decide row 7, the only row left: a stream that is too short is refused, and else a holds A-hat, from
 -- which the keys are made.
 use mathlib.Core.Path.{◌≡◌, sym, ap, ap₂, ◌∙◌}
+use mathlib.Core.Bool.{Bool}
 use mathlib.Core.List.{List}
 use Prim.Native.Nat.{ℕ}
-use borrow.Author.Tests.{not-true, not-false}
 use native.Mathlib.Omega.{arith}
 use lib.ListN.{take, drop}
+use Rattle.parameters.specs.declared.Edition.{Edition}
+use Rattle.parameters.specs.declared.Parameters.{Parameters}
 use Rattle.kpke.specs.KPke.{matrix_full, ek_from, dk_from}
 use Rattle.kpke.specs.Expanded.{expanded-concat}
 use Rattle.refusals.specs.declared.Answer.TheVariants.{Done, ShortStream}
@@ -17,32 +19,30 @@ use Rattle.mlkem.specs.EditionLaws.{key_gen_ek-seeds, key_gen_dk-seeds}
 use Rattle.mlkem.specs.CallLaws.{keygen_answer, keygen_refused}
 use Rattle.mlkem_keygen.proofs.keygen_in.Goals as goal
 
--- ---- facts
-full_by : (c : goal.After-slice_known-6-1)
-    → (let s = c.args in
-    matrix_full s.p.k (take 32 (seeds s.e s.p s.d.now)) ≡ c.expand.result)
-full_by c =
-    sym (ap (λ (l : List ℕ). matrix_full c.args.p.k (take 32 l)) c.seeds.ensures)
-    ∙ sym c.expand.ensures.answer
+-- row 7's test, as `expand` makes it
+full_by : (e : Edition) (p : Parameters) (d : List ℕ) {g : List ℕ} {t : Bool} → g ≡ seeds e p d
+    → t ≡ matrix_full p.k (take 32 g) → matrix_full p.k (take 32 (seeds e p d)) ≡ t
+full_by e p d f h = sym (ap (λ (l : List ℕ). matrix_full p.k (take 32 l)) f) ∙ sym h
 
 pub returns-then-not-expand : goal.returns-then-not-expand
 returns-then-not-expand c =
-    let row7 = refused ShortStream _ (full_by c ∙ not-true _ c.if-not-expand.true) in
+    let f = full_by c.args.e c.args.p c.args.d.now c.seeds.ensures c.expand.ensures.answer in
+    let row7 = refused ShortStream _ (f ∙ c.if-not-expand.true) in
     keygen_refused c.args.e c.args.p ShortStream (omega arith) _ _ _ _
     (keygen_answer c.args.e c.args.p ShortStream c.requires.sized row7)
 
 pub write_keys-requires : goal.write_keys-requires
 write_keys-requires c =
     let i = c.requires.sized in
-    let t = not-false c.expand.result c.if-not-expand.false in
+    let t = c.if-not-expand.false in
     let whole = expanded-concat c.args.p.k _ (sym c.expand.ensures.answer ∙ t) in
     record {
       fits = c.requires.fits;
       matrix = rw (c.expand.ensures.holds t) whole;
       seeds = omega arith;
       z = i.z;
-      ek = i.ek-1;
-      dk = i.dk-1;
+      ek = i.ek;
+      dk = i.dk;
     }
 
 pub returns : goal.returns
@@ -55,23 +55,10 @@ returns c =
     let ek = ap (λ (l : List ℕ). ek_from p (take 32 l) (drop 32 l)) g in
     let dk = ap (λ (l : List ℕ). dk_from p (drop 32 l)) g in
     let w = c.write_keys.ensures in
-    let rows = passed ShortStream _ (full_by c ∙ not-false _ c.if-not-expand.left) no_row in
+    let f = full_by e p d g c.expand.ensures.answer in
+    let rows = passed ShortStream _ (f ∙ c.if-not-expand.false) no_row in
     record {
       answer = ap number (sym (keygen_answer e p Done c.requires.sized rows));
-      ek = w.ek-1 ∙ ek ∙ sym (key_gen_ek-seeds p d e);
-      dk = w.dk-1 ∙ ap₂ (λ (dk ek : List ℕ). whole_dk dk ek z) dk ek ∙ sym (key_gen_dk-seeds p d e z);
+      ek = w.ek ∙ ek ∙ sym (key_gen_ek-seeds p d e);
+      dk = w.dk ∙ ap₂ (λ (dk ek : List ℕ). whole_dk dk ek z) dk ek ∙ sym (key_gen_dk-seeds p d e z);
     }
-
-pub shape_of-a-then-not-expand : goal.shape_of-a-then-not-expand
-shape_of-a-then-not-expand c = c.expand.auto.a
-
-pub shape_of-a : goal.shape_of-a
-shape_of-a c = c.expand.auto.a
-
-pub shape_of-ek : goal.shape_of-ek
-shape_of-ek c = c.write_keys.auto.ek
-
-pub shape_of-dk : goal.shape_of-dk
-shape_of-dk c = c.write_keys.auto.dk
-
--- left: full_by is used at After-slice_known-6-1, Then-not-expand

@@ -31,9 +31,9 @@ returns c =
     let s = c.args in
     let sigma = part_rest 32 s.g.now in
     let k = c.write_keys.ensures in
-    let ek = k.ek-1 ∙ ap (ek_from s.p (take 32 s.g.now)) sigma in
-    let dk = k.dk-1 ∙ ap (dk_from s.p) sigma in
+    let ek = k.ek ∙ ap (ek_from s.p (take 32 s.g.now)) sigma in
+    let dk = k.dk ∙ ap (dk_from s.p) sigma in
     let r = c.write_rest.ensures ∙ ap (λ (l : List ℕ). l ++ (sha3_256 l ++ s.z.now)) ek in
     let long = ap length r in
     let first = length_encoded 12 s.p.k _ ∙ sym n.ensures in
-    record { ek = ek; dk = two_parts s.dk-1.now n.result first (omega arith) dk r }
+    record { ek = ek; dk = two_parts s.dk.now n.result first (omega arith) dk r }
