@@ -1,12 +1,13 @@
 -- The tests go by the rows that are left: a public key out of range is row 2 and a stream that is too short row 7;
 -- else a holds A-hat, with which the ciphertext is made.
 use mathlib.Core.Path.{◌≡◌, sym, ap, ◌∙◌}
+use mathlib.Core.Bool.{Bool}
 use mathlib.Core.List.{List}
 use Prim.Native.Nat.{ℕ, ◌-◌}
-use borrow.Author.Tests.{not-true, not-false}
 use native.Mathlib.Omega.{arith}
 use lib.ListN.{length, take, drop}
 use Rattle.words.specs.Part.{part_rest}
+use Rattle.parameters.specs.declared.Parameters.{Parameters}
 use Rattle.parameters.specs.Lengths.{vector_bytes}
 use Rattle.vectors.specs.Vector.{concat, coefficients}
 use Rattle.kpke.specs.KPke.{matrix, matrix_full}
@@ -19,79 +20,65 @@ use Rattle.mlkem.specs.Calls.{rho_of}
 use Rattle.mlkem.specs.CallLaws.{encaps_answer_lem, encaps_refused}
 use Rattle.mlkem_encaps.proofs.encaps_in.Goals as goal
 
--- ---- facts
-reduced-by : (c : goal.After-slice_known-6-1)
-    → (let s = c.args in
-    reduced (coefficients s.p.k-1 (take (vector_bytes s.p) s.ek.now)) ≡ c.vector_reduced.result)
-reduced-by c =
-    let n = c.vector_bytes-n in
-    let e : n.result - 0 ≡ vector_bytes c.args.p = omega (arith, n.ensures) in
-    sym (rw e at c.vector_reduced.ensures)
+-- for n, as `vector_bytes` answers
+module _ (p : Parameters) (ek : List ℕ) {n : ℕ} (f : n ≡ vector_bytes p) where
+  -- row 2's test, as `vector_reduced` makes it
+  reduced_by : {t : Bool} → t ≡ reduced (coefficients p.k (take (n - 0) (drop 0 ek)))
+      → reduced (coefficients p.k (take (vector_bytes p) ek)) ≡ t
+  reduced_by h = let e : n - 0 ≡ vector_bytes p = omega arith in sym (rw e at h)
 
--- what is lent as rho
-rho-by : (c : goal.After-slice_known-6-1)
-    → (let s = c.args in
-    let n = c.vector_bytes-n.result in
-    take (length s.ek.now - n) (drop n s.ek.now) ≡ rho_of s.p s.ek.now)
-rho-by c =
-    let n = c.vector_bytes-n in
-    let ek = c.args.ek.now in
-    part_rest n.result ek ∙ ap (λ (m : ℕ). drop m ek) n.ensures
+  -- what is lent as rho
+  rho_by : take (length ek - n) (drop n ek) ≡ rho_of p ek
+  rho_by = part_rest n ek ∙ ap (λ (m : ℕ). drop m ek) f
 
-full_by : (c : goal.After-slice_known-6-1)
-    → (let s = c.args in
-    matrix_full s.p.k-1 (rho_of s.p s.ek.now) ≡ c.expand.result)
-full_by c =
-    sym (ap (matrix_full c.args.p.k-1) (rho-by c)) ∙ sym c.expand.ensures.answer
+  -- row 7's test, as `expand` makes it
+  full_by : {t : Bool} → t ≡ matrix_full p.k (take (length ek - n) (drop n ek)) → matrix_full p.k (rho_of p ek) ≡ t
+  full_by h = sym (ap (matrix_full p.k) rho_by) ∙ sym h
 
--- ---- needs
 pub returns-then-not-vector_reduced : goal.returns-then-not-vector_reduced
 returns-then-not-vector_reduced c =
-    let row2 = refused PublicKeyRange _ (reduced-by c ∙ not-true _ c.if-not-vector_reduced.true) in
-    encaps_refused c.args.e c.args.p PublicKeyRange (omega arith) _ _ _ _
-    (encaps_answer_lem c.args.p PublicKeyRange c.requires.sized row2)
+    let s = c.args in
+    let d = reduced_by s.p s.ek.now c.vector_bytes-n.ensures c.vector_reduced.ensures in
+    let row2 = refused PublicKeyRange _ (d ∙ c.if-not-vector_reduced.true) in
+    encaps_refused s.e s.p PublicKeyRange (omega arith) _ _ _ _
+    (encaps_answer_lem s.p PublicKeyRange c.requires.sized row2)
 
 pub returns-then-not-expand : goal.returns-then-not-expand
 returns-then-not-expand c =
-    let row7 = refused ShortStream _ (full_by c ∙ not-true _ c.if-not-expand.true) in
-    let row2 = passed PublicKeyRange _ (reduced-by c ∙ not-false _ c.if-not-vector_reduced.false) row7 in
-    encaps_refused c.args.e c.args.p ShortStream (omega arith) _ _ _ _
-    (encaps_answer_lem c.args.p ShortStream c.requires.sized row2)
+    let s = c.args in
+    let n = c.vector_bytes-n.ensures in
+    let d = reduced_by s.p s.ek.now n c.vector_reduced.ensures in
+    let f = full_by s.p s.ek.now n c.expand.ensures.answer in
+    let row7 = refused ShortStream _ (f ∙ c.if-not-expand.true) in
+    let row2 = passed PublicKeyRange _ (d ∙ c.if-not-vector_reduced.false) row7 in
+    encaps_refused s.e s.p ShortStream (omega arith) _ _ _ _
+    (encaps_answer_lem s.p ShortStream c.requires.sized row2)
 
 pub write_secret-requires : goal.write_secret-requires
 write_secret-requires c =
-    let k = c.args.p.k-1 in
-    let t = not-false _ c.if-not-expand.false in
-    let by-rho = ap (λ (l : List ℕ). concat k (λ i. concat k (matrix l i))) (rho-by c) in
-    let e = c.expand.ensures.holds t ∙ by-rho in
+    let s = c.args in
+    let n = c.vector_bytes-n.ensures in
+    let k = s.p.k in
+    let t = c.if-not-expand.false in
+    let f = full_by s.p s.ek.now n c.expand.ensures.answer in
+    let by_rho = ap (λ (l : List ℕ). concat k (λ i. concat k (matrix l i))) (rho_by s.p s.ek.now n) in
+    let e = c.expand.ensures.holds t ∙ by_rho in
     record {
       fits = c.requires.fits;
-      matrix = rw e (expanded-concat k (rho_of c.args.p c.args.ek.now) (full_by c ∙ t));
+      matrix = rw e (expanded-concat k (rho_of s.p s.ek.now) (f ∙ t));
       sized = c.requires.sized;
     }
 
 pub returns : goal.returns
 returns c =
-    let row7 = passed ShortStream _ (full_by c ∙ not-false _ c.if-not-expand.left) no_row in
-    let rows = passed PublicKeyRange _ (reduced-by c ∙ not-false _ c.if-not-vector_reduced.left) row7 in
+    let s = c.args in
+    let n = c.vector_bytes-n.ensures in
+    let d = reduced_by s.p s.ek.now n c.vector_reduced.ensures in
+    let f = full_by s.p s.ek.now n c.expand.ensures.answer in
+    let row7 = passed ShortStream _ (f ∙ c.if-not-expand.false) no_row in
+    let rows = passed PublicKeyRange _ (d ∙ c.if-not-vector_reduced.false) row7 in
     record {
-      answer = ap number (sym (encaps_answer_lem c.args.p Done c.requires.sized rows));
-      ct = c.write_secret.ensures.ct-1;
-      k = c.write_secret.ensures.k-1;
+      answer = ap number (sym (encaps_answer_lem s.p Done c.requires.sized rows));
+      ct = c.write_secret.ensures.ct;
+      k = c.write_secret.ensures.k;
     }
-
-pub shape_of-a-then-not-expand : goal.shape_of-a-then-not-expand
-shape_of-a-then-not-expand c = c.expand.auto.a
-
-pub shape_of-a : goal.shape_of-a
-shape_of-a c = c.expand.auto.a
-
-pub shape_of-ct : goal.shape_of-ct
-shape_of-ct c = c.write_secret.auto.ct
-
-pub shape_of-k : goal.shape_of-k
-shape_of-k c = c.write_secret.auto.k
-
--- left: reduced-by is used at After-slice_known-6-1, Then-not-expand, Then-not-vector_reduced
--- left: rho-by is used at After-slice_known-6-1, After-write_secret-arg-2-1, Then-not-expand
--- left: full_by is used at After-slice_known-6-1, After-write_secret-arg-2-1, Then-not-expand

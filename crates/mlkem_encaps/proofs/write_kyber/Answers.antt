@@ -15,13 +15,7 @@ returns c =
     let ek = s.ek.now in
     let m = s.m.now in
     let e = c.hash_h.ensures in
-    let ct = c.write_mlkem.ensures.ct-1 ∙ ap (encaps_ct MlKem p ek) e in
-    let first = c.write_mlkem.ensures.k-1 ∙ ap (encaps_key MlKem p ek) e in
+    let ct = c.write_mlkem.ensures.ct ∙ ap (encaps_ct MlKem p ek) e in
+    let first = c.write_mlkem.ensures.k ∙ ap (encaps_key MlKem p ek) e in
     let k = c.hash_kdf.ensures ∙ ap₂ (λ (k ct : List ℕ). J (k ++ H ct)) first ct in
     record { ct = ct ∙ sym (encaps_ct_hashed p ek m); k = k ∙ sym (encaps_key_hashed p ek m) }
-
-pub shape_of-ct : goal.shape_of-ct
-shape_of-ct c = c.write_mlkem.auto.ct
-
-pub shape_of-k : goal.shape_of-k
-shape_of-k c = c.hash_kdf.auto.out

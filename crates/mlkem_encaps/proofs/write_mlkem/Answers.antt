@@ -16,13 +16,7 @@ unfolding encaps_key encaps_ct fips203.encaps_key fips203.encaps_ct
 returns c =
     let s = c.args in
     let e = c.hash_g.ensures ∙ ap (λ (l : List ℕ). sha3_512 (s.m.now ++ l)) c.hash_h.ensures in
-    let digest = c.hash_g.last.1.1.0 in
+    let digest = c.hash_g.new.out in
     let coins = take_all 32 (drop 32 digest) (omega (arith, length-drop 32 digest)) ∙ ap (drop 32) e in
     let by-coins = ap (encrypt s.p s.ek.now s.m.now) coins in
-    record { c = c.encrypt.ensures ∙ by-coins; c = c.copy_bytes.ensures ∙ ap (take 32) e }
-
-pub shape_of-ct : goal.shape_of-ct
-shape_of-ct c = c.encrypt.auto.ct
-
-pub shape_of-k : goal.shape_of-k
-shape_of-k c = c.copy_bytes.auto.out
+    record { ct = c.encrypt.ensures ∙ by-coins; k = c.copy_bytes.ensures ∙ ap (take 32) e }
