@@ -16,4 +16,4 @@ unfolding xor
 returns c =
     let a = c.args in
     bits_across a.o.now a.s a.n (omega arith) c.requires.most
-    (c.shared_slice_known-1.given (a.s / 64)).fits
+    (c.type_inv.o (a.s / 64)).fits

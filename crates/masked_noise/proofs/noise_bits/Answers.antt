@@ -10,24 +10,20 @@ use Rattle.masked_fips202.specs.MaskedWords.{masked_shake256_words, shake256_mas
 use Rattle.stages.proofs.HashedInput.{hash_masks, hash_ran}
 use Rattle.masked_noise.proofs.noise_bits.Goals as goal
 
--- ---- the hash of any input to as many words as are lent, and its masks
-abbrev words : goal.After-masked_shake256_words-arg-2-1 → List ℕ → List ℕ → Prog SharedList
-words s b0 b1 = masked_shake256_words b0 b1 (length s.args.o0-1.now)
+-- the hash of any input to n words, and its masks
+abbrev words : ℕ → List ℕ → List ℕ → Prog SharedList
+words n b0 b1 = masked_shake256_words b0 b1 n
 
-abbrev masks : goal.After-masked_shake256_words-arg-2-1 → ℕ → ℕ
-masks s k = shake256_mask_words k (length s.args.o0-1.now)
+abbrev masks : ℕ → ℕ → ℕ
+masks n k = shake256_mask_words k n
 
--- ---- facts
 pub masked_shake256_words-requires : goal.masked_shake256_words-requires
 masked_shake256_words-requires c =
     let g = c.requires in
-    let m = hash_masks g (words c) (masks c) refl c.with_public.ensures in
+    let m = hash_masks g (words (length c.args.o0.now)) (masks (length c.args.o0.now)) refl c.with_public.ensures in
     record { inputs = omega arith; outputs = sym g.out.long1; masks = rw m g.words }
 
 pub returns : goal.returns
 returns c cs =
-    hash_ran c.requires (words c) (masks c) refl c.with_public.ensures c.with_zeros.ensures
+    hash_ran c.requires (words (length c.args.o0.now)) (masks (length c.args.o0.now)) refl c.with_public.ensures c.with_zeros.ensures
     (c.masked_shake256_words.ensures cs)
-
--- left: words is used at After-masked_shake256_words-arg-2-1, After-slice_known-4-1
--- left: masks is used at After-masked_shake256_words-arg-2-1, After-slice_known-4-1

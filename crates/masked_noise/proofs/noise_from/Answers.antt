@@ -1,7 +1,7 @@
 -- The bits are hashed from the coins and n, and then sampled: noisePoly's two halves, each with the masks of its own
 -- strip.
-use mathlib.Core.Path.{refl, sym, ◌∙◌}
-use Prim.Native.Nat.{◌*◌, ◌≤◌}
+use mathlib.Core.Path.{◌≡◌, refl, sym, ◌∙◌}
+use Prim.Native.Nat.{ℕ, ◌*◌, ◌≤◌}
 use lib.ListN.{length, drop}
 use Rattle.worksheet.specs.Ran.{bind, over}
 use Rattle.worksheet.specs.Sharing.{none}
@@ -13,23 +13,9 @@ use Rattle.stages.specs.Worksheet.{noise_poly}
 use native.Mathlib.Omega.{arith}
 use Rattle.masked_noise.proofs.noise_from.Goals as goal
 
--- ---- slices: the bits that the hash leaves, and the coefficients that the sampling does
-abbrev bits : goal.After-noise_bits-arg-2-1 → SharedList
-bits c = shared_list c.noise_bits-rec.new.o0 c.noise_bits-rec.new.o1
-
-abbrev sampled : goal.After-slice_known-8-1 → SharedList
-sampled c = shared_list c.sample_all.new.f0 c.sample_all.new.f1
-
--- ---- facts
-bits-long : (c : goal.After-sample_all-arg-2-1) → Long (8 * c.args.eta) (bits c)
-bits-long c =
-    let b = c.requires.bits in
-    record { long0 = c.noise_bits-rec.auto.o0 ∙ b.long0; long1 = c.noise_bits-rec.auto.o1 ∙ b.long1 }
-
-sampled-long : (c : goal.After-slice_known-8-1) → Long 256 (sampled c)
-sampled-long c =
-    let f = c.requires.noise.out in
-    record { long0 = c.sample_all.auto.f0 ∙ f.long0; long1 = c.sample_all.auto.f1 ∙ f.long1 }
+-- what a call leaves is as long as what it was lent
+kept : {n : ℕ} {x l : SharedList} → length x.s0 ≡ length l.s0 → length x.s1 ≡ length l.s1 → Long n l → Long n x
+kept a b l = record { long0 = a ∙ l.long0; long1 = b ∙ l.long1 }
 
 pub noise_bits-rec-requires : goal.noise_bits-rec-requires
 unfolding noise_words
@@ -50,7 +36,7 @@ sample_all-requires c =
       width = g.width;
       convert =
           record {
-            input = bits-long c;
+            input = kept c.noise_bits-rec.auto.o0 c.noise_bits-rec.auto.o1 c.requires.bits;
             coeffs = record { enough = omega (arith, g.coeffs.enough); below = g.coeffs.below };
             out = g.out;
           };
@@ -59,9 +45,8 @@ sample_all-requires c =
 pub returns : goal.returns
 unfolding noise_poly noise_words
 returns c =
-    let l = sampled-long c in
+    let o = c.sample_all in
+    let l : Long 256 (shared_list o.new.f0 o.new.f1) = kept o.auto.f0 o.auto.f1 c.requires.noise.out in
     bind _ (rw c.requires.bits.long0 at (c.noise_bits-rec.ensures c.args.cs.now))
     (bind _ (c.sample_all.ensures (drop (noise_words c.args.eta) c.args.ws.now))
-    (rw (unzip-zip 256 (sampled c) none l.long0 l.long1) over))
-
--- left: bits is used at After-noise_bits-arg-2-1, After-sample_all-arg-2-1, After-slice_known-8-1
+    (rw (unzip-zip 256 (shared_list o.new.f0 o.new.f1) none l.long0 l.long1) over))

@@ -10,6 +10,3 @@ use Rattle.masked_noise.proofs.noise_polys.Given as goal
 abbrev pub invariant-loop-i : goal.invariant-loop-i
 invariant-loop-i l = Written (λ t. t) (OnBoth (λ j. noise_poly l.eta (shared_list l.r0 l.r1) (l.n + j)) l.words l.coeffs l.k l.initial.rec l.ws l.cs) 256 l.k
     l.f0 l.f1 l.rec l.i
-
-abbrev pub decreases-loop-i : goal.decreases-loop-i
-decreases-loop-i l = l.k - l.i

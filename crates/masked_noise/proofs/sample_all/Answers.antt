@@ -1,5 +1,5 @@
 -- Turn i samples coefficient i with the next 2 eta masks and stores it.
-use Prim.Native.Nat.{◌+◌, ◌-◌, ◌*◌, ◌≤◌}
+use Prim.Native.Nat.{ℕ, ◌+◌, ◌-◌, ◌*◌, ◌≤◌}
 use mathlib.Core.Path.{◌≡◌}
 use native.Mathlib.Nat.{mul-zero}
 use native.Mathlib.Omega.{arith}
@@ -10,18 +10,15 @@ use Rattle.worksheet.specs.RanLoops.{times_start, times_turn}
 use Rattle.worksheet.specs.StoredSharings.{sharings_start, sharings_turn, sharings_end}
 use Rattle.stages.specs.Counts.{noise_coeffs}
 use Rattle.stages.specs.LentLaws.{masks_rest}
+use Rattle.worksheet.specs.SharedList.{SharedList}
+use Rattle.masked_noise.specs.Lent.{SampleInput}
+use mathlib.Core.List.{List}
 use Rattle.masked_noise.proofs.sample_all.Goals as goal
 
--- ---- facts
 -- there are 2 eta masks for each of the 256 coefficients
-coeffs-all : (s : goal.In-loop-i) → 2 * s.args.eta * 256 ≤ length s.args.cs.now
+coeffs-all : {eta : ℕ} {o f : SharedList} {cs : List ℕ} → SampleInput eta o cs f → 2 * eta * 256 ≤ length cs
 unfolding noise_coeffs
-coeffs-all s = omega (arith, s.requires.convert.coeffs.enough)
-
--- a turn's masks are among them
-among : (c : goal.After-sample_one-arg-1)
-    → (let n = 2 * c.args.eta in n * c.loop-i.i + n ≤ n * 256)
-among c = part_fits (2 * c.args.eta) c.loop-i-test.true
+coeffs-all g = omega (arith, g.convert.coeffs.enough)
 
 pub sample_one-o-requires : goal.sample_one-o-requires
 unfolding noise_coeffs
@@ -30,7 +27,7 @@ sample_one-o-requires c =
     let n = 2 * c.args.eta in
     record {
       bits = record { width = g.width; number = c.loop-i-test.true; input = g.convert.input };
-      coeffs = masks_rest (n * c.loop-i.i) n (omega (arith, among c)) g.convert.coeffs;
+      coeffs = masks_rest (n * c.loop-i.i) n (omega (arith, part_fits (2 * c.args.eta) c.loop-i-test.true)) g.convert.coeffs;
     }
 
 pub loop-i-preserved : goal.loop-i-preserved
@@ -53,15 +50,13 @@ pub loop-i-init : goal.loop-i-init
 loop-i-init c = sharings_start (omega arith) (omega arith) (omega arith) (λ ws. rw mul-zero (times_start _))
 
 pub overflow_mul-k-in-loop-i : goal.overflow_mul-k-in-loop-i
-overflow_mul-k-in-loop-i c = omega (arith, among c)
+overflow_mul-k-in-loop-i c = omega (arith, part_fits (2 * c.args.eta) c.loop-i-test.true)
 
 pub offset_bounds-cs-k : goal.offset_bounds-cs-k
-offset_bounds-cs-k c = omega (arith, among c)
+offset_bounds-cs-k c = omega (arith, part_fits (2 * c.args.eta) c.loop-i-test.true)
 
 pub slice_bounds-sample_one-count : goal.slice_bounds-sample_one-count
-slice_bounds-sample_one-count c = omega (arith, among c, coeffs-all c)
+slice_bounds-sample_one-count c = omega (arith, part_fits (2 * c.args.eta) c.loop-i-test.true, coeffs-all c.requires)
 
 pub slice_bounds-sample_one-start : goal.slice_bounds-sample_one-start
-slice_bounds-sample_one-start c = omega (arith, among c, coeffs-all c)
-
--- left: among is used at After-sample_one-arg-1, In-loop-i
+slice_bounds-sample_one-start c = omega (arith, part_fits (2 * c.args.eta) c.loop-i-test.true, coeffs-all c.requires)

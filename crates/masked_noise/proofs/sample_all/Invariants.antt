@@ -15,6 +15,3 @@ invariant-loop-i l = StoredSharings
     Draws coeff (2 * l.eta * m) (times m (λ k. sampler l.eta (λ j. string_bit (shared_list l.o0 l.o1) (2 * l.eta * k + j))))
     l.initial.rec l.cs ys r)
     256 256 l.f0 l.f1 l.rec l.i
-
-abbrev pub decreases-loop-i : goal.decreases-loop-i
-decreases-loop-i l = 256 - l.i
