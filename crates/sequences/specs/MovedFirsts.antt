@@ -206,7 +206,10 @@ module _ {p : Parameters} {public : List ℕ} (limit : ℕ) where
       (λ b.
       (leaves_all (cond b (key_state (fresh_key key mc mw) limit 0) (key_state key limit m)) calls).count
       ≡ (leaves_all (cond b (key_state (fresh_key key' mc mw) limit 0) (key_state key' limit m)) calls).count)
-      (λ e. count_looks (fresh_looks k mc mw) (fresh_looks k' mc mw) 0 calls) (λ e. count_looks k k' m calls)
+      (λ e.
+      count_looks {key = fresh_key key mc mw} {key' = fresh_key key' mc mw} (fresh_looks k mc mw)
+      (fresh_looks k' mc mw) 0 calls)
+      (λ e. count_looks k k' m calls)
 
 -- ---- import's splits
 
