@@ -8,7 +8,7 @@ reencryption_check_in-requires c =
     let e = c.word_count-n.ensures in (
       c.requires,
       record {
-        long0 = length_front _ e.0 (omega (arith, e.0, e.1));
-        long1 = length_front _ e.0 (omega (arith, e.0, e.1));
+        long0 = length_front _ e.value (omega (arith, e.value, e.upper_bound));
+        long1 = length_front _ e.value (omega (arith, e.value, e.upper_bound));
       },
     )

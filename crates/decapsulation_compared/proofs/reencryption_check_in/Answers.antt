@@ -13,33 +13,25 @@ use Rattle.decapsulation_compared.specs.ReencryptionCheck.{reencryption_check}
 use Rattle.decapsulation_compared.proofs.LentParts.{coins_part, coins_long}
 use Rattle.decapsulation_compared.proofs.reencryption_check_in.Goals as goal
 
-abbrev start : goal.After-masked_encrypt-arg-4-1 → goal.After-masked_encrypt-arg-4-1
-start c = c
-
--- ---- facts
-encrypt-of : (c : goal.After-slice_known-5-1) → c.encrypt_words-w.result ≡ encrypt_words c.args.p
-encrypt-of c = c.encrypt_words-w.ensures.0
-
 pub masked_encrypt-rec-requires : goal.masked_encrypt-rec-requires
 masked_encrypt-rec-requires c =
-    let s = start c in
-    let i = s.requires.0 in
+    let i = c.requires.0 in
     record {
       fits = i.fits;
       key = i.key;
       message = i.message;
-      coins = coins_long s.args.g0.now s.args.g1.now i.hashed;
+      coins = coins_long c.args.g0.now c.args.g1.now i.hashed;
       words = omega (arith, i.words);
       coeffs = i.coeffs;
-      out = s.requires.1;
+      out = c.requires.1;
     }
 
 -- the planes that encryption leaves
 planes-long : (c : goal.After-stage8-arg-2-1)
-    → Long (word_count (start c).args.p)
+    → Long (word_count c.args.p)
     (shared_list c.masked_encrypt-rec.new.planes0 c.masked_encrypt-rec.new.planes1)
 planes-long c =
-    let o = (start c).requires.1 in
+    let o = c.requires.1 in
     record { long0 = c.masked_encrypt-rec.auto.planes0 ∙ o.long0; long1 = c.masked_encrypt-rec.auto.planes1 ∙ o.long1 }
 
 pub stage8-requires : goal.stage8-requires
@@ -51,7 +43,7 @@ stage8-requires c =
       planes = planes-long c;
       words =
           length_rest _ (stage8_words c.args.p) c.args.ws.now
-          (omega (arith, i.words, encrypt-of c));
+          (omega (arith, i.words, c.encrypt_words-w.ensures.value));
     }
 
 pub returns : goal.returns
@@ -64,7 +56,7 @@ returns c =
           (rw (coins_part a.g0.now a.g1.now c.requires.0.hashed) at
           c.masked_encrypt-rec.ensures)
           (bind _
-          (part_from a.ws.now (encrypt-of c) (stage8_words a.p)
+          (part_from a.ws.now c.encrypt_words-w.ensures.value (stage8_words a.p)
           (c.stage8.ensures.ran (drop (encrypt_coeffs a.p) a.cs.now)))
           over);
       bit0 = c.stage8.ensures.bit0;
@@ -78,13 +70,10 @@ pub slice_bounds-masked_encrypt-end-2 : goal.slice_bounds-masked_encrypt-end-2
 slice_bounds-masked_encrypt-end-2 c = omega (arith, c.requires.0.hashed.long1)
 
 pub offset_bounds-ws-w : goal.offset_bounds-ws-w
-offset_bounds-ws-w c = record { fits = omega (arith, c.encrypt_words-w.ensures.1) }
+offset_bounds-ws-w c = record { fits = omega (arith, c.encrypt_words-w.ensures.upper_bound) }
 
 pub slice_bounds-stage8-count : goal.slice_bounds-stage8-count
-slice_bounds-stage8-count c = omega (arith, c.requires.0.words, encrypt-of c)
+slice_bounds-stage8-count c = omega (arith, c.requires.0.words, c.encrypt_words-w.ensures.value)
 
 pub slice_bounds-stage8-start : goal.slice_bounds-stage8-start
-slice_bounds-stage8-start c = omega (arith, c.requires.0.words, encrypt-of c)
-
--- left: start is used at After-masked_encrypt-arg-4-1, After-stage8-arg-2-1
--- left: encrypt-of is used at After-slice_known-5-1, After-stage8-arg-1, After-stage8-arg-2-1
+slice_bounds-stage8-start c = omega (arith, c.requires.0.words, c.encrypt_words-w.ensures.value)
