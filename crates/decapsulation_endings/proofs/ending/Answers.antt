@@ -27,15 +27,15 @@ module _ {e f : Edition} (told : e ≡ f) where
 
 -- ---- needs
 pub mlkem_ending-requires : goal.mlkem_ending-requires
-mlkem_ending-requires c = input-told c.enum_told-1.given.1 c.requires
+mlkem_ending-requires c = input-told c.in-MlKem.is c.requires
 
 pub kyber_ending-requires : goal.kyber_ending-requires
-kyber_ending-requires c = input-told c.enum_told-in-Kyber-1.given.1 c.requires
+kyber_ending-requires c = input-told c.in-Kyber.is c.requires
 
 pub returns-in-MlKem : goal.returns-in-MlKem
 returns-in-MlKem c cs =
-    ran-told c.enum_told-1.given.1 _ _ _ _ (c.mlkem_ending.ensures cs)
+    ran-told c.in-MlKem.is _ _ _ _ (c.mlkem_ending.ensures cs)
 
 pub returns-in-Kyber : goal.returns-in-Kyber
 returns-in-Kyber c cs =
-    ran-told c.enum_told-in-Kyber-1.given.1 _ _ _ _ (c.kyber_ending.ensures cs)
+    ran-told c.in-Kyber.is _ _ _ _ (c.kyber_ending.ensures cs)

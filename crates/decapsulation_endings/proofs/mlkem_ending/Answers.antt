@@ -2,7 +2,8 @@
 use mathlib.Core.Path.{◌≡◌, refl, ap}
 use Prim.Native.Nat.{ℕ, ◌+◌, ◌≤◌}
 use native.Mathlib.Omega.{arith}
-use lib.ListN.{length}
+use Rattle.parameters.specs.declared.Parameters.{Parameters}
+use Rattle.parameters.specs.Lengths.{ct_bytes}
 use Rattle.parameters.specs.declared.Edition.TheVariants.{MlKem}
 use Rattle.parameters.specs.Largest.{ct_bytes_most}
 use Rattle.worksheet.specs.Ran.{bind}
@@ -14,19 +15,16 @@ use Rattle.stages.proofs.Strips.{part_from}
 use Rattle.decapsulation_endings.proofs.mlkem_ending.Goals as goal
 
 -- ---- facts
-words_of : (s : goal.After-rejected1-1) → ending_words MlKem s.args.p ≡ stage9_words s.args.p + 4
+words_of : (p : Parameters) → ending_words MlKem p ≡ stage9_words p + 4
 unfolding ending_words
-words_of s = refl
+words_of p = refl
 
-masks : (s : goal.After-rejected1-1) → stage9_words s.args.p + 4 ≤ length s.args.ws.now
-masks s = omega (arith, s.requires.words, words_of s)
-
-stage9-of : (c : goal.After-rejected1-3-1) → c.stage9_words-w.result ≡ stage9_words c.args.p
-stage9-of c = c.stage9_words-w.ensures.0
+masks : (p : Parameters) {n : ℕ} → ending_words MlKem p ≤ n → stage9_words p + 4 ≤ n
+masks p h = rw (words_of p) at h
 
 -- z and the whole ciphertext are hashed
-hashed-words : (s : goal.After-rejected1-1) → shake256_mask_words (32 + length s.args.c.now) 4 ≡ stage9_words s.args.p
-hashed-words s = ap (λ (n : ℕ). shake256_mask_words (32 + n) 4) s.requires.ct
+hashed-words : (p : Parameters) {n : ℕ} → n ≡ ct_bytes p → shake256_mask_words (32 + n) 4 ≡ stage9_words p
+hashed-words p e = ap (λ (n : ℕ). shake256_mask_words (32 + n) 4) e
 
 pub masked_j-rec-requires : goal.masked_j-rec-requires
 masked_j-rec-requires c =
@@ -34,7 +32,7 @@ masked_j-rec-requires c =
       hash = record {
         input = c.requires.z;
         public = refl;
-        words = omega (arith, masks c, hashed-words c);
+        words = omega (arith, masks c.args.p c.requires.words, hashed-words c.args.p c.requires.ct);
         out = record { long0 = omega arith; long1 = omega arith };
       };
       most = omega (arith, c.requires.ct, ct_bytes_most c.requires.fits);
@@ -49,7 +47,7 @@ stage10-requires c =
       x1 = omega (arith, g.long1);
       y0 = omega (arith, c.masked_j-rec.auto.out0);
       y1 = omega (arith, c.masked_j-rec.auto.out1);
-      masks = length_rest _ 4 c.args.ws.now (omega (arith, masks c, stage9-of c));
+      masks = length_rest _ 4 c.args.ws.now (omega (arith, masks c.args.p c.requires.words, c.stage9_words-w.ensures.value));
       out0 = c.requires.out.long0;
       out1 = c.requires.out.long1;
     }
@@ -57,17 +55,12 @@ stage10-requires c =
 pub returns : goal.returns
 unfolding ending
 returns c cs =
-    rw (words_of c)
-    (bind _ (rw (hashed-words c) at (c.masked_j-rec.ensures cs))
-    (part_from c.args.ws.now (stage9-of c) 4 (c.stage10.ensures cs)))
+    rw (words_of c.args.p)
+    (bind _ (rw (hashed-words c.args.p c.requires.ct) at (c.masked_j-rec.ensures cs))
+    (part_from c.args.ws.now c.stage9_words-w.ensures.value 4 (c.stage10.ensures cs)))
 
 pub slice_bounds-stage10-count : goal.slice_bounds-stage10-count
-slice_bounds-stage10-count c = omega (arith, masks c, stage9-of c)
+slice_bounds-stage10-count c = omega (arith, masks c.args.p c.requires.words, c.stage9_words-w.ensures.value)
 
 pub slice_bounds-stage10-start : goal.slice_bounds-stage10-start
-slice_bounds-stage10-start c = omega (arith, masks c, stage9-of c)
-
--- left: words_of is used at After-rejected1-1, After-slice_known-4-1, After-stage10-arg-3-1
--- left: masks is used at After-rejected1-1, After-rejected1-3-1, After-stage10-arg-3-1
--- left: stage9-of is used at After-rejected1-3-1, After-slice_known-4-1, After-stage10-arg-3-1
--- left: hashed-words is used at After-rejected1-1, After-slice_known-4-1
+slice_bounds-stage10-start c = omega (arith, masks c.args.p c.requires.words, c.stage9_words-w.ensures.value)

@@ -1,39 +1,25 @@
 -- Stages 1 to 8 draw their words and all coefficients, and the ending the other words.
 use mathlib.Core.Path.{◌≡◌, refl, ◌∙◌}
-use Prim.Native.Nat.{◌+◌}
+use Prim.Native.Nat.{ℕ, ◌+◌}
 use native.Mathlib.Omega.{arith}
-use lib.ListN.{length, drop}
+use lib.ListN.{drop}
 use Rattle.worksheet.specs.Ran.{bind}
-use Rattle.worksheet.specs.SharedList.{SharedList, shared_list}
+use Rattle.parameters.specs.declared.Edition.{Edition}
+use Rattle.parameters.specs.declared.Parameters.{Parameters}
 use Rattle.stages.specs.Counts.{encrypt_coeffs, compared_words, ending_words, strip_words, strip_coeffs}
 use Rattle.stages.specs.Worksheet.{worksheet}
-use Rattle.stages.specs.Lent.{Long}
 use Rattle.stages.proofs.StoredRun.{length_rest}
 use Rattle.stages.proofs.Strips.{part_from}
 use Rattle.decapsulation_run.proofs.worksheet_run.run.Goals as goal
 
 -- ---- facts
--- stage 3's words, as stages 1 to 8 leave them
-abbrev hashed : goal.After-ending-arg-5-1 → SharedList
-hashed c = shared_list c.compared-b.new.g0 c.compared-b.new.g1
-
-hashed-long : (c : goal.After-ending-arg-5-1) → Long 8 (hashed c)
-hashed-long c =
-    record { long0 = omega (arith, c.compared-b.auto.g0); long1 = omega (arith, c.compared-b.auto.g1) }
-
 -- the words of the two parts, one behind the other
-words_of : (s : goal.After-ending-arg-5-1)
-    → strip_words s.args.e s.args.p ≡ compared_words s.args.p + ending_words s.args.e s.args.p
+words_of : (e : Edition) (p : Parameters) → strip_words e p ≡ compared_words p + ending_words e p
 unfolding strip_words
-words_of s = refl
+words_of e p = refl
 
-masks : (s : goal.After-ending-arg-5-1)
-    → length s.args.ws.now ≡ compared_words s.args.p + ending_words s.args.e s.args.p
-masks s = s.requires.input.words ∙ words_of s
-
--- what is counted
-compared-of : (c : goal.After-ending-arg-5-1) → c.compared_words-w.result ≡ compared_words c.args.p
-compared-of c = c.compared_words-w.ensures.0
+masks : (e : Edition) (p : Parameters) {n : ℕ} → n ≡ strip_words e p → n ≡ compared_words p + ending_words e p
+masks e p h = h ∙ words_of e p
 
 pub compared-b-requires : goal.compared-b-requires
 unfolding strip_coeffs
@@ -46,22 +32,21 @@ compared-b-requires c =
       public = k.public;
       matrix = p.matrix;
       ct = p.input.ct;
-      words = omega (arith, masks c);
+      words = omega (arith, masks c.args.e c.args.p c.requires.input.words);
       coeffs = record { enough = omega (arith, p.input.coeffs); below = p.range };
       out = record { long0 = omega arith; long1 = omega arith };
     }
 
 pub ending-requires : goal.ending-requires
 ending-requires c =
-    let g = hashed-long c in
     let k = c.requires.input.key in
     record {
       fits = c.requires.fits;
       bit = record { bit0 = c.compared-b.ensures.bit0; bit1 = c.compared-b.ensures.bit1 };
-      hashed = record { long0 = omega (arith, g.long0); long1 = omega (arith, g.long1) };
+      hashed = record { long0 = omega (arith, c.compared-b.auto.g0); long1 = omega (arith, c.compared-b.auto.g1) };
       z = record { long0 = k.z0; long1 = k.z1 };
       ct = c.requires.input.ct;
-      words = length_rest _ _ c.args.ws.now (omega (arith, masks c, compared-of c));
+      words = length_rest _ _ c.args.ws.now (omega (arith, masks c.args.e c.args.p c.requires.input.words, c.compared_words-w.ensures.value));
       out = c.requires.out;
     }
 
@@ -69,23 +54,18 @@ pub returns : goal.returns
 unfolding worksheet strip_coeffs
 returns c =
     let rest = drop (encrypt_coeffs c.args.p) c.args.cs.now in
-    rw (words_of c)
+    rw (words_of c.args.e c.args.p)
     (bind _ (c.compared-b.ensures.ran _)
-    (part_from c.args.ws.now (compared-of c) (ending_words c.args.e c.args.p) (c.ending.ensures rest)))
+    (part_from c.args.ws.now c.compared_words-w.ensures.value (ending_words c.args.e c.args.p) (c.ending.ensures rest)))
 
 pub slice_bounds-ending-end : goal.slice_bounds-ending-end
-slice_bounds-ending-end c = omega (arith, (hashed-long c).long0)
+slice_bounds-ending-end c = omega (arith, c.compared-b.auto.g0)
 
 pub slice_bounds-ending-end-2 : goal.slice_bounds-ending-end-2
-slice_bounds-ending-end-2 c = omega (arith, (hashed-long c).long1)
+slice_bounds-ending-end-2 c = omega (arith, c.compared-b.auto.g1)
 
 pub slice_bounds-ending-count : goal.slice_bounds-ending-count
-slice_bounds-ending-count c = omega (arith, masks c, compared-of c)
+slice_bounds-ending-count c = omega (arith, masks c.args.e c.args.p c.requires.input.words, c.compared_words-w.ensures.value)
 
 pub slice_bounds-ending-start : goal.slice_bounds-ending-start
-slice_bounds-ending-start c = omega (arith, masks c, compared-of c)
-
--- left: hashed-long is used at After-ending-arg-5-1, After-g0-3-1, After-g1-3-1
--- left: words_of is used at After-ending-arg-5-1, After-g1-1, After-slice_known-4-1
--- left: masks is used at After-ending-arg-5-1, After-g1-1, After-g1-3-1
--- left: compared-of is used at After-ending-arg-5-1, After-g1-3-1, After-slice_known-4-1
+slice_bounds-ending-start c = omega (arith, masks c.args.e c.args.p c.requires.input.words, c.compared_words-w.ensures.value)
