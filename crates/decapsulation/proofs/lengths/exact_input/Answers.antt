@@ -14,5 +14,5 @@ returns c =
     a.coeffs.now in
     sym
     (lengths_tested (lengths a.e a.p g) c.exact.ensures
-    (wanted a.e a.p g c.ek_bytes-h.ensures c.ct_bytes.ensures c.strip_words-w.ensures.0
-    c.strip_coeffs.ensures.0)).is
+    (wanted a.e a.p g c.ek_bytes-h.ensures c.ct_bytes.ensures c.strip_words-w.ensures.value
+    c.strip_coeffs.ensures.value)).is
