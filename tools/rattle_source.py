@@ -8,8 +8,29 @@ A tree is a tuple: ("num", text), ("name", n), ("path", text), ("call", path, ar
 import re
 
 TOKEN = re.compile(r"0x[0-9a-f_]+(?:u\d+|usize)?|\d[\d_]*(?:u\d+|usize)?|[A-Za-z_]\w*|::|->|<<|>>|\.\.=?|[-+*/%^&|=!<>]=|&&|\|\||[^\s\w]")
-CONTRACT = re.compile(r"\b(?:requires|ensures)\s*\{.*?⌝\s*\}", re.S)
+CONTRACT = re.compile(r"\b(?:requires|ensures)(?:\s+\w+)?\s*\{")
+STRING = re.compile(r'"(?:[^"\\\n]|\\.)*"')
+# what the program asks of the runtime: files, streams and arguments
+OUTSIDE = re.compile(r"^pub trait \w+[^{;]*\{|^impl \w+ for HostRuntime \{", re.M)
 LEVELS = [["||"], ["&&"], ["==", "!=", "<", ">", "<=", ">="], ["|"], ["^"], ["&"], ["<<", ">>"], ["+", "-"], ["*", "/", "%"]]
+
+
+def code(text):
+    """The text without comments, ghost imports, clauses, what stands in strings and what is asked of the runtime."""
+    text = STRING.sub('""', re.sub(r"^ghost use [^;]*;", "", re.sub(r"//[^\n]*", "", text), flags=re.M))
+    while m := CONTRACT.search(text) or OUTSIDE.search(text):
+        depth, end = 1, m.end()
+        while depth:
+            depth += {"{": 1, "}": -1}.get(text[end], 0)
+            end += 1
+        text = text[: m.start()] + text[end:]
+    return text
+
+
+def imported(text):
+    """The paths of the use items, a group's one by one."""
+    for path, group in re.findall(r"^(?:pub )?use ([\w:]+?)(?:::\{([^{}]*)\})?;", text, flags=re.M):
+        yield from [f"{path}::{name}" if name != "self" else path for name in re.findall(r"\w+", group)] or [path]
 
 
 class Function:
@@ -21,9 +42,7 @@ class Function:
 
 class Parser:
     def __init__(self, text, where):
-        text = re.sub(r"//[^\n]*", "", text)
-        text = re.sub(r"^ghost use [^;]*;", "", text, flags=re.M)
-        self.tokens, self.at, self.where = TOKEN.findall(CONTRACT.sub("", text)), 0, where
+        self.tokens, self.at, self.where = TOKEN.findall(code(text)), 0, where
 
     def next(self, ahead=0):
         return self.tokens[self.at + ahead] if self.at + ahead < len(self.tokens) else ""
@@ -45,6 +64,8 @@ class Parser:
         """The text up to one of `ends`, brackets whole."""
         out, depth = [], 0
         while depth or self.next() not in ends:
+            if not self.next():
+                raise SystemExit(f"{self.where}: {' or '.join(ends)} expected before the end")
             token = self.take()
             depth += (token in "([{") - (token in ")]}")
             out.append(token)
@@ -241,14 +262,14 @@ class Source:
         names, inner = self.names.setdefault("::".join(here), {}), self.modules.setdefault("::".join(here), set())
         for name in re.findall(r"^(?:pub(?:\(crate\))? )?mod (\w+);", text, flags=re.M):
             inner.add(name)
-        for path in re.findall(r"^(?:pub )?use ([\w:]+);", text, flags=re.M):
+        for path in imported(text):
             first, *rest = path.split("::")
             start = [crate] if first == "crate" else here + [first] if first in inner else [first]
             names[path.split("::")[-1]] = "::".join(start + rest)
         for name in re.findall(r"^\s*(?:pub(?:\(crate\))? )?(?:struct|enum|type|const) (\w+)", text, flags=re.M):
             self.types.add("::".join(here + [name]))
             names[name] = "::".join(here + [name])
-        if re.search(r"^\s*impl\b", text, flags=re.M):
+        if re.search(r"^\s*impl\b", code(text), flags=re.M):
             raise SystemExit(f"{file}: methods aren't followed yet")
         parser = Parser(text, file)
         while parser.next():
