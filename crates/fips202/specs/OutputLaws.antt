@@ -41,7 +41,8 @@ words_bytes rate suffix m n h d =
     let l = rate / 8 in
     let s = absorbed rate (padded rate suffix m) in
     let p = byte_place rate x h d in
-    rw (get_or-tab n (λ i. get_or (iterate (i / l) (λ _. keccak_p) s) (i % l) 0) (x / 8) 0 (omega arith), p.0, p.1, p.2))
+    let word : ℕ → ℕ = λ i. get_or (iterate (i / l) (λ _. keccak_p) s) (i % l) 0 in
+    rw (get_or-tab n word (x / 8) 0 (omega arith), p.0, p.1, p.2))
 
 pub sha3_512_bytes : (m : List ℕ) → tab 64 (byte_of (sha3_512_words m)) ≡ sha3_512 m
 unfolding sha3_512_words sha3_512

@@ -1,6 +1,7 @@
 -- FIPS 202, sections 4 to 6, on bytes. A byte's lowest bit comes first (appendix B.1), so byte j of the state is byte
 -- j % 8 of lane j / 8.
-use Rattle.std.specs.Prelude.{List, [], ◌∷◌, ◌++◌, ℕ, zero, suc, ◌+◌, ◌-◌, ◌*◌, ◌/◌, ◌%◌, ◌^◌, get_or, length, take, drop, replicate}
+use Rattle.std.specs.Prelude.{ℕ, zero, suc, ◌+◌, ◌-◌, ◌*◌, ◌/◌, ◌%◌, ◌^◌}
+use Rattle.std.specs.Prelude.{List, [], ◌∷◌, ◌++◌, get_or, length, take, drop, replicate}
 use Rattle.words.specs.Word.{xor}
 use Rattle.words.specs.Tab.{tab}
 use Rattle.words.specs.Iterate.{iterate}

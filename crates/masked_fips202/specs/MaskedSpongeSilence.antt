@@ -53,7 +53,8 @@ module _ (lanes n : ℕ) (l : 0 < lanes) (u : lanes ≤ 25) where
 
   kept_word : (c : ℕ → Bool) (s s' : SharedList) {t t' : List SharedList}
       → Turns (λ k. LanesApart (state_words c k)) (suc permutes) t t' → (i : ℕ) → i < n
-      → Kept 64 (c i) (shared_at (get_or t (i / lanes) s) (i % lanes)) (shared_at (get_or t' (i / lanes) s') (i % lanes))
+      → Kept 64 (c i) (shared_at (get_or t (i / lanes) s) (i % lanes))
+      (shared_at (get_or t' (i / lanes) s') (i % lanes))
   kept_word c s s' r i h =
       rw (← ap c (div-add-mod' i lanes))
       (kept_lane (λ j. c (i / lanes * lanes + j)) (r.at s s' (i / lanes) (state_lt i h)) (i % lanes)
@@ -113,8 +114,8 @@ module _ (rate suffix len : ℕ) (h : suffix < 128) (l : 8 ≤ rate) (u : rate �
       lane : {p : List ℕ} (i j : ℕ) → Below 256 p → Bits 64 (lane_of (take rate (drop (i * rate) p)) j)
       lane i j b = lane_of-bits (below-take rate (below-drop (i * rate) b)) j
 
-  masked_absorb_stage : Stage (λ (e : Unit {0}). Any) LanesApart (blocks_entries (rate / 8) (input_blocks rate len)) absorb
-      absorb
+  masked_absorb_stage :
+      Stage (λ (e : Unit {0}). Any) LanesApart (blocks_entries (rate / 8) (input_blocks rate len)) absorb absorb
   unfolding masked_absorb blocks_of
   masked_absorb_stage =
       let s = masked_blocks-stage (rate / 8) (input_blocks rate len) (omega arith) in

@@ -26,7 +26,8 @@ uses-start = uses_map _ (uses-times {e = 0} {w = 1} {c = 0} 25 (λ i. word_u (λ
 
 uses-mix_lanes : (n : ℕ) (b : ℕ → Shares) (s : SharedList) → Uses (n * xor_entries) 0 0 (mix_lanes n b s)
 unfolding mix_lanes
-uses-mix_lanes n b s = uses_recount refl (mul-zero n) (mul-zero n) (uses_map _ (uses-times n (λ j. uses-masked_xor _ _)))
+uses-mix_lanes n b s =
+    uses_recount refl (mul-zero n) (mul-zero n) (uses_map _ (uses-times n (λ j. uses-masked_xor _ _)))
 
 pub uses-masked_blocks : (lanes n : ℕ) (b : ℕ → ℕ → Shares)
     → Uses (blocks_entries lanes n) (hash_mask_words n) 0 (masked_blocks lanes n b)
@@ -36,13 +37,14 @@ uses-masked_blocks lanes n b =
     (uses_bind uses-start (λ s. uses-loop n s (λ i t. uses_bind (uses-mix_lanes lanes (b i) t) uses-masked_keccak_p)))
 
 uses-masked_absorb : (rate suffix : ℕ) (in0 in1 : List ℕ)
-    → Uses (blocks_entries (rate / 8) (input_blocks rate (length in0))) (hash_mask_words (input_blocks rate (length in0))) 0
-    (masked_absorb rate suffix in0 in1)
+    → Uses (blocks_entries (rate / 8) (input_blocks rate (length in0)))
+    (hash_mask_words (input_blocks rate (length in0))) 0 (masked_absorb rate suffix in0 in1)
 unfolding masked_absorb
 uses-masked_absorb rate suffix in0 in1 = uses-masked_blocks (rate / 8) (input_blocks rate (length in0)) _
 
 pub uses-masked_squeeze : (lanes n : ℕ) (s : SharedList)
-    → Uses (further_blocks lanes n * keccak_p_entries) (further_blocks lanes n * keccak_p_words) 0 (masked_squeeze lanes n s)
+    → Uses (further_blocks lanes n * keccak_p_entries) (further_blocks lanes n * keccak_p_words) 0
+    (masked_squeeze lanes n s)
 unfolding masked_squeeze
 uses-masked_squeeze lanes n s =
     uses_recount refl refl (mul-zero (further_blocks lanes n))

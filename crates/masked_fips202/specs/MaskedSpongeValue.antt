@@ -1,6 +1,8 @@
 -- Right: what the sponge on two shares gives joins to the sponge of the joined message, whatever masks are drawn.
-use Rattle.std.specs.Prelude.{◌≡◌, refl, cond, List, [], ℕ, suc, ◌+◌, ◌*◌, ◌/◌, ◌%◌, ◌^◌, ◌<◌, ◌≤◌, ltb, length, get_or, drop, replicate}
-use Rattle.std.proofs.Common.{sym, ap, ap₂, ◌∙◌, lt-ltb, le-ltb, mod-lt, mul-div_cancel, div-mul-le_self, add-one, arith}
+use Rattle.std.specs.Prelude.{◌≡◌, refl, cond, ℕ, suc, ◌+◌, ◌*◌, ◌/◌, ◌%◌, ◌^◌, ◌<◌, ◌≤◌, ltb}
+use Rattle.std.specs.Prelude.{List, [], length, get_or, drop, replicate}
+use Rattle.std.proofs.Common.{sym, ap, ap₂, ◌∙◌, lt-ltb, le-ltb, arith}
+use Rattle.std.proofs.Common.{mod-lt, mul-div_cancel, div-mul-le_self, add-one}
 use Rattle.std.proofs.Math.Decide.{dec_lt}
 use Rattle.std.proofs.Math.Nat.{lt-div-mul-add}
 use Rattle.std.proofs.Math.ListN.{take}
@@ -78,7 +80,8 @@ gives-mix_lanes n {b} p {l} {s} h r f g =
     go : (z : List Shares) → Each (λ j. Sharing 64 (xor (get_or l j 0) (lane_of p j))) n z
         → (j : ℕ) → j < 25 → Dec (j < n) → Sharing 64 (xor (get_or l j 0) (lane_of p j)) (lane z j)
     go z t j k (yes q) = rw (lt-ltb j n q) (t.at none j q)
-    go z t j k (no q) = rw (le-ltb j n (omega arith), g j (omega arith), xor_zero (get_or l j 0)) ((state_lanes r).at j k)
+    go z t j k (no q) =
+        rw (le-ltb j n (omega arith), g j (omega arith), xor_zero (get_or l j 0)) ((state_lanes r).at j k)
 
 -- n blocks b, the shares of the lanes of the blocks p
 gives-masked_blocks : (lanes n : ℕ) {b : ℕ → ℕ → Shares} (p : ℕ → List ℕ) → lanes ≤ 25
@@ -224,7 +227,8 @@ module _ {in0 in1 : List ℕ} (e : length in0 ≡ length in1) (b0 : Below 256 in
   gives-masked_shake256_words n = gives-sponge_words (message_to shake256_fits) n
 
   -- in bytes
-  gives_masked_sha3_512 : Gives (λ z. joined_list z ≡ sha3_512 (joined_list (shared_list in0 in1))) (masked_sha3_512 in0 in1)
+  gives_masked_sha3_512 :
+      Gives (λ z. joined_list z ≡ sha3_512 (joined_list (shared_list in0 in1))) (masked_sha3_512 in0 in1)
   unfolding masked_sha3_512 sha3_512
   gives_masked_sha3_512 = gives-masked_hash (message_to sha3_512_fits) 64
 

@@ -23,7 +23,8 @@ pub enters_start : {n : ℕ} {l : List ℕ} {r : Recorder} → length l ≡ n �
 enters_start e = record { within = omega arith; long = e; makes = λ ws cs. times_start _ }
 
 pub enters_turn : {n : ℕ} {l : List ℕ} {i : ℕ} {r r' r'' : Recorder}
-    → EntersFirst n l i r r' → i < n → Makes (entry (get_or l i 0)) r' (get_or l i 0) r'' → EntersFirst n l (i + 1) r r''
+    → EntersFirst n l i r r' → i < n → Makes (entry (get_or l i 0)) r' (get_or l i 0) r''
+    → EntersFirst n l (i + 1) r r''
 enters_turn {l = l} {i = i} a h m =
     let g : i < length l = omega (arith, a.long) in
     let e = take-suc l i 0 g in

@@ -35,5 +35,6 @@ masked_chi_rows s = do
   ret (p ++ (q ++ (r ++ (t ++ u))))
 
 pub masked_chi_rows_lem : (s : SharedList) → masked_chi s ≡ masked_chi_rows s
-unfolding masked_chi masked_chi_rows masked_chi_row chi_lane times loop ◌>>=◌ mask mask_low entry masked_not masked_and masked_xor
+unfolding masked_chi masked_chi_rows masked_chi_row chi_lane times loop ◌>>=◌ mask mask_low entry masked_not masked_and
+    masked_xor
 masked_chi_rows_lem s = refl

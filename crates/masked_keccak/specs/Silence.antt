@@ -56,7 +56,8 @@ unfolding unzip
 with_constant-suc k c i h =
     let f : ℕ → Shares = λ j. get_or c j none in
     ap₂ shares
-    (get_or-set_other (tab 25 (λ j. (f j).s0)) 0 (suc i) _ 0 (λ e. omega arith) ∙ get_or-tab 25 (λ j. (f j).s0) (suc i) 0 h)
+    (get_or-set_other (tab 25 (λ j. (f j).s0)) 0 (suc i) _ 0 (λ e. omega arith)
+    ∙ get_or-tab 25 (λ j. (f j).s0) (suc i) 0 h)
     (get_or-tab 25 (λ j. (f j).s1) (suc i) 0 h)
 
 -- the lanes X with k in lane 0
@@ -73,7 +74,8 @@ iota_at_bits i {X} b = record { at = go }
 
 apart_iota : {k : ℕ} {e X X' : ℕ → ℕ} {c c' : List Shares} → Bits 64 k
     → Turns (λ j. Apart 64 (e j) (X j) (X' j)) 25 c c' → (j : ℕ) → j < 25
-    → Apart 64 (e j) (iota_at k X j) (iota_at k X' j) (shared_at (with_constant k c) j) (shared_at (with_constant k c') j)
+    → Apart 64 (e j) (iota_at k X j) (iota_at k X' j) (shared_at (with_constant k c) j)
+    (shared_at (with_constant k c') j)
 apart_iota {k} {c = c} {c' = c'} b t zero h =
     rw (with_constant_zero k c, with_constant_zero k c') (apart-xor_public b (t.at none none 0 h))
 apart_iota {k} {c = c} {c' = c'} b t (suc j) h =

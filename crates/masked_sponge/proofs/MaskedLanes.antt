@@ -61,7 +61,8 @@ mixing_start h e0 e1 =
       rest1 = λ k g. refl;
     }
 
-pub mixing_turn : {n : ℕ} {b : ℕ → Shares} {s : SharedList} {j : ℕ} {r r' r'' : Recorder} {l0 l1 : List ℕ} {v w : Shares}
+pub mixing_turn : {n : ℕ} {b : ℕ → Shares} {s : SharedList} {j : ℕ} {r r' r'' : Recorder} {l0 l1 : List ℕ}
+    {v w : Shares}
     → Mixing n b s j r r' l0 l1 → j < n → w ≡ b j → Makes (masked_xor (shared_at (shared_list l0 l1) j) w) r' v r''
     → Mixing n b s (j + 1) r r'' (set l0 j v.s0) (set l1 j v.s1)
 mixing_turn {j = j} {l0 = l0} {l1 = l1} {v = v} a h e m =

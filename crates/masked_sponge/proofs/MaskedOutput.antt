@@ -176,7 +176,8 @@ module _ {read : Reading} {per n : ℕ} {s₀ : SharedList} {r₀ : Recorder} {w
       → out0' ≡ given read s.s0 (i * per) (i * per + per) out0
       → out1' ≡ given read s.s1 (i * per) (i * per + per) out1
       → ((cs : List ℕ)
-      → Ran (masked_keccak_p s) r (drop (keccak_p_words * i) ws) cs t r' (drop (keccak_p_words * i + keccak_p_words) ws) cs)
+      → Ran (masked_keccak_p s) r (drop (keccak_p_words * i) ws) cs t r'
+      (drop (keccak_p_words * i + keccak_p_words) ws) cs)
       → Squeezing read per n s₀ r₀ ws (i + 1) t r' out0' out1'
   squeezing_turn {t} {r'} h w0 w1 p =
       let b = more (i * per + per) (block_lent (le_refl per) h) w0 w1 in
@@ -188,7 +189,11 @@ module _ {read : Reading} {per n : ℕ} {s₀ : SharedList} {r₀ : Recorder} {w
         long1 = (b []).given1.filled.long;
         blocks = λ cs.
             rw next
-            record { ran = loop_turn _ _ i (b cs).ran (rw e at (p cs)); given0 = (b cs).given0; given1 = (b cs).given1 };
+            record {
+              ran = loop_turn _ _ i (b cs).ran (rw e at (p cs));
+              given0 = (b cs).given0;
+              given1 = (b cs).given1;
+            };
       }
 
   -- behind the last permutation, m of them, the state gives the rest
@@ -209,12 +214,14 @@ module _ {per n : ℕ} {s₀ : SharedList} {r₀ : Recorder} {ws : List ℕ} {i 
     {o0 o1 o0' o1' : List ℕ} where
   pub words_end : Squeezing lane per n s₀ r₀ ws i s r o0 o1 → 0 < per → m ≡ further_blocks per n → m ≤ i
       → o0' ≡ given lane s.s0 (m * per) n o0 → o1' ≡ given lane s.s1 (m * per) n o1 → (cs : List ℕ)
-      → Ran (masked_squeeze per n s₀) r₀ ws cs (shared_list o0' o1') r (drop (keccak_p_words * further_blocks per n) ws) cs
+      → Ran (masked_squeeze per n s₀) r₀ ws cs (shared_list o0' o1') r
+      (drop (keccak_p_words * further_blocks per n) ws) cs
   words_end a h e f w0 w1 cs =
       let b = squeezed a h e f w0 w1 cs in
       rw (b.all0, b.all1) (words_ran per n s₀ h b.ran)
 
-  pub bytes_end : Squeezing byte_of per n s₀ r₀ ws i s r o0 o1 → 0 < per → per % 8 ≡ 0 → m ≡ further_blocks per n → m ≤ i
+  pub bytes_end : Squeezing byte_of per n s₀ r₀ ws i s r o0 o1 → 0 < per → per % 8 ≡ 0 → m ≡ further_blocks per n
+      → m ≤ i
       → o0' ≡ given byte_of s.s0 (m * per) n o0 → o1' ≡ given byte_of s.s1 (m * per) n o1 → (cs : List ℕ)
       → Ran (squeeze_bytes (per / 8) n s₀) r₀ ws cs (shared_list o0' o1') r
       (drop (keccak_p_words * further_blocks per n) ws) cs

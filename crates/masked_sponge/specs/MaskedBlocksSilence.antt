@@ -79,7 +79,8 @@ mixed_lane : (n : ℕ) (b : ℕ → Shares) (s : SharedList) (z : List Shares)
     ≡ xor_shares (shared_at s j) (block_lane n b j)
 mixed_lane n b s z e j h = shared_at-unzip 25 _ j h ∙ go (ltb j n) refl
   where
-    go : (c : Bool) → ltb j n ≡ c → cond c (get_or z j none) (shared_at s j) ≡ xor_shares (shared_at s j) (cond c (b j) none)
+    go : (c : Bool) → ltb j n ≡ c
+        → cond c (get_or z j none) (shared_at s j) ≡ xor_shares (shared_at s j) (cond c (b j) none)
     go true q = e j (ltb-true j n q)
     go false q = sym (ap₂ shares (xor_zero _) (xor_zero _))
 

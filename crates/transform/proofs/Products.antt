@@ -17,7 +17,8 @@ use Rattle.transform.specs.MultiplyLaws.{add_pair, get_or-multiply_ntts_even, ge
 pub pair_calls : (s f g : List ℕ) (i : ℕ) {z t x y : ℕ} → z ≡ gamma i → t ≡ get_or g (2 * i + 1) 0 * z % q
     → x ≡ (get_or s (2 * i) 0 + (get_or f (2 * i) 0 * get_or g (2 * i) 0 + get_or f (2 * i + 1) 0 * t) % q) % q
     → y
-    ≡ (get_or s (2 * i + 1) 0 + (get_or f (2 * i) 0 * get_or g (2 * i + 1) 0 + get_or f (2 * i + 1) 0 * get_or g (2 * i) 0) % q)
+    ≡ (get_or s (2 * i + 1) 0
+    + (get_or f (2 * i) 0 * get_or g (2 * i + 1) 0 + get_or f (2 * i + 1) 0 * get_or g (2 * i) 0) % q)
     % q
     → set (set s (2 * i) x) (2 * i + 1) y ≡ add_pair f g i s
 pair_calls s f g i ez et ex ey =

@@ -53,7 +53,8 @@ module _ {h : ℕ → ℕ → ℕ} (c : Combination h) where
 
   -- of the coefficients a and b
   pub combination_at : (f g : List ℕ) (a b : ℕ) → length f ≡ length g
-      → h (get_or (add f g) a 0) (get_or (add f g) b 0) ≡ (h (get_or f a 0) (get_or f b 0) + h (get_or g a 0) (get_or g b 0)) % q
+      → h (get_or (add f g) a 0) (get_or (add f g) b 0)
+      ≡ (h (get_or f a 0) (get_or f b 0) + h (get_or g a 0) (get_or g b 0)) % q
   combination_at f g a b e = ap₂ h (get_or_add f g a e) (get_or_add f g b e) ∙ combination_add _ _ _ _
 
 -- ---- maps made of linear maps

@@ -117,7 +117,8 @@ pair_left f g h i e =
     let b1 = get_or h (2 * i + 1) 0 in
     pair_add (left0 b0 b1 (gamma i)) (left1 b0 b1) f g i e
 
-pair_right : (f g h : List ℕ) (i : ℕ) → length g ≡ length h → pair_of f (add g h) i ≡ add (pair_of f g i) (pair_of f h i)
+pair_right : (f g h : List ℕ) (i : ℕ) → length g ≡ length h
+    → pair_of f (add g h) i ≡ add (pair_of f g i) (pair_of f h i)
 pair_right f g h i e =
     let a0 = get_or f (2 * i) 0 in
     let a1 = get_or f (2 * i + 1) 0 in
@@ -134,4 +135,5 @@ module _ (f g h : List ℕ) where
       → multiply_ntts f (add g h) ≡ add (multiply_ntts f g) (multiply_ntts f h)
   unfolding multiply_ntts
   multiply_ntts-add_right e =
-      pairs_add 128 (pair_of f (add g h)) (pair_of f g) (pair_of f h) (λ i. refl) (λ i. refl) (λ i. pair_right f g h i e)
+      pairs_add 128 (pair_of f (add g h)) (pair_of f g) (pair_of f h) (λ i. refl) (λ i. refl)
+      (λ i. pair_right f g h i e)

@@ -44,7 +44,8 @@ ntt f = iterate 7 (λ l. layer (2 ^ l) (2 ^ (7 - l))) f
 -- lines 8 to 10: with t = f[j], f[j] becomes t + f[j + len], and f[j + len] becomes z (f[j + len] - t)
 unfoldable pub inverse_butterfly : ℕ → ℕ → ℕ → List ℕ → List ℕ
 inverse_butterfly z len j f =
-    set (set f j ((get_or f j 0 + get_or f (j + len) 0) % q)) (j + len) (z * minus (get_or f (j + len) 0) (get_or f j 0) % q)
+    set (set f j ((get_or f j 0 + get_or f (j + len) 0) % q)) (j + len)
+    (z * minus (get_or f (j + len) 0) (get_or f j 0) % q)
 
 -- lines 7 to 11
 unfoldable pub inverse_block : ℕ → ℕ → ℕ → List ℕ → List ℕ
@@ -67,7 +68,8 @@ base_case_multiply a0 a1 b0 b1 γ = (a0 * b0 + a1 * b1 * γ) % q ∷ (a0 * b1 + 
 -- pair i of f times g
 abbrev pub pair_of : List ℕ → List ℕ → ℕ → List ℕ
 pair_of f g i =
-    base_case_multiply (get_or f (2 * i) 0) (get_or f (2 * i + 1) 0) (get_or g (2 * i) 0) (get_or g (2 * i + 1) 0) (gamma i)
+    base_case_multiply (get_or f (2 * i) 0) (get_or f (2 * i + 1) 0) (get_or g (2 * i) 0) (get_or g (2 * i + 1) 0)
+    (gamma i)
 
 -- Algorithm 11, MultiplyNTTs: the 128 pairs, one after the other
 unfoldable pub multiply_ntts : List ℕ → List ℕ → List ℕ

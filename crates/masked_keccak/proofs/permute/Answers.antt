@@ -8,7 +8,6 @@ use Rattle.worksheet.specs.RanLoops.{loop_start, loop_turn}
 use Rattle.masked_keccak.specs.MaskedKeccak.{masked_keccak_p, round_words}
 use Rattle.masked_keccak.proofs.permute.Goals as goal
 
--- ---- facts
 pub round-o-requires : goal.round-o-requires
 round-o-requires c =
     let a = c.loop-i in

@@ -14,14 +14,15 @@ use Rattle.masked_keccak.specs.SharedRows.{shared_state}
 use Rattle.masked_keccak.proofs.permute.Given as goal
 
 -- i rounds done, from the state s and the recorder r to t and r'
-pub record Rounds (constants ws : List ℕ) (s : SharedList) (r : Recorder) (i : ℕ) (t : SharedList) (r' : Recorder) : Type 0
-  where
-    pub within : i ≤ 24
-    pub table : constants ≡ tab 24 constant
-    pub ran : (cs : List ℕ) → Ran (loop i masked_round s) r ws cs t r' (drop (round_words * i) ws) cs
+pub record Rounds (constants ws : List ℕ) (s : SharedList) (r : Recorder) (i : ℕ) (t : SharedList)
+    (r' : Recorder) : Type 0 where
+  pub within : i ≤ 24
+  pub table : constants ≡ tab 24 constant
+  pub ran : (cs : List ℕ) → Ran (loop i masked_round s) r ws cs t r' (drop (round_words * i) ws) cs
 
 abbrev pub invariant-loop-i : goal.invariant-loop-i
-invariant-loop-i l = Rounds l.constants l.ws (shared_state l.initial.s l.initial.t) l.initial.rec l.i (shared_state l.s l.t) l.rec
+invariant-loop-i l =
+    Rounds l.constants l.ws (shared_state l.initial.s l.initial.t) l.initial.rec l.i (shared_state l.s l.t) l.rec
 
 abbrev pub decreases-loop-i : goal.decreases-loop-i
 decreases-loop-i l = 24 - l.i

@@ -5,7 +5,6 @@ use Rattle.keccak.specs.KeccakP.{keccak_p}
 use Rattle.fips202.proofs.Absorbing.{absorbing_start, absorbing_turn, absorbing_end}
 use Rattle.fips202.proofs.absorb.absorb.Goals as goal
 
--- ---- facts
 pub loop-a-preserved : goal.loop-a-preserved
 loop-a-preserved c =
     absorbing_turn c.loop-a.invariant (search rules)

@@ -18,7 +18,6 @@ use Rattle.fips202.proofs.absorb.mix_block.Goals as goal
 lane_past : (rate : ℕ) (p s : List ℕ) (k : ℕ) → rate % 8 ≡ 0 → rate / 8 ≤ k → get_or s k 0 ≡ lanes_of rate p s k
 lane_past rate p s k d h = rw (lane_of_past rate p k d h) (sym (xor_zero (get_or s k 0)))
 
--- ---- facts
 pub loop-j-preserved : goal.loop-j-preserved
 unfolding xor
 loop-j-preserved c =

@@ -12,7 +12,8 @@ lanes_of rate p s j = xor (get_or s j 0) (lane_of (take rate p) j)
 
 -- j lanes are mixed
 abbrev pub invariant-loop-j : goal.invariant-loop-j
-invariant-loop-j l = Replaced 25 (lanes_of l.rate l.p l.initial.t.lanes) 0 l.initial.t.lanes l.j l.t.lanes × (l.j ≤ l.rate / 8)
+invariant-loop-j l =
+    Replaced 25 (lanes_of l.rate l.p l.initial.t.lanes) 0 l.initial.t.lanes l.j l.t.lanes × (l.j ≤ l.rate / 8)
 
 abbrev pub decreases-loop-j : goal.decreases-loop-j
 decreases-loop-j l = l.rate / 8 - l.j

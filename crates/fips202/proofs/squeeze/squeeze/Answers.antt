@@ -7,7 +7,6 @@ use Rattle.fips202.specs.Sponge.{squeezed}
 use Rattle.fips202.proofs.Output.{output_start, output_part, output_end}
 use Rattle.fips202.proofs.squeeze.squeeze.Goals as goal
 
--- ---- facts
 pub loop-a-preserved : goal.loop-a-preserved
 loop-a-preserved c =
     let output = c.loop-a.invariant.0 in

@@ -5,7 +5,8 @@ use native.Mathlib.Omega.{arith}
 use lib.ListN.{length}
 use Rattle.worksheet.specs.Ran.{bind, part_words}
 use Rattle.masked_keccak.specs.MaskedKeccak.{keccak_p_words}
-use Rattle.masked_sponge.specs.MaskedSponge.{input_blocks, further_blocks, hash_mask_words, sponge_mask_words, masked_sponge}
+use Rattle.masked_sponge.specs.MaskedSponge.{input_blocks, further_blocks, masked_sponge}
+use Rattle.masked_sponge.specs.MaskedSponge.{hash_mask_words, sponge_mask_words}
 use Rattle.masked_fips202.proofs.masked_words.sponge_words.Goals as goal
 
 pub returns : goal.returns

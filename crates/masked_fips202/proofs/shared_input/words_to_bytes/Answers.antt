@@ -7,7 +7,6 @@ use Rattle.vectors.proofs.Concatenated.{concatenated_start, concatenated_turn, c
 use Rattle.masked_fips202.proofs.SharedInput.{bytes_concat}
 use Rattle.masked_fips202.proofs.shared_input.words_to_bytes.Goals as goal
 
--- ---- facts
 pub store-requires : goal.store-requires
 store-requires c = let l = c.loop-i in length_span (8 * l.i) 8 l.out (omega arith)
 

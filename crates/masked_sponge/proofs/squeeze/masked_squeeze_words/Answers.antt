@@ -9,7 +9,6 @@ use Rattle.masked_sponge.proofs.MaskedOutput.{squeezing_start, squeezing_turn, w
 use Rattle.masked_sponge.proofs.MaskedOutput.{block_lent, rest_lent}
 use Rattle.masked_sponge.proofs.squeeze.masked_squeeze_words.Goals as goal
 
--- ---- facts
 -- the block of a turn, and the rest behind the loop, are lent in either share
 pub give_lanes-requires : goal.give_lanes-requires
 give_lanes-requires c =
@@ -32,7 +31,8 @@ give_lanes-requires-3 c =
 pub loop-i-preserved : goal.loop-i-preserved
 loop-i-preserved c =
     let ws = c.args.ws.now in
-    squeezing_turn c.loop-i.invariant (rw c.further-m.ensures at c.loop-i-test.true) c.give_lanes.ensures c.give_lanes-in-loop-i.ensures (λ cs.
+    squeezing_turn c.loop-i.invariant (rw c.further-m.ensures at c.loop-i-test.true) c.give_lanes.ensures
+    c.give_lanes-in-loop-i.ensures (λ cs.
     part_words ws (keccak_p_words * c.loop-i.i) keccak_p_words (c.permute-o.ensures cs))
 
 pub returns : goal.returns

@@ -6,7 +6,6 @@ use Rattle.transform.proofs.Powers.{zetas-tab}
 use Rattle.transform.proofs.Products.{added_start, added_turn, added_end}
 use Rattle.transform.proofs.multiply.multiply_add.Goals as goal
 
--- ---- facts
 pub base_case_multiply-requires : goal.base_case_multiply-requires
 base_case_multiply-requires c =
     let a = c.loop-i in

@@ -23,4 +23,5 @@ pub overflow_mul-b : goal.overflow_mul-b
 overflow_mul-b c = omega (arith, layered_fits c.loop-b.invariant (omega arith))
 
 pub inverse_block_at-requires : goal.inverse_block_at-requires
-inverse_block_at-requires c = (layered_fits c.loop-b.invariant (omega arith), layered_root c.loop-b.invariant (omega arith))
+inverse_block_at-requires c =
+    let i = c.loop-b.invariant in (layered_fits i (omega arith), layered_root i (omega arith))
