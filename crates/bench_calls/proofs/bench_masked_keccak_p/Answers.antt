@@ -6,7 +6,7 @@ use native.Mathlib.Omega.{arith}
 use Rattle.bench_calls.proofs.bench_masked_keccak_p.Goals as goal
 
 pub returns-then-masks-lt600 : goal.returns-then-masks-lt600
-returns-then-masks-lt600 = (λ c h. absurd (omega arith))
+returns-then-masks-lt600 c h = absurd (omega arith)
 
 pub returns : goal.returns
-returns = (λ c h. sym (c.permute-o.ensures []).value)
+returns c h = sym (c.permute-o.ensures []).value
