@@ -15,7 +15,7 @@ use Rattle.kpke.specs.KPke.{matrix_full}
 use Rattle.mlkem.specs.Calls.{rho_of}
 use Rattle.split_key.specs.SplitKey.{ek_of}
 use Rattle.stages.specs.EntryCounts.{steps}
-use Rattle.stages.specs.WorksheetUses.{uses-worksheet}
+use Rattle.stages.proofs.WorksheetUses.{uses-worksheet}
 use Rattle.decapsulation_run.specs.Input.{Input, range_rows, sheet}
 use Rattle.decapsulation_run.specs.Sized.{Sized}
 

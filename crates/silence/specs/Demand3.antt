@@ -27,7 +27,7 @@ use Rattle.split_key.specs.AcceptedLaws.{accepted_public}
 use Rattle.stages.specs.Counts.{strip_words, strip_coeffs}
 use Rattle.stages.specs.EntryCounts.{steps}
 use Rattle.stages.specs.Worksheet.{worksheet}
-use Rattle.stages.specs.WorksheetUses.{uses-worksheet}
+use Rattle.stages.proofs.WorksheetUses.{uses-worksheet}
 use Rattle.silence.specs.Claim.{over_choices, Key, Ciphertext, gives, choices, Silent}
 use Rattle.silence.specs.WorksheetSilence.{worksheet-stage}
 use Rattle.silence.specs.SplitSilence.{coupled_firsts, coupled_words}

@@ -2,3 +2,4 @@ pub mod Laid
 pub mod StoredRun
 pub mod HashedInput
 pub mod Strips
+pub mod WorksheetUses

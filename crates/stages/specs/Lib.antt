@@ -6,7 +6,6 @@ pub mod PlanesLaws
 pub mod Counts
 pub mod EntryCounts
 pub mod CountsTable
-pub mod WorksheetUses
 pub mod Layout
 pub mod LayoutLaws
 pub mod Lent

@@ -25,5 +25,6 @@ masked_shake256_words-requires c =
 
 pub returns : goal.returns
 returns c cs =
-    hash_ran c.requires (words (length c.args.o0.now)) (masks (length c.args.o0.now)) refl c.with_public.ensures c.with_zeros.ensures
+    let n = length c.args.o0.now in
+    hash_ran c.requires (words n) (masks n) refl c.with_public.ensures c.with_zeros.ensures
     (c.masked_shake256_words.ensures cs)

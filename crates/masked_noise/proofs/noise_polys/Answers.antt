@@ -30,12 +30,14 @@ noise_poly-rec-requires c =
     let t = c.loop-i-test.true in
     let w = c.noise_words-words in
     let m = c.noise_coeffs-coeffs in
+    let e = w.ensures.value in
+    let f = m.ensures.value in
     record {
       width = c.requires.width;
       numbers = omega arith;
       coins = c.requires.coins;
-      words = length_rest (w.result * l.i) _ c.args.ws.now (rw w.ensures.value at (within w.ensures.value c.requires.words t));
-      coeffs = masks_rest (m.result * l.i) _ (rw m.ensures.value at (within m.ensures.value (le_refl _) t)) c.requires.coeffs;
+      words = length_rest (w.result * l.i) _ c.args.ws.now (omega (arith, within e c.requires.words t));
+      coeffs = masks_rest (m.result * l.i) _ (omega (arith, within f (le_refl _) t)) c.requires.coeffs;
       out =
           record {
             long0 = length_span (256 * l.i) 256 l.f0 (fits0 l.invariant t);
@@ -48,7 +50,8 @@ loop-i-preserved c =
     let l = c.loop-i in
     let o = c.noise_poly-rec in
     written_turn l.invariant o.new.f0 o.new.f1 c.loop-i-test.true o.auto.f0 o.auto.f1
-    (both_turn l.invariant.ran (rw (← c.noise_words-words.ensures.value, ← c.noise_coeffs-coeffs.ensures.value) at o.ensures))
+    (both_turn l.invariant.ran
+    (rw (← c.noise_words-words.ensures.value, ← c.noise_coeffs-coeffs.ensures.value) at o.ensures))
 
 pub returns : goal.returns
 returns c =

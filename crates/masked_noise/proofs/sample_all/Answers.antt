@@ -27,7 +27,7 @@ sample_one-o-requires c =
     let n = 2 * c.args.eta in
     record {
       bits = record { width = g.width; number = c.loop-i-test.true; input = g.convert.input };
-      coeffs = masks_rest (n * c.loop-i.i) n (omega (arith, part_fits (2 * c.args.eta) c.loop-i-test.true)) g.convert.coeffs;
+      coeffs = masks_rest (n * c.loop-i.i) n (omega (arith, part_fits n c.loop-i-test.true)) g.convert.coeffs;
     }
 
 pub loop-i-preserved : goal.loop-i-preserved

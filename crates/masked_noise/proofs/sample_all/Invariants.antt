@@ -12,6 +12,7 @@ use Rattle.masked_noise.proofs.sample_all.Given as goal
 abbrev pub invariant-loop-i : goal.invariant-loop-i
 invariant-loop-i l = StoredSharings
     (λ m ys r.
-    Draws coeff (2 * l.eta * m) (times m (λ k. sampler l.eta (λ j. string_bit (shared_list l.o0 l.o1) (2 * l.eta * k + j))))
+    Draws coeff (2 * l.eta * m)
+    (times m (λ k. sampler l.eta (λ j. string_bit (shared_list l.o0 l.o1) (2 * l.eta * k + j))))
     l.initial.rec l.cs ys r)
     256 256 l.f0 l.f1 l.rec l.i

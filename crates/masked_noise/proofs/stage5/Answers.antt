@@ -39,7 +39,8 @@ module _ {p : Parameters} {r n : SharedList} {ws cs : List ℕ} (g : Stage5Input
   reach1 = omega (arith, g.out.long1)
 
   -- y in front
-  front : (y : SharedList) → length y.s0 ≡ length (take (256 * p.k) n.s0) → length y.s1 ≡ length (take (256 * p.k) n.s1)
+  front : (y : SharedList) → length y.s0 ≡ length (take (256 * p.k) n.s0)
+      → length y.s1 ≡ length (take (256 * p.k) n.s1)
       → Front (256 * p.k) (256 * (2 * p.k + 1)) n y
   front y a b = record { long = g.out; within = omega arith; kept0 = a; kept1 = b }
 
@@ -82,12 +83,14 @@ returns c =
     let y = c.noise_polys-rec in
     let e = c.noise_polys in
     let f = front c.requires (shared_list y.new.f0 y.new.f1) y.auto.f0 y.auto.f1 in
-    let both : Whole (256 * k) (256 * (2 * k + 1)) (shared_list a.n0.now a.n1.now) (shared_list y.new.f0 y.new.f1) (shared_list e.new.f0 e.new.f1) =
+    let y' = shared_list y.new.f0 y.new.f1 in
+    let e' = shared_list e.new.f0 e.new.f1 in
+    let both : Whole (256 * k) (256 * (2 * k + 1)) (shared_list a.n0.now a.n1.now) y' e' =
     record { front = f; kept0 = e.auto.f0; kept1 = e.auto.f1 } in
     let count : 2 * k + 1 ≡ k + (k + 1) = omega arith in
     let value =
     ap₂ polynomials count (whole both)
-    ∙ parts_by_append (λ t. t) 256 k (k + 1) (shared_list y.new.f0 y.new.f1) (shared_list e.new.f0 e.new.f1) (front_long f) in
+    ∙ parts_by_append (λ t. t) 256 k (k + 1) y' e' (front_long f) in
     ran_as refl (sym value)
     (two_runs a.p (shared_list a.r0.now a.r1.now) _ _ c.noise_words.ensures.value
     c.noise_coeffs.ensures.value y.ensures e.ensures)

@@ -15,7 +15,8 @@ use Rattle.split_key.specs.ImportAnswerLaws.{import_refused}
 use Rattle.split_key_import.proofs.import_at.Goals as goal
 
 -- row 1, by the lengths d and e that are counted
-row1 : (p : Parameters) (dk mask_coeffs mask_words : List ℕ) (key : SplitKey) {d e : ℕ} {t : Bool} → d ≡ dk_bytes p → e ≡ ek_bytes p
+row1 : (p : Parameters) (dk mask_coeffs mask_words : List ℕ) (key : SplitKey) {d e : ℕ} {t : Bool}
+    → d ≡ dk_bytes p → e ≡ ek_bytes p
     → (let n = 256 * p.k in
     t ≡ same (has (import_lengths p dk mask_coeffs mask_words key)) (d ∷ n ∷ 4 ∷ n ∷ n ∷ 4 ∷ 4 ∷ (e + 32) ∷ []))
     → LengthsTested (import_lengths p dk mask_coeffs mask_words key) t
@@ -28,14 +29,16 @@ unfolding import_answer
 returns-then-not-exact c =
     let s = c.args in
     let key = split_key s.s0.now s.s1.now s.z0.now s.z1.now s.public.now in
-    let tested = row1 s.p s.dk.now s.mask_coeffs.now s.mask_words.now key c.dk_bytes.ensures c.ek_bytes-m.ensures c.exact.ensures in
+    let sizes = row1 s.p s.dk.now s.mask_coeffs.now s.mask_words.now key in
+    let tested = sizes c.dk_bytes.ensures c.ek_bytes-m.ensures c.exact.ensures in
     import_refused s.p WrongLength (omega arith) _ _ _ _ _ (row1_refused tested _ (ap not c.if-not-exact.true))
 
 pub import_sized-requires : goal.import_sized-requires
 import_sized-requires c =
     let s = c.args in
     let key = split_key s.s0.now s.s1.now s.z0.now s.z1.now s.public.now in
-    let tested = row1 s.p s.dk.now s.mask_coeffs.now s.mask_words.now key c.dk_bytes.ensures c.ek_bytes-m.ensures c.exact.ensures in
+    let sizes = row1 s.p s.dk.now s.mask_coeffs.now s.mask_words.now key in
+    let tested = sizes c.dk_bytes.ensures c.ek_bytes-m.ensures c.exact.ensures in
     let e = row1_exact tested (ap not c.if-not-exact.false) in
     let k = e.1.1.1 in (
       c.requires,

@@ -20,21 +20,24 @@ pub returns-then-not-is_limit : goal.returns-then-not-is_limit
 returns-then-not-is_limit c =
     let row10 = refused LimitRange _ (sym c.is_limit.ensures ∙ c.if-not-is_limit.true) in
     import_refused c.args.p LimitRange (omega arith) _ _ _ _ _
-    (import_answer_lem c.args.p LimitRange c.args.limit c.requires.1 (passed WrongHash _ (sym c.hash_matches.ensures ∙ c.if-not-hash_matches.false) row10))
+    (import_answer_lem c.args.p LimitRange c.args.limit c.requires.1
+    (passed WrongHash _ (sym c.hash_matches.ensures ∙ c.if-not-hash_matches.false) row10))
 
 pub returns-then-not-reduced : goal.returns-then-not-reduced
 returns-then-not-reduced c =
     let row5 = refused MaskRange _ (sym c.reduced.ensures ∙ c.if-not-reduced.true) in
     let row10 = passed LimitRange _ (sym c.is_limit.ensures ∙ c.if-not-is_limit.false) row5 in
     import_refused c.args.p MaskRange (omega arith) _ _ _ _ _
-    (import_answer_lem c.args.p MaskRange c.args.limit c.requires.1 (passed WrongHash _ (sym c.hash_matches.ensures ∙ c.if-not-hash_matches.false) row10))
+    (import_answer_lem c.args.p MaskRange c.args.limit c.requires.1
+    (passed WrongHash _ (sym c.hash_matches.ensures ∙ c.if-not-hash_matches.false) row10))
 
 pub write_split-requires : goal.write_split-requires
 write_split-requires c = c.requires
 
 pub returns : goal.returns
 returns c =
-    let row10 = passed LimitRange _ (sym c.is_limit.ensures ∙ c.if-not-is_limit.false) (passed MaskRange _ (sym c.reduced.ensures ∙ c.if-not-reduced.false) no_row) in
+    let row5 = passed MaskRange _ (sym c.reduced.ensures ∙ c.if-not-reduced.false) no_row in
+    let row10 = passed LimitRange _ (sym c.is_limit.ensures ∙ c.if-not-is_limit.false) row5 in
     let rows = passed WrongHash _ (sym c.hash_matches.ensures ∙ c.if-not-hash_matches.false) row10 in
     record {
       answer = ap number (sym (import_answer_lem c.args.p Done c.args.limit c.requires.1 rows));

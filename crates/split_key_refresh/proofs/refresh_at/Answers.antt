@@ -32,27 +32,28 @@ pub returns-then-not-exact : goal.returns-then-not-exact
 unfolding refresh_answer
 returns-then-not-exact c =
     let a = c.args in
-    refresh_refused c.args.p WrongLength c.args.count.now (omega arith)
-    (row1_refused (row1 a.p a.mask_coeffs.now a.mask_words.now a.s0.now a.s1.now a.z0.now a.z1.now c.exact.ensures) _ (ap not c.if-not-exact.true))
+    refresh_refused a.p WrongLength a.count.now (omega arith)
+    (row1_refused (row1 a.p _ _ _ _ _ _ c.exact.ensures) _ (ap not c.if-not-exact.true))
 
 pub returns-then-not-reduced : goal.returns-then-not-reduced
 returns-then-not-reduced c =
     let a = c.args in
     let row5 = refused MaskRange _ (sym c.reduced.ensures ∙ c.if-not-reduced.true) in
-    refresh_refused c.args.p MaskRange c.args.count.now (omega arith)
-    (refresh_answer_lem c.args.p (long a.p a.mask_coeffs.now a.mask_words.now a.s0.now a.s1.now a.z0.now a.z1.now c.exact.ensures (ap not c.if-not-exact.false)) row5)
+    refresh_refused a.p MaskRange a.count.now (omega arith)
+    (refresh_answer_lem a.p (long a.p _ _ _ _ _ _ c.exact.ensures (ap not c.if-not-exact.false)) row5)
 
 pub returns-then-not-both_reduced : goal.returns-then-not-both_reduced
 returns-then-not-both_reduced c =
     let a = c.args in
     let row6 = refused ShareRange _ (sym c.both_reduced.ensures ∙ c.if-not-both_reduced.true) in
-    refresh_refused c.args.p ShareRange c.args.count.now (omega arith)
-    (refresh_answer_lem c.args.p (long a.p a.mask_coeffs.now a.mask_words.now a.s0.now a.s1.now a.z0.now a.z1.now c.exact.ensures (ap not c.if-not-exact.false)) (passed MaskRange _ (sym c.reduced.ensures ∙ c.if-not-reduced.false) row6))
+    refresh_refused a.p ShareRange a.count.now (omega arith)
+    (refresh_answer_lem a.p (long a.p _ _ _ _ _ _ c.exact.ensures (ap not c.if-not-exact.false))
+    (passed MaskRange _ (sym c.reduced.ensures ∙ c.if-not-reduced.false) row6))
 
 pub move_shares-requires : goal.move_shares-requires
 move_shares-requires c =
     let a = c.args in
-    let l = long a.p a.mask_coeffs.now a.mask_words.now a.s0.now a.s1.now a.z0.now a.z1.now c.exact.ensures (ap not c.if-not-exact.false) in
+    let l = long a.p _ _ _ _ _ _ c.exact.ensures (ap not c.if-not-exact.false) in
     record {
       mask_coeffs = refl;
       mask_words = l.mask_words;
@@ -65,9 +66,11 @@ move_shares-requires c =
 pub returns : goal.returns
 returns c =
     let a = c.args in
-    let rows = passed MaskRange _ (sym c.reduced.ensures ∙ c.if-not-reduced.false) (passed ShareRange _ (sym c.both_reduced.ensures ∙ c.if-not-both_reduced.false) no_row) in
+    let row6 = passed ShareRange _ (sym c.both_reduced.ensures ∙ c.if-not-both_reduced.false) no_row in
+    let rows = passed MaskRange _ (sym c.reduced.ensures ∙ c.if-not-reduced.false) row6 in
+    let l = long a.p _ _ _ _ _ _ c.exact.ensures (ap not c.if-not-exact.false) in
     record {
-      answer = ap number (sym (refresh_answer_lem c.args.p {r = Done} (long a.p a.mask_coeffs.now a.mask_words.now a.s0.now a.s1.now a.z0.now a.z1.now c.exact.ensures (ap not c.if-not-exact.false)) rows));
+      answer = ap number (sym (refresh_answer_lem a.p {r = Done} l rows));
       s = c.move_shares.ensures.s1_after;
       z = c.move_shares.ensures.z1_after;
       count = refl;

@@ -27,7 +27,8 @@ loop-i-preserved c =
 pub returns : goal.returns
 returns c =
     let whole = tab_of 0 c.args.mask_words.now 4 c.requires.masks (λ i g. refl) in
-    ap₂ shared_list (filled_end c.loop-i.invariant.0 (omega arith) ∙ sym whole) (filled_end c.loop-i.invariant.1 (omega arith))
+    ap₂ shared_list (filled_end c.loop-i.invariant.0 (omega arith) ∙ sym whole)
+    (filled_end c.loop-i.invariant.1 (omega arith))
 
 pub loop-i-init : goal.loop-i-init
 loop-i-init c = (filled_start (omega arith), filled_start (omega arith))

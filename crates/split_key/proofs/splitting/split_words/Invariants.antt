@@ -8,7 +8,9 @@ use Rattle.split_key.proofs.splitting.split_words.Given as goal
 
 -- i words split
 abbrev pub invariant-loop-i : goal.invariant-loop-i
-invariant-loop-i l = Filled 4 (λ i. get_or l.mask_words i 0) l.i l.z0 × Filled 4 (λ i. xor (lane_of l.z i) (get_or l.mask_words i 0)) l.i l.z1
+invariant-loop-i l =
+    Filled 4 (λ i. get_or l.mask_words i 0) l.i l.z0
+    × Filled 4 (λ i. xor (lane_of l.z i) (get_or l.mask_words i 0)) l.i l.z1
 
 abbrev pub decreases-loop-i : goal.decreases-loop-i
 decreases-loop-i l = 4 - l.i

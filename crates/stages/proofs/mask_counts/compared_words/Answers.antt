@@ -10,4 +10,7 @@ returns c =
     let words = c.word_count.ensures in
     let encrypted = c.encrypt_words.ensures in
     let f = c.requires in
-    record { value = omega (arith, words.value, encrypted.value, f.dv.least); upper_bound = omega (arith, words.upper_bound, encrypted.upper_bound) }
+    record {
+      value = omega (arith, words.value, encrypted.value, f.dv.least);
+      upper_bound = omega (arith, words.upper_bound, encrypted.upper_bound);
+    }
