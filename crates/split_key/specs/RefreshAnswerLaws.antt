@@ -34,7 +34,8 @@ module _ (p : Parameters) {mask_coeffs mask_words : List ℕ} {s z : SharedList}
         z1 = y.1.1.1.0;
       }
 
-  refresh_exact : RefreshSized (256 * p.k) mask_coeffs mask_words s z → Exact (refresh_lengths p mask_coeffs mask_words s z)
+  refresh_exact : RefreshSized (256 * p.k) mask_coeffs mask_words s z
+      → Exact (refresh_lengths p mask_coeffs mask_words s z)
   refresh_exact l = (l.mask_coeffs, (l.mask_words, (l.s0, (l.s1, (l.z0, (l.z1, tt))))))
 
   -- ---- the answer

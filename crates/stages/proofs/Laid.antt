@@ -44,7 +44,8 @@ last_polynomial k l m e g =
 pub shared_at_part : (a n : ℕ) (l m : List ℕ) (i : ℕ) → i < n
     → shared_at (shared_list (take n (drop a l)) (take n (drop a m))) i ≡ shared_at (shared_list l m) (a + i)
 shared_at_part a n l m i h =
-    ap₂ shares (get_or-take n (drop a l) i 0 h ∙ get_or-drop a l i 0) (get_or-take n (drop a m) i 0 h ∙ get_or-drop a m i 0)
+    ap₂ shares (get_or-take n (drop a l) i 0 h ∙ get_or-drop a l i 0)
+    (get_or-take n (drop a m) i 0 h ∙ get_or-drop a m i 0)
 
 -- ---- j parts, and k parts behind them
 
