@@ -38,19 +38,20 @@ def compiled(program, sources, library, *words):
 def recording_kit(where):
     """Rattle's kit with a clang that keeps, beside it, the module and the words it is given, and does what the kit's own does. Hands back the kit's own tools."""
     shutil.rmtree(where, ignore_errors=True)
-    kit = pathlib.Path(run("rt", "doc").strip()).parents[1]
-    own = pathlib.Path("on") / os.uname().machine
-    skip = {pathlib.Path("on"), own, own / "toolchain", own / "toolchain/bin", own / "toolchain/bin/clang"}
-    for folder in (pathlib.Path(), own, own / "toolchain", own / "toolchain/bin"):
-        (where / folder).mkdir(parents=True, exist_ok=True)
+    kit = pathlib.Path(run("rt", "doc").strip()).parent
+    tools = kit / "toolchain/bin"
+    for folder in (pathlib.Path(), pathlib.Path("toolchain"), pathlib.Path("toolchain/bin")):
+        (where / folder).mkdir(parents=True)
         for part in os.listdir(kit / folder):
-            if folder / part not in skip:
+            if folder / part not in (pathlib.Path("bin"), pathlib.Path("toolchain"), pathlib.Path("toolchain/bin"), pathlib.Path("toolchain/bin/clang")):
                 os.symlink(kit / folder / part, where / folder / part)
-    clang = where / own / "toolchain/bin/clang"
+    # rt takes the kit that its own file lies in
+    shutil.copytree(kit / "bin", where / "bin")
+    clang = where / "toolchain/bin/clang"
     keep = f'cp module.bc "{where.parent}/module.bc"\nprintf "%s\\n" "$@" >"{where.parent}/words"'
-    clang.write_text(f'#!/bin/sh\n{keep}\nexec "{kit / own}/toolchain/bin/clang" "$@"\n')
+    clang.write_text(f'#!/bin/sh\n{keep}\nexec "{tools}/clang" "$@"\n')
     clang.chmod(0o755)
-    return kit / own / "toolchain/bin"
+    return tools
 
 
 def with_opened_operand(module, function, place):
@@ -83,7 +84,7 @@ def opened(control):
     """The library that a compiler would make which opens this operand: the compiler's module of the proved code, changed after the proof."""
     where = ROOT / "target/opened"
     tools = recording_kit(where / "kit")
-    run("rt", "staticlib", "capi", cwd=ROOT, env={**os.environ, "RATTLE_HOME": str(where / "kit")})
+    run(where / "kit/bin/rt", "lib", cwd=ROOT / "crates/capi")
     words = (where / "words").read_text().split("\n")[:-1]
     run(tools / "clang", words[0], "-x", "ir", "module.bc", "-S", "-emit-llvm", "-Xclang", "-disable-llvm-passes", "-o", "module.ll", cwd=where)
     (where / "opened.ll").write_text(with_opened_operand((where / "module.ll").read_text(), *OPENED[control]))
