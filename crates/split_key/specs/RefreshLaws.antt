@@ -1,21 +1,20 @@
 -- Refreshing the split that import makes is the split with the first shares moved by the masks: what a share takes the
 -- other gives.
-use Rattle.std.specs.Prelude.{◌≡◌, refl, ℕ, ◌+◌, ◌-◌, ◌*◌, ◌%◌, ◌<◌, length, get_or}
+use Rattle.std.specs.Prelude.{◌≡◌, ℕ, ◌*◌, length, get_or}
 use Rattle.std.proofs.Math.Path.{sym, ap, ap₂}
-use Rattle.std.proofs.Common.{◌∙◌, arith, ext_get_or}
+use Rattle.std.proofs.Common.{◌∙◌}
 use mathlib.Core.List.{List}
 use Rattle.words.specs.Word.{xor}
 use Rattle.words.specs.WordLaws.{xor_assoc}
-use Rattle.words.specs.Residue.{q}
 use Rattle.words.specs.TabLaws.{length-tab, get_or-tab, tab_cong}
 use Rattle.fips202.specs.Sponge.{lane_of}
-use Rattle.ring.specs.Polynomial.{minus, add, sub}
-use Rattle.ring.specs.Sum.{length-add, length-sub, get_or_add, get_or_sub, sub-sub}
+use Rattle.ring.specs.Polynomial.{add, sub}
+use Rattle.ring.specs.Sum.{sub-sub}
 use Rattle.parameters.specs.declared.Parameters.{Parameters}
 use Rattle.vectors.specs.Vector.{coefficients}
 use Rattle.vectors.specs.VectorLaws.{length-coefficients}
 use Rattle.mlkem.specs.MlKem.{secret_part, z_part}
-use Rattle.split_key.specs.SplitKey.{SplitKey, split_key, second_coeffs, second_words, public_of, split}
+use Rattle.split_key.specs.SplitKey.{split_key, second_coeffs, second_words, public_of, split}
 use Rattle.split_key.specs.Refresh.{xor_words, fresh_key}
 
 pub length-xor_words : (z m : List ℕ) → length (xor_words z m) ≡ length z

@@ -1,6 +1,6 @@
 -- Turn i puts mask i into z0, and its xor with word i of z into z1, so that four turns make both shares.
 use mathlib.Core.Path.{refl, sym, ap, ap₂, ◌∙◌}
-use Prim.Native.Nat.{ℕ, ◌-◌, ◌*◌}
+use Prim.Native.Nat.{ℕ, ◌*◌}
 use native.Mathlib.Omega.{arith}
 use lib.ListN.{get_or}
 use Rattle.words.specs.Word.{xor}
