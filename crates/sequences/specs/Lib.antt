@@ -1,9 +1,3 @@
 pub mod Sequence
 pub mod CarriedOut
-pub mod SequenceLaws
-pub mod JoinedKey
-pub mod CountLaws
 pub mod Claim
-pub mod MovedFirsts
-pub mod SequenceSilence
-pub mod SequenceDecaps

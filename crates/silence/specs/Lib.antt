@@ -9,8 +9,5 @@ pub mod NoiseSilence
 pub mod ReencryptionSilence
 pub mod EncryptionSilence
 pub mod ComparisonSilence
-pub mod WorksheetSilence
+pub mod Selected
 pub mod SplitSilence
-pub mod Demand3
-pub mod TraceClaim
-pub mod Demand3Sizes

@@ -2,7 +2,7 @@
 -- it takes from the second. So it stays the one that import made.
 use Rattle.std.specs.Prelude.{◌≡◌, ℕ, ◌^◌}
 use Rattle.std.proofs.Math.Path.{refl}
-use Rattle.std.proofs.Common.{ap, ◌∙◌}
+use Rattle.std.proofs.Common.{◌∙◌}
 use mathlib.Core.List.{List, [], ◌∷◌}
 use Rattle.words.specs.Bounded.{Below}
 use Rattle.refusals.specs.declared.Answer.{Answer}
@@ -19,7 +19,7 @@ use Rattle.meaning.specs.ReducedDk.{reduced_dk}
 use Rattle.meaning.specs.RefreshValue.{joined_dk_fresh}
 use Rattle.decapsulation.specs.CallToCall.{imported_joins}
 use Rattle.sequences.specs.Sequence.{Call, decaps, trace, refresh, answer_of, carried_out, leaves, leaves_all}
-use Rattle.sequences.specs.SequenceLaws.{after_same, by_rank_answered}
+use Rattle.sequences.proofs.SequenceLaws.{after_same, by_rank_answered}
 
 module _ (p : Parameters) where
   joined_carried_out : (h : KeyState) (c : Call) → number (answer_of h c) ≡ 0

@@ -1,7 +1,7 @@
--- The count is the number of carried_out_lem decapsulations since import or the last carried_out_lem refreshing: a
+-- The count is the number of carried-out decapsulations since import or the last carried-out refreshing: a
 -- decapsulation raises it by one, a refreshing sets it to 0, and nothing else changes it.
 use Rattle.std.specs.Prelude.{◌≡◌, refl, Bool, true, false, cond, List, [], ◌∷◌, ℕ, ◌+◌, ◌≤◌, eqb}
-use Rattle.std.proofs.Common.{sym, ap, ◌∙◌, arith, eqb-true}
+use Rattle.std.proofs.Common.{ap, ◌∙◌, arith, eqb-true}
 use Rattle.refusals.specs.declared.Answer.{Answer}
 use Rattle.refusals.specs.Refusals.{number}
 use Rattle.refusals.specs.RefusalLaws.{number-done}
@@ -12,7 +12,7 @@ use Rattle.decapsulation.specs.Calls.{decaps_answer}
 use Rattle.decapsulation.specs.AnswerLaws.{decaps_tested}
 use Rattle.sequences.specs.Sequence.{Call, decaps, trace, refresh, input_of}
 use Rattle.sequences.specs.Sequence.{answer_of, carried_out, leaves, leaves_all}
-use Rattle.sequences.specs.SequenceLaws.{by_rank_answered, limit-leaves}
+use Rattle.sequences.proofs.SequenceLaws.{by_rank_answered, limit-leaves}
 use Rattle.sequences.specs.CarriedOut.{carried, has_refresh, since_refresh, all_uses}
 
 -- where no call is a refreshing, all are behind the last one
@@ -21,7 +21,7 @@ unfolding since_refresh
 since_refresh_none [] e = refl
 since_refresh_none (c ∷ l) e = ap (λ (b : Bool). cond b (since_refresh l) (c ∷ l)) e
 
--- the count behind the carried_out_lem calls l, from n on
+-- the count behind the carried-out calls l, from n on
 abbrev counts : ℕ → List Call → ℕ
 counts n l = cond (has_refresh l) 0 n + all_uses (since_refresh l)
 

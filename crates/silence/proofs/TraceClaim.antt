@@ -22,7 +22,8 @@ use Rattle.decapsulation.specs.Calls.{imported, trace_value}
 use Rattle.silence.specs.Claim.{Key, Ciphertext, gives, choices, hands_back, trace_choices, Silent}
 use Rattle.silence.specs.ChoicesInRange.{Choice, over_choices-when}
 use Rattle.silence.specs.ImportedAnswers.{full, imported_steps, imported_trace}
-use Rattle.silence.specs.Demand3.{hit_past, demand3}
+use Rattle.silence.proofs.DrawnChoices.{hit_past}
+use Rattle.silence.proofs.Demand3.{demand3}
 
 module _ (e : Edition) {p : Parameters} {dk c : List ℕ} (key : Key p dk) (ct : Ciphertext p c) where
   module _ (t v : ℕ) (a w ws cs : List ℕ) (h : Choice (256 * p.k) (strip_words e p) (strip_coeffs p) a w ws cs) where

@@ -8,12 +8,12 @@ use Rattle.worksheet.specs.declared.Shares.{Shares}
 use Rattle.worksheet.specs.Prog.{Prog, ret, ◌>>=◌}
 use Rattle.worksheet.specs.Stage.{Stage, Beside, and_then, and_beside, and_also, moves, rearrange, comap}
 use Rattle.worksheet.specs.Sharing.{none}
-use Rattle.worksheet.specs.SharedList.{SharedList, shared_at, unzip}
+use Rattle.worksheet.specs.SharedList.{SharedList, unzip}
 use Rattle.worksheet.specs.SharedListLaws.{shared_at-unzip}
 use Rattle.worksheet.specs.Choice.{Kept, KeptList, KeptShared, SameShare}
 use Rattle.masked_sampler.specs.PolynomialSilence.{Anything}
 use Rattle.masked_comparison.specs.Comparison.{select_all}
-use Rattle.masked_comparison.specs.SelectionSilence.{Operands, selects_stage}
+use Rattle.masked_comparison.specs.SelectionSilence.{selects_stage}
 use Rattle.fips202.specs.OutputLaws.{length_sha3_256, below_sha3_256}
 use Rattle.hash_functions.specs.Functions.{H}
 use Rattle.parameters.specs.declared.Edition.{Edition}
@@ -33,6 +33,7 @@ use Rattle.silence.specs.DecryptionSilence.{decrypt_stage}
 use Rattle.silence.specs.NoiseSilence.{stage3-stage}
 use Rattle.silence.specs.EncryptionSilence.{encrypt_stage}
 use Rattle.silence.specs.ComparisonSilence.{stage8-stage}
+use Rattle.silence.specs.Selected.{selected, operands}
 
 -- what stages 1 to 8 hand on, each part with its choice
 pub record KeptCompared (c : Bool × (ℕ → Bool)) (o o' : Compared) : Type 0 where
@@ -87,9 +88,6 @@ module _ (p : Parameters) (fits : Fits p) (public c : List ℕ) (h-long : length
 
   -- ---- what follows stage 8, beside z: selection as in stage 10, and a hash before it or behind it
 
-  abbrev selected : Compared × SharedList → Prog SharedList
-  selected a = stage10 a.0.equal a.0.g a.1
-
   selected-stage : Stage (Beside KeptCompared (KeptShared 4)) (KeptShared 4) stage10_entries selected selected
   unfolding stage10 select_all
   selected-stage =
@@ -107,9 +105,6 @@ module _ (p : Parameters) (fits : Fits p) (public c : List ℕ) (h-long : length
             (r.at none none j l);
       })
       (selects_stage 4))
-    where
-      operands : Compared × SharedList → Operands
-      operands a = record { bit = a.0.equal; left = shared_at a.0.g; right = shared_at a.1 }
 
   -- ML-KEM's rejected words, beside all that is live
   abbrev from10 : SharedList × (Compared × SharedList) → Prog SharedList

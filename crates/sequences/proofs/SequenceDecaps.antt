@@ -27,7 +27,7 @@ use Rattle.decapsulation.specs.Demand2.{decaps_joins}
 use Rattle.sequences.specs.Sequence.{Call, decaps, trace, refresh, input_of}
 use Rattle.sequences.specs.Sequence.{answer_of, carried_out, leaves, leaves_all}
 use Rattle.sequences.specs.Claim.{Typed, AllTyped}
-use Rattle.sequences.specs.JoinedKey.{joined_kept}
+use Rattle.sequences.proofs.JoinedKey.{joined_kept}
 
 -- what the types of a split key's buffers say
 record KeyTyped (key : SplitKey) : Type 0 where

@@ -5,8 +5,8 @@ use Rattle.parameters.specs.Sets.{ml_kem512, ml_kem768, ml_kem1024}
 use Rattle.parameters.specs.FitsLaws.{fits512, fits768, fits1024}
 use Rattle.stages.specs.CountsTable.{counts_table}
 use Rattle.silence.specs.Claim.{choices, trace_choices, Silent}
-use Rattle.silence.specs.Demand3.{demand3}
-use Rattle.silence.specs.TraceClaim.{demand3_trace}
+use Rattle.silence.proofs.Demand3.{demand3}
+use Rattle.silence.proofs.TraceClaim.{demand3_trace}
 
 -- ---- ML-KEM, by the worksheet
 

@@ -9,7 +9,7 @@ use Rattle.words.specs.Word.{xor}
 use Rattle.words.specs.Bounded.{Below}
 use Rattle.words.specs.Residue.{q}
 use Rattle.words.specs.Tab.{tab}
-use Rattle.ring.specs.Polynomial.{add, sub}
+use Rattle.ring.specs.Polynomial.{add}
 use Rattle.ring.specs.Sum.{length-add, below-add, length-sub, below_sub}
 use Rattle.worksheet.specs.Count.{tally}
 use Rattle.worksheet.specs.InRange.{tally-below}
@@ -36,8 +36,8 @@ use Rattle.decapsulation.specs.Calls.{decaps_answer}
 use Rattle.silence.specs.Claim.{Key}
 use Rattle.sequences.specs.Sequence.{Call, decaps, trace, refresh}
 use Rattle.sequences.specs.Sequence.{answer_of, carried_out, leaves, leaves_all}
-use Rattle.sequences.specs.SequenceLaws.{after_same, by_rank_answered}
-use Rattle.sequences.specs.Claim.{Typed, AllTyped}
+use Rattle.sequences.proofs.SequenceLaws.{after_same, by_rank_answered}
+use Rattle.sequences.specs.Claim.{AllTyped}
 
 -- the sum over n first coefficients below q and four first words
 abbrev pub over_firsts : ℕ → (List ℕ → List ℕ → ℕ) → ℕ

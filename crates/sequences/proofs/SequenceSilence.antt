@@ -1,15 +1,13 @@
 -- The silence of every run in a sequence: over all first shares the calls before a run leave each split as often as
 -- import alone does (`moved_firsts`), and of the run on import's split demand 3 speaks; whether it is carried out no
 -- choice decides, and neither does the key.
-use Rattle.std.specs.Prelude.{◌≡◌, true, false, not, List, [], ◌∷◌, ℕ, zero, ◌*◌, ◌^◌, ltb, length, replicate}
+use Rattle.std.specs.Prelude.{◌≡◌, true, false, not, List, [], ◌∷◌, ℕ, ◌*◌, ltb, replicate}
 use Rattle.std.proofs.Math.Path.{refl, ap, ap₂}
 use Rattle.std.proofs.Common.{sym, ◌∙◌, subst, arith, eqb-true}
 use Rattle.std.proofs.Math.Bool.{Bool, cond}
 use Rattle.std.proofs.Math.Dec.{eqb}
 use Rattle.std.proofs.lemmas.List.{length-replicate}
-use Rattle.words.specs.Bounded.{Below}
 use Rattle.words.specs.BoundedLaws.{below_zeros}
-use Rattle.words.specs.Residue.{q}
 use Rattle.worksheet.specs.Sum.{when}
 use Rattle.worksheet.specs.Count.{strips, hit}
 use Rattle.refusals.specs.declared.Answer.{Answer}
@@ -33,11 +31,10 @@ use Rattle.decapsulation.specs.Calls.{length_row}
 use Rattle.silence.specs.Claim.{over_choices, Key, Ciphertext, gives, choices}
 use Rattle.silence.specs.ChoicesInRange.{Choice, over_choices-when}
 use Rattle.silence.specs.ImportedAnswers.{full, imported_trace, imported_decaps_answer}
-use Rattle.silence.specs.Demand3.{demand3}
-use Rattle.sequences.specs.Sequence.{Call, decaps, trace, by_rank, answer_of, leaves_all}
-use Rattle.sequences.specs.SequenceLaws.{by_rank_answered}
-use Rattle.sequences.specs.Claim.{AllTyped, entries_of, shown, found, choices_in, SilentIn}
-use Rattle.sequences.specs.MovedFirsts.{Looks, split_looks, moved_firsts}
+use Rattle.silence.proofs.Demand3.{demand3}
+use Rattle.sequences.specs.Sequence.{Call, decaps, trace, answer_of, leaves_all}
+use Rattle.sequences.specs.Claim.{AllTyped, entries_of, shown, choices_in, SilentIn}
+use Rattle.sequences.proofs.MovedFirsts.{Looks, split_looks, moved_firsts}
 
 -- a value is shown where the call is carried out
 hit-shown : (h : KeyState) (c : Call) (t v : ℕ)

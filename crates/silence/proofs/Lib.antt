@@ -1,0 +1,5 @@
+pub mod WorksheetSilence
+pub mod DrawnChoices
+pub mod Demand3
+pub mod TraceClaim
+pub mod Demand3Sizes
