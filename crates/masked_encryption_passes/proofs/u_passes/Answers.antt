@@ -1,7 +1,7 @@
 -- Rows don't overlap, so that turn i leaves the rows before it as they are.
 use mathlib.Core.Path.{ap, ◌∙◌}
 use mathlib.Core.List.{List}
-use Prim.Native.Nat.{ℕ, ◌-◌, ◌*◌}
+use Prim.Native.Nat.{ℕ, ◌*◌}
 use native.Mathlib.Omega.{arith}
 use Rattle.vectors.specs.Vector.{parts}
 use Rattle.kpke.specs.Expanded.{places_of}
@@ -20,7 +20,7 @@ u_pass-requires c =
       matrix = c.requires.matrix;
       vector = c.requires.vector;
       errors = length_span (256 * l.i) 256 c.args.e1.now (omega arith);
-      out = length_span (256 * l.i) 256 l.u-1 (omega arith);
+      out = length_span (256 * l.i) 256 l.u (omega arith);
     }
 
 pub loop-i-preserved : goal.loop-i-preserved

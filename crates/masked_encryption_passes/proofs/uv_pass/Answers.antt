@@ -7,7 +7,7 @@ use Rattle.masked_encryption_passes.proofs.uv_pass.Goals as goal
 pub returns : goal.returns
 returns c =
     let a = c.args in
-    uv_of_parts a.k (places_of a.k a.a.now) (parts 256 a.t.now) a.mu.now a.n-1.now
+    uv_of_parts a.k (places_of a.k a.a.now) (parts 256 a.t.now) a.mu.now a.n.now
     c.requires.share.noise _ c.ntt_all.ensures c.uv_passes.ensures
 
 pub shape_of-uv : goal.shape_of-uv
