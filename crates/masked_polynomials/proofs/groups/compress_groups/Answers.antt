@@ -16,35 +16,10 @@ use Rattle.masked_polynomials.proofs.groups.compress_groups.Goals as goal
 abbrev planes : goal.After-slice_known-in-loop-g-2-1 → SharedList
 planes c = shared_list c.compress_group-rec.new.out0 c.compress_group-rec.new.out1
 
--- ---- facts: of a turn's parts, and of the code
--- what is lent takes fewer than 2 ^ 63 bytes
-module _ (c : goal.After-compress_group-arg-1) where
-  input-room : 64 * c.args.n * 2 < 2 ^ 63
-  input-room = omega arith
-
-  words-room : (3 * c.args.d + 38) * c.args.n * 8 < 2 ^ 63
-  words-room = omega arith
-
-  planes-room : c.args.d * c.args.n * 8 < 2 ^ 63
-  planes-room = omega arith
-
-module _ (c : goal.After-compress_group-arg-1) where
-  group : Placed 2 64 c.loop-g.g
-  group = placed (input-room c) c.loop-g-test.true
-
-  masks : Placed 8 (3 * c.args.d + 38) c.loop-g.g
-  masks = placed (words-room c) c.loop-g-test.true
-
-  written : Placed 8 c.args.d c.loop-g.g
-  written = placed (planes-room c) c.loop-g-test.true
-
-  masks-within : (3 * c.args.d + 38) * c.loop-g.g ≤ length c.args.ws.now
-  masks-within = le_trans (le-add_right _ _) (fits_words c.loop-g.invariant.ran c.loop-g-test.true)
-
 pub compress_group-rec-requires : goal.compress_group-rec-requires
 compress_group-rec-requires c =
     let p = c.requires in
-    let t = c.loop-g-test.taken in
+    let t = c.loop-g-test.true in
     compress_part 64 c.loop-g.invariant t p.depth p.input (part_fits 64 t)
 
 pub loop-g-preserved : goal.loop-g-preserved
@@ -52,29 +27,26 @@ loop-g-preserved c =
     let g = c.compress_group-rec in
     let l = c.loop-g in
     let s = c.args in
-    written_turn l.invariant (planes c).s0 (planes c).s1 c.loop-g-test.taken g.kept.1.1.1.1.1.0 g.kept.1.1.1.1.1.1.0
+    written_turn l.invariant (planes c).s0 (planes c).s1 c.loop-g-test.true g.auto.out0 g.auto.out1
     (words_turn l.invariant.ran (λ cs. rw (group_part s.d l.g s.f0.now s.f1.now) at (g.ensures cs)))
 
 pub loop-g-init : goal.loop-g-init
 loop-g-init c = let p = c.requires in written_start p.out.long0 p.out.long1 (words_start p.words)
 
-pub overflow_mul-a : goal.overflow_mul-a
-overflow_mul-a c = (group c).start
-
-pub overflow_add-ae : goal.overflow_add-ae
-overflow_add-ae c = (group c).end
-
 pub overflow_mul-w : goal.overflow_mul-w
-overflow_mul-w c = (masks c).start
+overflow_mul-w c =
+    let r : (3 * c.args.d + 38) * c.args.n * 8 < 2 ^ 63 = omega arith in
+    (placed r c.loop-g-test.true).start
 
 pub overflow_mul-o : goal.overflow_mul-o
-overflow_mul-o c = (written c).start
+overflow_mul-o c =
+    let r : c.args.d * c.args.n * 8 < 2 ^ 63 = omega arith in
+    (placed r c.loop-g-test.true).start
 
 pub overflow_add-oe : goal.overflow_add-oe
-overflow_add-oe c = (written c).end
-
-pub offset_bounds-f0-a : goal.offset_bounds-f0-a
-offset_bounds-f0-a c = (group c).bytes
+overflow_add-oe c =
+    let r : c.args.d * c.args.n * 8 < 2 ^ 63 = omega arith in
+    (placed r c.loop-g-test.true).end
 
 pub slice_bounds-compress_group-count : goal.slice_bounds-compress_group-count
 slice_bounds-compress_group-count c = le-add_right _ _
@@ -84,9 +56,6 @@ slice_bounds-compress_group-start c = le-add_right _ _
 
 pub slice_bounds-compress_group-end : goal.slice_bounds-compress_group-end
 slice_bounds-compress_group-end c = part_within 64 (le_of_eq (sym c.requires.input.long0)) c.loop-g-test.true
-
-pub offset_bounds-f1-a : goal.offset_bounds-f1-a
-offset_bounds-f1-a c = (group c).bytes
 
 pub slice_bounds-compress_group-count-in-loop-g : goal.slice_bounds-compress_group-count-in-loop-g
 slice_bounds-compress_group-count-in-loop-g c = le-add_right _ _
@@ -98,19 +67,25 @@ pub slice_bounds-compress_group-end-in-loop-g : goal.slice_bounds-compress_group
 slice_bounds-compress_group-end-in-loop-g c = part_within 64 (le_of_eq (sym c.requires.input.long1)) c.loop-g-test.true
 
 pub offset_bounds-ws-w : goal.offset_bounds-ws-w
-offset_bounds-ws-w c = (masks c).bytes
+offset_bounds-ws-w c =
+    let r : (3 * c.args.d + 38) * c.args.n * 8 < 2 ^ 63 = omega arith in
+    (placed r c.loop-g-test.true).bytes
 
 pub slice_bounds-compress_group-count-in-loop-g-2 : goal.slice_bounds-compress_group-count-in-loop-g-2
-slice_bounds-compress_group-count-in-loop-g-2 c = masks-within c
+slice_bounds-compress_group-count-in-loop-g-2 c =
+    le_trans (le-add_right _ _) (fits_words c.loop-g.invariant.ran c.loop-g-test.true)
 
 pub slice_bounds-compress_group-start-in-loop-g-2 : goal.slice_bounds-compress_group-start-in-loop-g-2
-slice_bounds-compress_group-start-in-loop-g-2 c = masks-within c
+slice_bounds-compress_group-start-in-loop-g-2 c =
+    le_trans (le-add_right _ _) (fits_words c.loop-g.invariant.ran c.loop-g-test.true)
 
 pub slice_bounds-compress_group-end-in-loop-g-2 : goal.slice_bounds-compress_group-end-in-loop-g-2
 slice_bounds-compress_group-end-in-loop-g-2 c = le_refl _
 
 pub offset_bounds-out0-o : goal.offset_bounds-out0-o
-offset_bounds-out0-o c = (written c).bytes
+offset_bounds-out0-o c =
+    let r : c.args.d * c.args.n * 8 < 2 ^ 63 = omega arith in
+    (placed r c.loop-g-test.true).bytes
 
 pub slice_bounds-compress_group-count-in-loop-g-3 : goal.slice_bounds-compress_group-count-in-loop-g-3
 slice_bounds-compress_group-count-in-loop-g-3 c = le-add_right _ _
@@ -122,7 +97,9 @@ pub slice_bounds-compress_group-end-in-loop-g-3 : goal.slice_bounds-compress_gro
 slice_bounds-compress_group-end-in-loop-g-3 c = fits0 c.loop-g.invariant c.loop-g-test.true
 
 pub offset_bounds-out1-o : goal.offset_bounds-out1-o
-offset_bounds-out1-o c = (written c).bytes
+offset_bounds-out1-o c =
+    let r : c.args.d * c.args.n * 8 < 2 ^ 63 = omega arith in
+    (placed r c.loop-g-test.true).bytes
 
 pub slice_bounds-compress_group-count-in-loop-g-4 : goal.slice_bounds-compress_group-count-in-loop-g-4
 slice_bounds-compress_group-count-in-loop-g-4 c = le-add_right _ _
@@ -133,12 +110,6 @@ slice_bounds-compress_group-start-in-loop-g-4 c = le-add_right _ _
 pub slice_bounds-compress_group-end-in-loop-g-4 : goal.slice_bounds-compress_group-end-in-loop-g-4
 slice_bounds-compress_group-end-in-loop-g-4 c = fits1 c.loop-g.invariant c.loop-g-test.true
 
-pub overflow_step-g : goal.overflow_step-g
-overflow_step-g c = next_fits c.loop-g-test.taken c.fits.n
-
-pub loop-g-smaller : goal.loop-g-smaller
-loop-g-smaller c = turn_less c.loop-g-test.taken
-
 pub shape_of-out0 : goal.shape_of-out0
 shape_of-out0 c = c.loop-g.invariant.long0 ∙ sym c.requires.out.long0
 
@@ -147,6 +118,3 @@ shape_of-out1 c = c.loop-g.invariant.long1 ∙ sym c.requires.out.long1
 
 pub returns : goal.returns
 returns c = (written_end c.loop-g.invariant c.loop-g-test.false).ran
-
--- left: _ is used at After-compress_group-arg-1, After-compress_group-arg-in-loop-g-1, After-compress_group-arg-in-loop-g-2-1, After-compress_group-arg-in-loop-g-3-1, In-loop-g
--- left: _ is used at After-compress_group-arg-1, After-compress_group-arg-in-loop-g-1, After-compress_group-arg-in-loop-g-2-1, After-compress_group-arg-in-loop-g-3-1, In-loop-g

@@ -10,7 +10,8 @@ use Rattle.masked_polynomials.proofs.groups.compress_groups.Given as goal
 -- g groups written
 abbrev pub invariant-loop-g : goal.invariant-loop-g
 invariant-loop-g l = Written (zip l.d)
-    (OnWords (λ j. masked_compress l.d (λ i. shared_at (shared_list l.f0 l.f1) (64 * j + i))) (3 * l.d + 38) l.n l.initial.rec l.ws)
+    (OnWords (λ j. masked_compress l.d (λ i. shared_at (shared_list l.f0 l.f1) (64 * j + i))) (3 * l.d + 38) l.n
+    l.initial.rec l.ws)
     l.d l.n l.out0 l.out1 l.rec l.g
 
 abbrev pub decreases-loop-g : goal.decreases-loop-g

@@ -8,7 +8,9 @@ use Rattle.masked_polynomials.proofs.groups.top_planes.Given as goal
 
 -- j planes copied
 abbrev pub invariant-loop-j : goal.invariant-loop-j
-invariant-loop-j l = (l.j ≤ l.d) × (length l.out0 ≡ l.d) × (length l.out1 ≡ l.d) × Copied 13 (shared_list l.p.s0 l.p.s1) l.out0 l.out1 l.j
+invariant-loop-j l =
+    (l.j ≤ l.d) × (length l.out0 ≡ l.d) × (length l.out1 ≡ l.d)
+    × Copied 13 (shared_list l.p.s0 l.p.s1) l.out0 l.out1 l.j
 
 abbrev pub decreases-loop-j : goal.decreases-loop-j
 decreases-loop-j l = l.d - l.j

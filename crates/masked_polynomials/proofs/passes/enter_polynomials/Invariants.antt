@@ -13,8 +13,8 @@ use Rattle.masked_polynomials.proofs.passes.enter_polynomials.Given as goal
 abbrev pub invariant-loop-i : goal.invariant-loop-i
 invariant-loop-i l = (l.i ≤ l.k)
     × ((ws cs : List ℕ)
-    → Ran (times l.i (λ j. enter_both 256 (parts 256 l.f j) (parts 256 l.g j))) l.initial.rec ws cs (polynomials l.i (shared_list l.f l.g))
-    l.rec ws cs)
+    → Ran (times l.i (λ j. enter_both 256 (parts 256 l.f j) (parts 256 l.g j))) l.initial.rec ws cs
+    (polynomials l.i (shared_list l.f l.g)) l.rec ws cs)
 
 abbrev pub decreases-loop-i : goal.decreases-loop-i
 decreases-loop-i l = l.k - l.i
