@@ -9,7 +9,8 @@ use Rattle.masked_decryption.proofs.decoded_all.Given as goal
 
 -- i polynomials written
 abbrev pub invariant-loop-i : goal.invariant-loop-i
-invariant-loop-i l = Concatenated 256 l.k (λ i. map (decompress l.d) (byte_decode l.d (parts (32 * l.d) l.b i))) l.initial.u l.i l.u
+invariant-loop-i l =
+    Concatenated 256 l.k (λ i. map (decompress l.d) (byte_decode l.d (parts (32 * l.d) l.b i))) l.initial.u l.i l.u
 
 abbrev pub decreases-loop-i : goal.decreases-loop-i
 decreases-loop-i l = l.k - l.i

@@ -11,14 +11,7 @@ use Rattle.masked_decryption.proofs.noisy_message.Goals as goal
 
 pub enter_both-requires : goal.enter_both-requires
 enter_both-requires c =
-    omega (
-      arith,
-      c.take_product-2.kept,
-      c.clear.kept,
-      c.take_product.kept,
-      c.decoded_second.kept,
-      c.requires.input.out,
-    )
+    omega (arith, c.requires.input.out)
 
 pub returns : goal.returns
 returns c =
@@ -32,8 +25,8 @@ returns c =
           c.enter_both.ensures;
       range =
           record {
-            long0 = omega (arith, c.take_product.kept, c.decoded_second.kept, c.requires.input.out);
-            long1 = omega (arith, c.take_product-2.kept, c.clear.kept, c.requires.input.out);
+            long0 = omega (arith, c.requires.input.out);
+            long1 = omega (arith, c.requires.input.out);
             below0 = rw c.take_product.ensures (below_sub _ _);
             below1 = rw c.take_product-2.ensures (below_sub _ _);
           };

@@ -25,4 +25,5 @@ returns c cs =
     let m = c.requires.out in
     rw fixed_counts.stage2_words
     (bind _ (ran_as refl (flatten_zips 1 4 (message c)) (bind _ (c.compress_groups.ensures cs) over))
-    (rw (unzip-zip 4 (message c) none (c.compress_groups.auto.out0 ∙ m.long0) (c.compress_groups.auto.out1 ∙ m.long1)) over))
+    (rw (unzip-zip 4 (message c) none (c.compress_groups.auto.out0 ∙ m.long0)
+    (c.compress_groups.auto.out1 ∙ m.long1)) over))
