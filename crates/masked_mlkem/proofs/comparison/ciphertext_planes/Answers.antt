@@ -5,5 +5,5 @@ use Rattle.masked_mlkem.proofs.comparison.ciphertext_planes.Goals as goal
 pub returns : goal.returns
 returns c =
     let a = c.args in
-    planes_written a.p a.c.now a.out-1.now c.requires.out-1 c.first_planes.ensures
+    planes_written a.p a.c.now a.out.now c.requires.out c.first_planes.ensures
     c.encoded_planes.ensures

@@ -11,27 +11,17 @@ use Rattle.stages.specs.FlattenLaws.{flatten-tab}
 use Rattle.masked_mlkem.proofs.comparison.first_planes.Goals as goal
 
 -- ---- facts
--- polynomial i is inside the ciphertext's part, and its planes are inside the slice
-read_fits : (c : goal.After-encoded_planes-arg-in-loop-i-1)
-    → 32 * c.args.d * c.loop-i.i + 32 * c.args.d
-    ≤ length c.args.c.now
-read_fits c =
-    omega (arith, part_fits (32 * c.args.d) {i = c.loop-i.i} {k = c.args.k} (omega arith))
-
-write-fits : (c : goal.After-encoded_planes-arg-1)
-    → 4 * c.args.d * c.loop-i.i + 4 * c.args.d
-    ≤ length c.loop-i.out-1
-write-fits c = concatenated_fits c.loop-i.invariant (omega arith)
-
 pub encoded_planes-requires : goal.encoded_planes-requires
 encoded_planes-requires c =
     let l = c.loop-i in
     let a = c.args in
     record {
-      bytes = omega (arith, length_span (32 * a.d * l.i) (32 * a.d) a.c.now (read_fits c));
+      bytes =
+          let f = part_fits (32 * a.d) {i = l.i} {k = a.k} c.loop-i-test.true in
+          omega (arith, length_span (32 * a.d * l.i) (32 * a.d) a.c.now (omega (arith, f)));
       some = c.requires.some;
       most = c.requires.most;
-      out = length_span (4 * a.d * l.i) (4 * a.d) l.out-1 (write-fits c);
+      out = length_span (4 * a.d * l.i) (4 * a.d) l.out (concatenated_fits c.loop-i.invariant c.loop-i-test.true);
     }
 
 pub loop-i-preserved : goal.loop-i-preserved
@@ -50,28 +40,24 @@ pub loop-i-init : goal.loop-i-init
 loop-i-init c = concatenated_start (omega arith)
 
 pub overflow_mul-a : goal.overflow_mul-a
-overflow_mul-a c = omega (arith, read_fits c)
+overflow_mul-a c = omega (arith, part_fits (32 * c.args.d) {i = c.loop-i.i} {k = c.args.k} c.loop-i-test.true)
 
 pub overflow_add-ae : goal.overflow_add-ae
-overflow_add-ae c = omega (arith, read_fits c)
+overflow_add-ae c = omega (arith, part_fits (32 * c.args.d) {i = c.loop-i.i} {k = c.args.k} c.loop-i-test.true)
 
 pub overflow_mul-o : goal.overflow_mul-o
-overflow_mul-o c = omega (arith, write-fits c)
+overflow_mul-o c = omega (arith, concatenated_fits c.loop-i.invariant c.loop-i-test.true)
 
 pub overflow_add-oe : goal.overflow_add-oe
-overflow_add-oe c = omega (arith, write-fits c)
+overflow_add-oe c = omega (arith, concatenated_fits c.loop-i.invariant c.loop-i-test.true)
 
 pub slice_bounds-encoded_planes-end : goal.slice_bounds-encoded_planes-end
-slice_bounds-encoded_planes-end c = omega (arith, read_fits c)
+slice_bounds-encoded_planes-end c =
+    omega (arith, part_fits (32 * c.args.d) {i = c.loop-i.i} {k = c.args.k} c.loop-i-test.true)
 
 pub offset_bounds-out-o : goal.offset_bounds-out-o
-offset_bounds-out-o c = omega (arith, write-fits c)
+offset_bounds-out-o c = omega (arith, concatenated_fits c.loop-i.invariant c.loop-i-test.true)
 
 pub slice_bounds-encoded_planes-end-in-loop-i : goal.slice_bounds-encoded_planes-end-in-loop-i
-slice_bounds-encoded_planes-end-in-loop-i c = omega (arith, write-fits c)
-
-pub overflow_step-i : goal.overflow_step-i
-overflow_step-i c = omega (arith, c.fits.k)
-
--- left: read_fits is used at After-encoded_planes-arg-in-loop-i-1, In-loop-i
--- left: write-fits is used at After-encoded_planes-arg-1, After-encoded_planes-arg-in-loop-i-1, In-loop-i
+slice_bounds-encoded_planes-end-in-loop-i c =
+    omega (arith, concatenated_fits c.loop-i.invariant c.loop-i-test.true)

@@ -8,7 +8,8 @@ use Rattle.masked_mlkem.proofs.comparison.first_planes.Given as goal
 
 -- i polynomials read, and the planes of each written
 abbrev pub invariant-loop-i : goal.invariant-loop-i
-invariant-loop-i l = Concatenated (4 * l.d) l.k (λ i. planes_of l.d (byte_decode l.d (parts (32 * l.d) l.c i))) l.initial.out l.i l.out
+invariant-loop-i l =
+    Concatenated (4 * l.d) l.k (λ i. planes_of l.d (byte_decode l.d (parts (32 * l.d) l.c i))) l.initial.out l.i l.out
 
 abbrev pub decreases-loop-i : goal.decreases-loop-i
 decreases-loop-i l = l.k - l.i

@@ -16,7 +16,7 @@ coefficient_planes-requires c =
     let a = c.args in
     record {
       numbers = length_span (64 * l.g) 64 a.f.now (omega arith);
-      planes = length_span (a.d * l.g) a.d l.out-1 (concatenated_fits l.invariant (omega arith));
+      planes = length_span (a.d * l.g) a.d l.out (concatenated_fits l.invariant (omega arith));
       depth = omega arith;
     }
 

@@ -8,7 +8,8 @@ use Rattle.masked_mlkem.proofs.comparison.group_planes.Given as goal
 
 -- g groups written
 abbrev pub invariant-loop-g : goal.invariant-loop-g
-invariant-loop-g l = Concatenated l.d 4 (λ g. tab l.d (plane 64 (λ i. get_or l.f (64 * g + i) 0))) l.initial.out l.g l.out
+invariant-loop-g l =
+    Concatenated l.d 4 (λ g. tab l.d (plane 64 (λ i. get_or l.f (64 * g + i) 0))) l.initial.out l.g l.out
 
 abbrev pub decreases-loop-g : goal.decreases-loop-g
 decreases-loop-g l = 4 - l.g
