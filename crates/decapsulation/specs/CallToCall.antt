@@ -23,7 +23,7 @@ use Rattle.split_key.specs.KeyState.{KeyState, key_state}
 use Rattle.stages.specs.Worksheet.{worksheet}
 use Rattle.meaning.specs.JoinedDk.{joined_dk}
 use Rattle.meaning.specs.ReducedDk.{reduced_dk}
-use Rattle.meaning.specs.SplitValue.{joined_dk-split, run-split}
+use Rattle.meaning.proofs.SplitValue.{joined_dk-split, run-split}
 use Rattle.decapsulation_run.specs.Input.{Input}
 use Rattle.decapsulation.specs.Calls.{decaps_shares, Decapsulated}
 use Rattle.decapsulation.specs.Demand2.{decapsulated_tested}

@@ -17,7 +17,7 @@ use Rattle.mlkem.specs.Editions as kem
 use Rattle.refusals.specs.ReducedLaws.{reduced-below}
 use Rattle.meaning.specs.JoinedDk.{joined_dk}
 use Rattle.meaning.specs.InOrder.{InOrder}
-use Rattle.meaning.specs.WorksheetValue.{run-worksheet}
+use Rattle.meaning.proofs.WorksheetValue.{run-worksheet}
 use Rattle.decapsulation_run.specs.Input.{Input}
 use Rattle.decapsulation.specs.Calls.{Typed, decaps_answer, decaps_shares, Decapsulated}
 use Rattle.decapsulation.specs.AnswerLaws.{Tested, decaps_tested}

@@ -17,7 +17,5 @@ pub mod EncryptionValue
 pub mod ComparisonValue
 pub mod ComparedValue
 pub mod EndingValue
-pub mod WorksheetValue
 pub mod ReducedDk
 pub mod ReducedDkLaws
-pub mod SplitValue

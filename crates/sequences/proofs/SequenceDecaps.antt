@@ -20,7 +20,7 @@ use Rattle.split_key.specs.Import.{Imported}
 use Rattle.split_key.specs.ImportLaws.{imported_importable}
 use Rattle.split_key.specs.Refresh.{xor_words, fresh_key}
 use Rattle.meaning.specs.JoinedDk.{joined_dk}
-use Rattle.meaning.specs.SplitValue.{split_in_order, decaps-split}
+use Rattle.meaning.proofs.SplitValue.{split_in_order, decaps-split}
 use Rattle.decapsulation.specs.Calls.{Decapsulated}
 use Rattle.decapsulation.specs.Calls.{Typed as InputTyped}
 use Rattle.decapsulation.specs.Demand2.{decaps_joins}

@@ -42,7 +42,7 @@ use Rattle.meaning.specs.JoinedDk.{joined_dk}
 use Rattle.meaning.specs.ReducedDk.{secret_at, reduced_dk}
 use Rattle.meaning.specs.JoinedDkLaws.{public_part_joined, hash_part_joined, z_part_joined, decrypt_joined}
 use Rattle.meaning.specs.InOrder.{InOrder}
-use Rattle.meaning.specs.WorksheetValue.{decaps_by, run-worksheet}
+use Rattle.meaning.proofs.WorksheetValue.{decaps_by, run-worksheet}
 
 module _ {p : Parameters} {dk a w : List ℕ} (o : Importable p dk a w) where
   below-z_part : Below 256 (z_part p dk)

@@ -1,0 +1,2 @@
+pub mod WorksheetValue
+pub mod SplitValue
