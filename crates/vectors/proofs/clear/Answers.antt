@@ -1,6 +1,5 @@
 -- Turn i puts 0 at place i, so after one turn a place f is zeros.
 use mathlib.Core.Path.{refl}
-use Prim.Native.Nat.{◌-◌}
 use native.Mathlib.Omega.{arith}
 use Rattle.words.specs.Fill.{filled_start, filled_turn, filled_constant}
 use Rattle.vectors.proofs.clear.Goals as goal

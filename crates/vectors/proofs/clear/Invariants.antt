@@ -1,6 +1,5 @@
 -- Turn i puts 0 at place i, so after one turn a place f is zeros.
 use mathlib.Core.Path.{◌≡◌}
-use Prim.Native.Nat.{◌-◌}
 use lib.ListN.{length}
 use Rattle.words.specs.Fill.{Filled}
 use Rattle.vectors.proofs.clear.Given as goal

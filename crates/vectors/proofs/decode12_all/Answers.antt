@@ -1,6 +1,5 @@
 -- Turn i decodes the 384 bytes of part i to where the first i polynomials end, so that k turns decode the vector.
 use borrow.Author.Rules.{rules}
-use Prim.Native.Nat.{◌-◌}
 use Rattle.codec.specs.Bytes.{byte_decode12}
 use Rattle.words.specs.Part.{length_span}
 use Rattle.vectors.proofs.Concatenated.{concatenated_start, concatenated_read, concatenated_end}

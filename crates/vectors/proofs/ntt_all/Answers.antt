@@ -1,6 +1,5 @@
 -- Turn i transforms part i, which no earlier turn has touched, so that k turns transform each part once.
 use borrow.Author.Rules.{rules}
-use Prim.Native.Nat.{◌-◌}
 use Rattle.transform.specs.Transform.{ntt}
 use Rattle.words.specs.Part.{length_span}
 use Rattle.vectors.proofs.Concatenated.{concatenated_start, concatenated_change, concatenated_end}

@@ -1,5 +1,4 @@
 -- The first i of out are in place, and turn i reads the next 2 bytes, which is what a number of the string is.
-use Prim.Native.Nat.{◌-◌}
 use mathlib.Core.Path.{refl}
 use borrow.Author.Rules.{rules}
 use native.Mathlib.Omega.{arith}

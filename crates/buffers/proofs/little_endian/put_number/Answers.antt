@@ -1,5 +1,4 @@
 -- The first i bytes of out are in place, and turn i stores digit i of the number.
-use Prim.Native.Nat.{◌-◌}
 use mathlib.Core.Path.{sym, ◌∙◌}
 use native.Mathlib.Omega.{arith}
 use Rattle.words.specs.Fill.{filled_start, filled_turn, filled_end}

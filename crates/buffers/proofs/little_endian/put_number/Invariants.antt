@@ -1,5 +1,5 @@
 -- The first i bytes of out are in place, and turn i stores digit i of the number.
-use Prim.Native.Nat.{◌-◌, ◌/◌, ◌%◌, ◌^◌}
+use Prim.Native.Nat.{◌/◌, ◌%◌, ◌^◌}
 use mathlib.Core.Path.{◌≡◌}
 use Rattle.words.specs.Fill.{Filled}
 use Rattle.buffers.proofs.little_endian.put_number.Given as goal

@@ -1,5 +1,4 @@
 -- The first i bytes of out are in place, and turn i stores byte i % 8 of element i / 8, which is byte i of them all.
-use Prim.Native.Nat.{◌-◌}
 use mathlib.Core.Path.{sym, ◌∙◌}
 use native.Mathlib.Omega.{arith}
 use Rattle.words.specs.Fill.{filled_start, filled_turn, filled_end}

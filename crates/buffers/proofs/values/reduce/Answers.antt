@@ -1,5 +1,4 @@
 -- The first i coefficients are reduced and the others are still the old ones (Mapped), so turn i reduces an old one.
-use Prim.Native.Nat.{◌-◌}
 use native.Mathlib.Omega.{arith}
 use Rattle.words.specs.Fill.{mapped_start, mapped_turn, mapped_end}
 use Rattle.buffers.proofs.values.reduce.Goals as goal

@@ -1,5 +1,5 @@
 -- The first i coefficients are reduced and the others are still the old ones (Mapped), so turn i reduces an old one.
-use Prim.Native.Nat.{◌-◌, ◌%◌}
+use Prim.Native.Nat.{◌%◌}
 use Rattle.words.specs.Fill.{Mapped}
 use Rattle.buffers.proofs.values.reduce.Given as goal
 

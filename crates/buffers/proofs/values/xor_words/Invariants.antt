@@ -1,5 +1,4 @@
 -- The first i words of out are the xors: each turn stores the next one (Filled).
-use Prim.Native.Nat.{◌-◌}
 use mathlib.Core.Path.{◌≡◌}
 use lib.ListN.{length, get_or}
 use Rattle.words.specs.Word.{xor}

@@ -1,6 +1,5 @@
 -- Turn i writes u[i] where the first i polynomials end, so that k turns write all of u.
 use borrow.Author.Rules.{rules}
-use Prim.Native.Nat.{◌-◌}
 use Rattle.words.specs.Part.{length_span}
 use Rattle.vectors.proofs.Concatenated.{concatenated_start, concatenated_turn, concatenated_end}
 use Rattle.kpke.proofs.encrypt.first_parts.Goals as goal

@@ -1,6 +1,5 @@
 -- Turn i writes t-hat[i] where the first i polynomials end, so that k turns write all of t-hat.
 use borrow.Author.Rules.{rules}
-use Prim.Native.Nat.{◌-◌}
 use Rattle.words.specs.Part.{length_span}
 use Rattle.vectors.proofs.Concatenated.{concatenated_start, concatenated_turn, concatenated_end}
 use Rattle.kpke.proofs.key_making.public_vector.Goals as goal

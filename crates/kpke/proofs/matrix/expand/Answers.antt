@@ -2,7 +2,6 @@
 -- that all k rows are in place.
 use borrow.Author.Rules.{rules}
 use mathlib.Core.Path.{refl}
-use Prim.Native.Nat.{◌-◌}
 use native.Mathlib.Omega.{arith}
 use Rattle.kpke.specs.KPke.{matrix_full}
 use Rattle.words.specs.Part.{length_span}

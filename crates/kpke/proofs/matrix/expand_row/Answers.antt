@@ -1,7 +1,6 @@
 -- Turn j writes place (i, j) where the first j places end if its stream is full, and says no where one is not: so yes
 -- means that all k are in place.
 use borrow.Author.Rules.{rules}
-use Prim.Native.Nat.{◌-◌}
 use native.Mathlib.Omega.{arith}
 use Rattle.words.specs.Part.{length_span}
 use Rattle.kpke.proofs.Sampled.{sampled_start, sampled_turn, sampled_stop, sampled_end}

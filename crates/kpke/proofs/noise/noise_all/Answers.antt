@@ -1,6 +1,5 @@
 -- Turn i writes polynomial n + i where the first i end, so that k turns write all k, one after the other.
 use borrow.Author.Rules.{rules}
-use Prim.Native.Nat.{◌-◌}
 use Rattle.words.specs.Part.{length_span}
 use Rattle.vectors.proofs.Concatenated.{concatenated_start, concatenated_turn, concatenated_end}
 use Rattle.kpke.proofs.noise.noise_all.Goals as goal
