@@ -1,7 +1,7 @@
 -- The bits are hashed from the coins and n, and then sampled: noisePoly's two halves, each with the masks of its own
 -- strip.
 use mathlib.Core.Path.{◌≡◌, refl, sym, ◌∙◌}
-use Prim.Native.Nat.{ℕ, ◌*◌, ◌≤◌}
+use Prim.Native.Nat.{ℕ, ◌≤◌}
 use lib.ListN.{length, drop}
 use Rattle.worksheet.specs.Ran.{bind, over}
 use Rattle.worksheet.specs.Sharing.{none}

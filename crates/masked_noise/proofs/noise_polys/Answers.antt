@@ -1,28 +1,17 @@
 -- Turn i makes noise polynomial n + i with the words and coefficients of its own, and writes it at place i.
-use mathlib.Core.Path.{◌≡◌, sym, ◌∙◌}
-use Prim.Native.Nat.{ℕ, suc, ◌+◌, ◌-◌, ◌*◌, ◌^◌, ◌<◌, ◌≤◌}
-use native.Mathlib.Nat.{le_refl, le_trans, le-add_right, mul-le-mul_right}
+use mathlib.Core.Path.{◌≡◌}
+use Prim.Native.Nat.{ℕ, ◌+◌, ◌*◌, ◌<◌, ◌≤◌}
+use native.Mathlib.Nat.{le_refl}
 use native.Mathlib.Omega.{arith}
-use lib.ListN.{length}
-use Rattle.worksheet.specs.SharedList.{SharedList, shared_list}
 use Rattle.words.specs.Part.{part_within, length_span}
-use Rattle.stages.specs.Counts.{noise_words, noise_coeffs}
 use Rattle.stages.specs.LentLaws.{masks_rest}
 use Rattle.stages.proofs.StoredRun.{written_start, written_turn, written_end, fits0, fits1}
 use Rattle.stages.proofs.StoredRun.{both_start, both_turn, length_rest}
-use Rattle.words.specs.Turn.{Placed, placed, turn_less, next_fits}
 use Rattle.masked_noise.proofs.noise_polys.Goals as goal
 
--- part i of k parts of w elements each, which are counted as n, among m
-module _ {w n m k i : ℕ} (e : w ≡ n) (h : n * k ≤ m) (t : i < k) where
-  within : w * i + w ≤ m
-  within = part_within w (rw e h) t
-
-  reach : w * i ≤ m
-  reach = le_trans (le-add_right _ _) within
-
-  at : {b : ℕ} → m * suc b < 2 ^ 63 → Placed (suc b) w i
-  at {b} r = let l : w * k * suc b ≤ m * suc b = mul-le-mul_right (suc b) (rw e h) in placed (omega arith) t
+-- part i of k parts of w elements each, which are counted as n, lies within m
+within : {w n m k i : ℕ} → w ≡ n → n * k ≤ m → i < k → w * i + w ≤ m
+within {w} e h t = part_within w (rw e h) t
 
 pub noise_poly-rec-requires : goal.noise_poly-rec-requires
 noise_poly-rec-requires c =

@@ -1,5 +1,5 @@
 -- Turn i makes noise polynomial n + i with the words and coefficients of its own, and writes it at place i.
-use Prim.Native.Nat.{ℕ, ◌+◌, ◌-◌}
+use Prim.Native.Nat.{ℕ, ◌+◌}
 use Rattle.worksheet.specs.SharedList.{shared_list}
 use Rattle.stages.specs.Worksheet.{noise_poly}
 use Rattle.stages.proofs.StoredRun.{Written}

@@ -1,5 +1,5 @@
 -- Turn i samples coefficient i with the next 2 eta masks and stores it.
-use Prim.Native.Nat.{◌+◌, ◌-◌, ◌*◌}
+use Prim.Native.Nat.{◌+◌, ◌*◌}
 use Rattle.worksheet.specs.Prog.{coeff, times}
 use Rattle.worksheet.specs.Ran.{Draws}
 use Rattle.worksheet.specs.SharedList.{shared_list}

@@ -1,5 +1,5 @@
 -- k polynomials from N = 0 and k + 1 from N = k, written one behind the other, are the 2 k + 1 of stage 5.
-use Prim.Native.Nat.{ℕ, ◌+◌, ◌-◌, ◌*◌, ◌^◌, ◌<◌, ◌≤◌}
+use Prim.Native.Nat.{ℕ, ◌+◌, ◌-◌, ◌*◌, ◌≤◌}
 use mathlib.Core.Path.{◌≡◌, refl, sym, ap₂, ◌∙◌}
 use mathlib.Core.List.{List}
 use native.Mathlib.Nat.{le_refl, le_trans, le-add_right}
@@ -12,7 +12,6 @@ use Rattle.stages.specs.Counts.{noise_words, noise_coeffs, stage5_coeffs}
 use Rattle.stages.specs.Layout.{polynomials}
 use Rattle.stages.specs.LentLaws.{masks_rest}
 use Rattle.stages.proofs.Laid.{parts_by_append, Front, Whole, front_long, rest-long, whole}
-use Rattle.stages.proofs.Laid.{front_within0, front_within1, same_length0, same_length1}
 use Rattle.stages.proofs.StoredRun.{length_rest, ran_as}
 use Rattle.masked_noise.specs.Lent.{Stage5Input}
 use Rattle.masked_noise.proofs.TwoRuns.{words_behind, coeffs_behind, two_runs}
@@ -100,3 +99,15 @@ overflow_mul-w c = omega (arith, words-reach c.requires c.noise_words.ensures.va
 
 pub overflow_mul-c : goal.overflow_mul-c
 overflow_mul-c c = omega (arith, coeffs-reach c.requires c.noise_coeffs.ensures.value)
+
+pub slice_bounds-noise_polys-count : goal.slice_bounds-noise_polys-count
+slice_bounds-noise_polys-count c = words-reach c.requires c.noise_words.ensures.value
+
+pub slice_bounds-noise_polys-start : goal.slice_bounds-noise_polys-start
+slice_bounds-noise_polys-start c = words-reach c.requires c.noise_words.ensures.value
+
+pub slice_bounds-noise_polys-count-2 : goal.slice_bounds-noise_polys-count-2
+slice_bounds-noise_polys-count-2 c = coeffs-reach c.requires c.noise_coeffs.ensures.value
+
+pub slice_bounds-noise_polys-start-2 : goal.slice_bounds-noise_polys-start-2
+slice_bounds-noise_polys-start-2 c = coeffs-reach c.requires c.noise_coeffs.ensures.value

@@ -1,6 +1,6 @@
 -- The tests go by rows 3, 10 and 5, so that the first that fails gives the answer; where none fails, write_split leaves
 -- the split, and the limit and the count are written behind it.
-use mathlib.Core.Path.{◌≡◌, sym, ap, ◌∙◌}
+use mathlib.Core.Path.{sym, ap, ◌∙◌}
 use native.Mathlib.Omega.{arith}
 use Rattle.refusals.specs.declared.Answer.TheVariants.{Done, WrongHash, LimitRange, MaskRange}
 use Rattle.refusals.specs.Refusals.{number}

@@ -1,6 +1,6 @@
 -- Turn by turn one word of z becomes its xor with the mask; the others are still as they were.
 use mathlib.Core.Path.{refl, ap}
-use Prim.Native.Nat.{ℕ, ◌-◌}
+use Prim.Native.Nat.{ℕ}
 use native.Mathlib.Omega.{arith}
 use lib.ListN.{get_or}
 use Rattle.words.specs.Word.{xor}

@@ -1,6 +1,5 @@
 -- Turn by turn one word of z becomes its xor with the mask; the others are still as they were.
 use mathlib.Core.Path.{◌≡◌}
-use Prim.Native.Nat.{◌-◌}
 use lib.ListN.{length, get_or}
 use Rattle.words.specs.Word.{xor}
 use Rattle.words.specs.Fill.{Replaced}
