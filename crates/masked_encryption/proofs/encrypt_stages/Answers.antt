@@ -3,8 +3,10 @@
 use mathlib.Core.Path.{◌∙◌}
 use native.Mathlib.Omega.{arith}
 use native.Mathlib.Nat.{le_refl}
-use Prim.Native.Nat.{◌+◌, ◌≤◌}
+use Prim.Native.Nat.{ℕ, ◌+◌, ◌≤◌}
 use lib.ListN.{length, drop}
+use mathlib.Core.List.{List}
+use Rattle.parameters.specs.declared.Parameters.{Parameters}
 use Rattle.worksheet.specs.Ran.{bind, part_coeffs}
 use Rattle.stages.specs.Worksheet.{masked_encrypt}
 use Rattle.stages.specs.Counts.{stage5_words, stage5_coeffs, stage7_words, encrypt_words, encrypt_coeffs}
@@ -15,28 +17,18 @@ use Rattle.masked_encryption.specs.Encryption.{encrypt_with}
 use Rattle.stages.proofs.Strips.{part_from}
 use Rattle.masked_encryption.proofs.encrypt_stages.Goals as goal
 
--- from the end: stages 6 and 7, stage 5, and stage 4
-abbrev last : goal.After-slice_known-14-1 → goal.After-slice_known-14-1
-last c = c
+-- ---- facts: stage 5's part of the strips
+words : (p : Parameters) (ws : List ℕ) → encrypt_words p ≤ length ws → stage5_words p + stage7_words p ≤ length ws
+unfolding encrypt_words
+words p ws h = h
 
--- ---- facts
-module _ (s : goal.After-slice_known-14-1) where
-  words : stage5_words s.args.p + stage7_words s.args.p ≤ length s.args.ws.now
-  unfolding encrypt_words
-  words = s.requires.0.words
-
-  coeffs : Masks (256 + stage5_coeffs s.args.p) s.args.cs.now
-  unfolding encrypt_coeffs
-  coeffs = s.requires.0.coeffs
-
--- stage 5's words lie within the strip
-words-within : (c : goal.After-encrypt_with-arg-2-1)
-    → c.stage5_words-w.result ≤ length c.args.ws.now
-words-within c = omega (arith, words c, c.stage5_words-w.ensures.0)
+coeffs : (p : Parameters) {cs : List ℕ} → Masks (encrypt_coeffs p) cs → Masks (256 + stage5_coeffs p) cs
+unfolding encrypt_coeffs
+coeffs p h = h
 
 pub stage4-rec-requires : goal.stage4-rec-requires
 stage4-rec-requires c =
-    let m = coeffs c in
+    let m = coeffs c.args.p c.requires.0.coeffs in
     record {
       input = c.requires.0.message;
       coeffs = record { enough = omega arith; below = m.below };
@@ -48,8 +40,8 @@ stage5-rec-requires c =
     record {
       fits = c.requires.0.fits;
       coins = c.requires.0.coins;
-      words = omega (arith, words c);
-      coeffs = masks_rest 256 (stage5_coeffs c.args.p) (le_refl _) (coeffs c);
+      words = omega (arith, words c.args.p c.args.ws.now c.requires.0.words);
+      coeffs = masks_rest 256 (stage5_coeffs c.args.p) (le_refl _) (coeffs c.args.p c.requires.0.coeffs);
       out = c.requires.1.noise;
     }
 
@@ -60,53 +52,42 @@ encrypt_with-requires c =
           record {
             fits = c.requires.0.fits;
             key = c.requires.0.key;
-            noise = record { long0 = c.stage5-rec.auto.n0 ∙ c.requires.1.noise.long0; long1 = c.stage5-rec.auto.n1 ∙ c.requires.1.noise.long1 };
-            message = record { long0 = c.stage4-rec.auto.mu0 ∙ c.requires.1.message.long0; long1 = c.stage4-rec.auto.mu1 ∙ c.requires.1.message.long1 };
+            noise =
+                record {
+                  long0 = c.stage5-rec.auto.n0 ∙ c.requires.1.noise.long0;
+                  long1 = c.stage5-rec.auto.n1 ∙ c.requires.1.noise.long1;
+                };
+            message =
+                record {
+                  long0 = c.stage4-rec.auto.mu0 ∙ c.requires.1.message.long0;
+                  long1 = c.stage4-rec.auto.mu1 ∙ c.requires.1.message.long1;
+                };
           };
       words =
           length_rest c.stage5_words-w.result (stage7_words c.args.p) c.args.ws.now
-          (omega (arith, words c, c.stage5_words-w.ensures.0));
+          (omega (arith, words c.args.p c.args.ws.now c.requires.0.words, c.stage5_words-w.ensures.value));
       out = c.requires.0.out;
     }
 
 pub returns : goal.returns
 unfolding masked_encrypt encrypt_with encrypt_words encrypt_coeffs
 returns c =
-    let e = last c in
     let a = c.args in
     bind _ (c.stage4-rec.ensures a.ws.now)
     (bind _ (part_coeffs a.cs.now 256 (stage5_coeffs a.p) c.stage5-rec.ensures)
-    (part_from a.ws.now c.stage5_words-w.ensures.0 (stage7_words a.p)
-    (e.encrypt_with.ensures (drop (256 + stage5_coeffs a.p) a.cs.now))))
+    (part_from a.ws.now c.stage5_words-w.ensures.value (stage7_words a.p)
+    (c.encrypt_with.ensures (drop (256 + stage5_coeffs a.p) a.cs.now))))
 
 pub slice_bounds-stage5-count : goal.slice_bounds-stage5-count
-slice_bounds-stage5-count c = omega (arith, (coeffs c).enough)
+slice_bounds-stage5-count c = omega (arith, (coeffs c.args.p c.requires.0.coeffs).enough)
 
 pub slice_bounds-stage5-start : goal.slice_bounds-stage5-start
-slice_bounds-stage5-start c = omega (arith, (coeffs c).enough)
+slice_bounds-stage5-start c = omega (arith, (coeffs c.args.p c.requires.0.coeffs).enough)
 
 pub slice_bounds-encrypt_with-count : goal.slice_bounds-encrypt_with-count
-slice_bounds-encrypt_with-count = words-within
+slice_bounds-encrypt_with-count c =
+    omega (arith, words c.args.p c.args.ws.now c.requires.0.words, c.stage5_words-w.ensures.value)
 
 pub slice_bounds-encrypt_with-start : goal.slice_bounds-encrypt_with-start
-slice_bounds-encrypt_with-start = words-within
-
-pub shape_of-mu0 : goal.shape_of-mu0
-shape_of-mu0 c = c.stage4-rec.auto.mu0
-
-pub shape_of-mu1 : goal.shape_of-mu1
-shape_of-mu1 c = c.stage4-rec.auto.mu1
-
-pub shape_of-n0 : goal.shape_of-n0
-shape_of-n0 c = (last c).encrypt_with.auto.n0 ∙ c.stage5-rec.auto.n0
-
-pub shape_of-n1 : goal.shape_of-n1
-shape_of-n1 c = (last c).encrypt_with.auto.n1 ∙ c.stage5-rec.auto.n1
-
-pub shape_of-planes0 : goal.shape_of-planes0
-shape_of-planes0 c = (last c).encrypt_with.auto.planes0
-
-pub shape_of-planes1 : goal.shape_of-planes1
-shape_of-planes1 c = (last c).encrypt_with.auto.planes1
-
--- left: _ is used at After-slice_known-14-1, After-stage5-arg-3-1
+slice_bounds-encrypt_with-start c =
+    omega (arith, words c.args.p c.args.ws.now c.requires.0.words, c.stage5_words-w.ensures.value)

@@ -16,11 +16,5 @@ encrypt_stages-requires c = (
   },
 )
 
-pub shape_of-planes0 : goal.shape_of-planes0
-shape_of-planes0 c = c.encrypt_stages.auto.planes0
-
-pub shape_of-planes1 : goal.shape_of-planes1
-shape_of-planes1 c = c.encrypt_stages.auto.planes1
-
 pub returns : goal.returns
 returns c = c.encrypt_stages.ensures

@@ -21,8 +21,7 @@ compress_groups-requires c =
 pub returns : goal.returns
 returns c cs =
     let a = c.args in
-    let o = c.compress_groups.last.1.1.1.1.1.1 in
-    let out = shared_list o.0 o.1.0 in
+    let out = shared_list c.compress_groups.new.out0 c.compress_groups.new.out1 in
     ran_as (groups_of a.d a.k (shared_list a.f0.now a.f1.now))
     (flatten_zips a.d (4 * a.k) out ∙ ap (λ (n : ℕ). zip n out) (group_words a.d a.k))
     (bind _ (rw (group_masks a.d a.k) at (c.compress_groups.ensures cs)) over)

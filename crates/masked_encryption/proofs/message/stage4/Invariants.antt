@@ -10,8 +10,10 @@ use Rattle.masked_encryption.proofs.message.stage4.Given as goal
 
 -- i coefficients made
 abbrev pub invariant-loop-i : goal.invariant-loop-i
-invariant-loop-i l = StoredSharings
-    (λ n ys r. Draws coeff n (times n (λ j. bit_to_coeff 1665 (string_bit (shared_list l.m0 l.m1) j))) l.initial.rec l.cs ys r)
+invariant-loop-i l =
+    StoredSharings
+    (λ n ys r. Draws coeff n (times n (λ j. bit_to_coeff 1665 (string_bit (shared_list l.m0 l.m1) j)))
+    l.initial.rec l.cs ys r)
     256 256 l.mu0 l.mu1 l.rec l.i
 
 abbrev pub decreases-loop-i : goal.decreases-loop-i

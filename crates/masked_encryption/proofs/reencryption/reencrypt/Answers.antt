@@ -19,7 +19,7 @@ returns c =
     record {
       ran =
           stage6_of_lem a.p a.ek.now c.requires.0.key.expanded (rw bytes at c.decode12_all.ensures)
-          (shared_list a.n0-1.now a.n1-1.now) (shared_list a.mu0.now a.mu1.now)
+          (shared_list a.n0.now a.n1.now) (shared_list a.mu0.now a.mu1.now)
           o₀ o₁ (rw front at c.enter_polynomials.ensures);
       range =
           record {
@@ -29,12 +29,3 @@ returns c =
             below1 = rw o₁ (below-uv_pass a.p.k _ _ _ _);
           };
     }
-
-pub shape_of-n0 : goal.shape_of-n0
-shape_of-n0 c = c.uv_in_place.auto.n
-
-pub shape_of-n1 : goal.shape_of-n1
-shape_of-n1 c = c.uv_in_place-2.auto.n
-
-pub shape_of-t : goal.shape_of-t
-shape_of-t c = c.decode12_all.auto.v
