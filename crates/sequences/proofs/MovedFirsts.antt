@@ -261,7 +261,9 @@ module _ {p : Parameters} {dk : List ℕ} (key : Key p dk) where
         over_firsts (256 * p.k) (λ a w.
         F (leaves_all (cond b (key_state (fresh_key (split p dk a w) mc mw) limit 0) (at m a w)) calls))
         ≡ over_firsts (256 * p.k) (λ a w.
-        F (at (leaves_all (cond b (key_state (fresh_key key₀ mc mw) limit 0) (key_state key₀ limit m)) calls).count a w)))
+        F
+        (at (leaves_all (cond b (key_state (fresh_key key₀ mc mw) limit 0) (key_state key₀ limit m)) calls).count a
+        w)))
         (λ e.
         let x = refreshable (key_state key₀ limit m) rank mc mw e in
         let lm : length mc ≡ 256 * p.k = x.long.mask_coeffs ∙ sym x.long.s0 ∙ k.long.s0 in

@@ -93,8 +93,8 @@ module _ (rank limit : ℕ) (before : List Call) (typed : AllTyped before) (e : 
         (choices e p firsts (strip_words e p) (strip_coeffs p) dk c t v)
     unfolding choices_in
     choices_in_counted {dk} key {key₀} k t v =
-        moved_firsts key limit (λ h. strips (strip_words e p) (strip_coeffs p) (λ ws cs. hit t v (shown h (run ws cs)))) k
-        0 before typed
+        moved_firsts key limit
+        (λ h. strips (strip_words e p) (strip_coeffs p) (λ ws cs. hit t v (shown h (run ws cs)))) k 0 before typed
         ∙ counted key (leaves_all (key_state key₀ limit 0) before).count t v
 
     silent : {dk dk' : List ℕ} → Key p dk → Key p dk' → public_part p dk ≡ public_part p dk' → (t v : ℕ)

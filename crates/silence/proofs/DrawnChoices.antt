@@ -1,5 +1,5 @@
--- The choices as masks that are drawn: the first shares, the split key of which they are a part, and the worksheet. What
--- is counted of them, and that no value is given past the worksheet's end.
+-- The choices as masks that are drawn: the first shares, the split key of which they are a part, and the worksheet.
+-- Counted over them, no value is given past the worksheet's end.
 use Rattle.std.specs.Prelude.{ℕ, zero, suc, ◌+◌, ◌*◌, ◌^◌, ◌≤◌, ◌≡◌, refl, List, [], ◌∷◌, length, drop, replicate}
 use Rattle.std.proofs.Common.{sym, ◌∙◌, arith, drop_at}
 use Rattle.std.proofs.Math.Path.{ap}
@@ -74,7 +74,8 @@ module _ (e : Edition) (p : Parameters) where
   counted dk c t v = over_choices (256 * p.k) (strip_words e p) (strip_coeffs p) (gives e p dk c t v)
 
   module _ {dk c : List ℕ} (key : Key p dk) (ct : Ciphertext p c) where
-    pub uses-split : (a w : List ℕ) → Uses (steps e p) (strip_words e p) (strip_coeffs p) (worksheet e p (drawn_key dk a w) c)
+    pub uses-split : (a w : List ℕ)
+        → Uses (steps e p) (strip_words e p) (strip_coeffs p) (worksheet e p (drawn_key dk a w) c)
     unfolding split
     uses-split a w = uses-worksheet e p _ c (length_hash key) ct.long
 

@@ -5,7 +5,8 @@ use Rattle.words.specs.Bounded.{Below}
 use Rattle.worksheet.specs.Stage.{Stage, comap}
 use Rattle.worksheet.specs.SharedList.{SharedList}
 use Rattle.worksheet.specs.Choice.{KeptShared}
-use Rattle.masked_fips202.specs.MaskedSpongeSilence.{SharedBytes, masked_sha3_512_words_stage, masked_shake256_words-stage}
+use Rattle.masked_fips202.specs.MaskedSpongeSilence.{SharedBytes, masked_sha3_512_words_stage}
+use Rattle.masked_fips202.specs.MaskedSpongeSilence.{masked_shake256_words-stage}
 use Rattle.masked_fips202.specs.MaskedWords.{masked_sha3_512_words, masked_shake256_words}
 use Rattle.masked_fips202.specs.EntryCounts.{sha3_512_entries, shake256_entries}
 use Rattle.masked_sampler.specs.PolynomialSilence.{Anything}

@@ -119,7 +119,8 @@ module _ (p : Parameters) (dk dk' : List ℕ) where
   word_at-bits b j = lane_of-bits (below-take 32 (below-drop (vector_bytes p + ek_bytes p + 32) b)) j
 
   pub coupled_words : Below 256 dk → Below 256 dk' → (c : ℕ → Bool)
-      → Coupled (λ w w'. KeptShared 4 c (shared_list w (second_words p dk w)) (shared_list w' (second_words p dk' w'))) 0
+      → Coupled
+      (λ w w'. KeptShared 4 c (shared_list w (second_words p dk w)) (shared_list w' (second_words p dk' w'))) 0
       (times 4 (λ j. mask word)) (times 4 (λ j. mask word))
   unfolding second_words
   coupled_words b b' c =
@@ -131,5 +132,6 @@ module _ (p : Parameters) (dk dk' : List ℕ) where
             )
             (r.at 0 0 j h);
       })
-      (coupled-times 4 {R = λ j x x'. Kept 64 (c j) (split_word (word_at dk j) x) (split_word (word_at dk' j) x')} (λ j h.
+      (coupled-times 4 {R = λ j x x'. Kept 64 (c j) (split_word (word_at dk j) x) (split_word (word_at dk' j) x')}
+      (λ j h.
       coupled-word (c j) (word_at-bits b j) (word_at-bits b' j)))

@@ -40,9 +40,15 @@ masked_decrypt-rec-requires c =
 pub stage3-rec-requires : goal.stage3-rec-requires
 stage3-rec-requires c =
     record {
-      input = record { long0 = omega (arith, c.masked_decrypt-rec.auto.m0); long1 = omega (arith, c.masked_decrypt-rec.auto.m1) };
+      input =
+          record {
+            long0 = omega (arith, c.masked_decrypt-rec.auto.m0);
+            long1 = omega (arith, c.masked_decrypt-rec.auto.m1);
+          };
       public = length_counted c.args.public.now c.ek_bytes-h.ensures 32 c.requires.public;
-      words = length_rest 164 stage3_words c.args.ws.now (omega (arith, words-there c.args.p c.requires.words, fixed_counts.stage3_words));
+      words =
+          length_rest 164 stage3_words c.args.ws.now
+          (omega (arith, words-there c.args.p c.requires.words, fixed_counts.stage3_words));
       out = c.requires.out;
     }
 
@@ -56,8 +62,16 @@ reencryption_check-requires c =
             expanded = expanded_front c.args.p c.args.public.now c.ek_bytes-h.ensures c.requires.matrix;
           };
       ct = c.requires.ct;
-      message = record { long0 = omega (arith, c.masked_decrypt-rec.auto.m0); long1 = omega (arith, c.masked_decrypt-rec.auto.m1) };
-      hashed = record { long0 = c.stage3-rec.auto.g0 ∙ c.requires.out.long0; long1 = c.stage3-rec.auto.g1 ∙ c.requires.out.long1 };
+      message =
+          record {
+            long0 = omega (arith, c.masked_decrypt-rec.auto.m0);
+            long1 = omega (arith, c.masked_decrypt-rec.auto.m1);
+          };
+      hashed =
+          record {
+            long0 = c.stage3-rec.auto.g0 ∙ c.requires.out.long0;
+            long1 = c.stage3-rec.auto.g1 ∙ c.requires.out.long1;
+          };
       words = length_rest 789 _ c.args.ws.now (words-there c.args.p c.requires.words);
       coeffs = c.requires.coeffs;
     }
@@ -75,7 +89,8 @@ returns c =
           (bind _ (rw decrypt-words at (c.masked_decrypt-rec.ensures a.cs.now))
           (bind _
           (rw fixed_counts.stage3_words at
-          (rw (rest_counted public c.ek_bytes-h.ensures) at (part_words ws 164 stage3_words (c.stage3-rec.ensures a.cs.now))))
+          (rw (rest_counted public c.ek_bytes-h.ensures) at
+          (part_words ws 164 stage3_words (c.stage3-rec.ensures a.cs.now))))
           (rw (front_counted public c.ek_bytes-h.ensures) at
           (part_words ws 789 (encrypt_words a.p + stage8_words a.p) b.ran))));
       bit0 = b.bit0;

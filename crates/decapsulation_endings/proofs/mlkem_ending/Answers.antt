@@ -47,7 +47,9 @@ stage10-requires c =
       x1 = omega (arith, g.long1);
       y0 = omega (arith, c.masked_j-rec.auto.out0);
       y1 = omega (arith, c.masked_j-rec.auto.out1);
-      masks = length_rest _ 4 c.args.ws.now (omega (arith, masks c.args.p c.requires.words, c.stage9_words-w.ensures.value));
+      masks =
+          length_rest _ 4 c.args.ws.now
+          (omega (arith, masks c.args.p c.requires.words, c.stage9_words-w.ensures.value));
       out0 = c.requires.out.long0;
       out1 = c.requires.out.long1;
     }

@@ -35,7 +35,8 @@ returns-then-number-eq0 c =
     let a = c.args in
     let g = input a.s0.now a.s1.now a.z0.now a.z1.now a.public.now a.ct.now a.words.now a.coeffs.now in
     told-decapsulated a.e a.p g a.limit a.count.now a.k0.now a.k1.now
-    c.exact_input-exact.ensures (c.exact_shares.ensures a.k0.now a.k1.now refl refl) c.if-not-exact-exact_shares.false c.if-used-limit.false c.decapsulate-answer.ensures
+    c.exact_input-exact.ensures (c.exact_shares.ensures a.k0.now a.k1.now refl refl)
+    c.if-not-exact-exact_shares.false c.if-used-limit.false c.decapsulate-answer.ensures
     (sym (after_done _ (a.count.now + 1) a.count.now (sym c.number.ensures.value ∙ c.if-number-eq0.true)))
 
 pub returns-else-number-eq0 : goal.returns-else-number-eq0
@@ -43,7 +44,8 @@ returns-else-number-eq0 c =
     let a = c.args in
     let g = input a.s0.now a.s1.now a.z0.now a.z1.now a.public.now a.ct.now a.words.now a.coeffs.now in
     told-decapsulated a.e a.p g a.limit a.count.now a.k0.now a.k1.now
-    c.exact_input-exact.ensures (c.exact_shares.ensures a.k0.now a.k1.now refl refl) c.if-not-exact-exact_shares.false c.if-used-limit.false c.decapsulate-answer.ensures
+    c.exact_input-exact.ensures (c.exact_shares.ensures a.k0.now a.k1.now refl refl)
+    c.if-not-exact-exact_shares.false c.if-used-limit.false c.decapsulate-answer.ensures
     (sym (after_refused _ (a.count.now + 1) a.count.now (λ z. c.if-number-eq0.false (c.number.ensures.value ∙ z))))
 
 pub overflow_add-count : goal.overflow_add-count

@@ -58,19 +58,28 @@ returns-then-not-both_reduced c =
 
 pub returns-then-not-expand : goal.returns-then-not-expand
 returns-then-not-expand c =
+    let a = c.args in
     refusal _ _ _ _ _ ShortStream (omega arith)
     (λ z ct words.
-    range_passed c.args.p (lent c.args.s0.now c.args.s1.now c.args.public.now c.args.coeffs.now z ct words) (sym c.reduced.ensures ∙ c.if-not-reduced.false) (sym c.both_reduced.ensures ∙ c.if-not-both_reduced.false)
-    (refused ShortStream _ (full_by c.args.p c.args.public.now c.vector_bytes-rho.ensures c.requires.public c.expand.ensures.answer ∙ c.if-not-expand.true)))
+    range_passed a.p (lent a.s0.now a.s1.now a.public.now a.coeffs.now z ct words)
+    (sym c.reduced.ensures ∙ c.if-not-reduced.false) (sym c.both_reduced.ensures ∙ c.if-not-both_reduced.false)
+    (refused ShortStream _
+    (full_by a.p a.public.now c.vector_bytes-rho.ensures c.requires.public c.expand.ensures.answer
+    ∙ c.if-not-expand.true)))
 
 pub returns : goal.returns
 returns c =
+    let a = c.args in
     record {
       answer = λ z ct words.
           sym
-          (range_passed c.args.p (lent c.args.s0.now c.args.s1.now c.args.public.now c.args.coeffs.now z ct words) (sym c.reduced.ensures ∙ c.if-not-reduced.false) (sym c.both_reduced.ensures ∙ c.if-not-both_reduced.false)
-          (passed ShortStream _ (full_by c.args.p c.args.public.now c.vector_bytes-rho.ensures c.requires.public c.expand.ensures.answer ∙ c.if-not-expand.false) no_row));
+          (range_passed a.p (lent a.s0.now a.s1.now a.public.now a.coeffs.now z ct words)
+          (sym c.reduced.ensures ∙ c.if-not-reduced.false) (sym c.both_reduced.ensures ∙ c.if-not-both_reduced.false)
+          (passed ShortStream _
+          (full_by a.p a.public.now c.vector_bytes-rho.ensures c.requires.public c.expand.ensures.answer
+          ∙ c.if-not-expand.false)
+          no_row));
       matrix = λ e.
-          expanded_public c.args.public.now c.vector_bytes-rho.ensures c.requires.public c.args.p.k _
+          expanded_public a.public.now c.vector_bytes-rho.ensures c.requires.public a.p.k _
           c.expand.result c.expand.ensures.answer c.if-not-expand.false c.expand.ensures.holds;
     }

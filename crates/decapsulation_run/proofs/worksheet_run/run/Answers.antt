@@ -46,7 +46,9 @@ ending-requires c =
       hashed = record { long0 = omega (arith, c.compared-b.auto.g0); long1 = omega (arith, c.compared-b.auto.g1) };
       z = record { long0 = k.z0; long1 = k.z1 };
       ct = c.requires.input.ct;
-      words = length_rest _ _ c.args.ws.now (omega (arith, masks c.args.e c.args.p c.requires.input.words, c.compared_words-w.ensures.value));
+      words =
+          length_rest _ _ c.args.ws.now
+          (omega (arith, masks c.args.e c.args.p c.requires.input.words, c.compared_words-w.ensures.value));
       out = c.requires.out;
     }
 
@@ -65,7 +67,9 @@ pub slice_bounds-ending-end-2 : goal.slice_bounds-ending-end-2
 slice_bounds-ending-end-2 c = omega (arith, c.compared-b.auto.g1)
 
 pub slice_bounds-ending-count : goal.slice_bounds-ending-count
-slice_bounds-ending-count c = omega (arith, masks c.args.e c.args.p c.requires.input.words, c.compared_words-w.ensures.value)
+slice_bounds-ending-count c =
+    omega (arith, masks c.args.e c.args.p c.requires.input.words, c.compared_words-w.ensures.value)
 
 pub slice_bounds-ending-start : goal.slice_bounds-ending-start
-slice_bounds-ending-start c = omega (arith, masks c.args.e c.args.p c.requires.input.words, c.compared_words-w.ensures.value)
+slice_bounds-ending-start c =
+    omega (arith, masks c.args.e c.args.p c.requires.input.words, c.compared_words-w.ensures.value)
