@@ -18,7 +18,11 @@ loop-j-init c =
 
 pub multiply_add-requires : goal.multiply_add-requires
 multiply_add-requires c =
-    record { sum = omega arith; left = length_span _ 256 _ (c.requires.left c.loop-j.j (omega arith)); right = search (rules, length_span) }
+    record {
+      sum = omega arith;
+      left = length_span _ 256 _ (c.requires.left c.loop-j.j (omega arith));
+      right = search (rules, length_span);
+    }
 
 pub loop-j-preserved : goal.loop-j-preserved
 loop-j-preserved c =

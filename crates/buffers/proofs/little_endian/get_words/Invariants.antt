@@ -1,5 +1,4 @@
 -- The first i of out are in place, and turn i reads the next 8 bytes, which is what a number of the string is.
-use Prim.Native.Nat.{◌-◌}
 use mathlib.Core.Path.{◌≡◌}
 use lib.ListN.{length}
 use Rattle.words.specs.Fill.{Filled}
@@ -9,6 +8,3 @@ use Rattle.buffers.proofs.little_endian.get_words.Given as goal
 -- i words read
 abbrev pub invariant-loop-i : goal.invariant-loop-i
 invariant-loop-i l = (l.i-end ≡ length l.initial.out) × Filled (length l.initial.out) (number_at 8 l.b) l.i l.out
-
-abbrev pub decreases-loop-i : goal.decreases-loop-i
-decreases-loop-i l = length l.initial.out - l.i

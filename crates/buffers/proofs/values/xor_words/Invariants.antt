@@ -6,4 +6,6 @@ use Rattle.words.specs.Fill.{Filled}
 use Rattle.buffers.proofs.values.xor_words.Given as goal
 
 abbrev pub invariant-loop-i : goal.invariant-loop-i
-invariant-loop-i l = (l.i-end ≡ length l.initial.out) × Filled (length l.initial.out) (λ k. xor (get_or l.a k 0) (get_or l.b k 0)) l.i l.out
+invariant-loop-i l =
+    (l.i-end ≡ length l.initial.out)
+    × Filled (length l.initial.out) (λ k. xor (get_or l.a k 0) (get_or l.b k 0)) l.i l.out
