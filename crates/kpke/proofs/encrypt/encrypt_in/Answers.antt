@@ -6,11 +6,6 @@ use Rattle.parameters.specs.Lengths.{vector_bytes}
 use Rattle.kpke.proofs.Encrypted.{encrypt-parts}
 use Rattle.kpke.proofs.encrypt.encrypt_in.Goals as goal
 
--- ---- facts
--- the bytes of ek that are decoded, from the first
-decoded-bytes : (c : goal.After-slice_known-9-1) → c.vector_bytes-n.result - 0 ≡ vector_bytes c.args.p
-decoded-bytes c = omega (arith, c.vector_bytes-n.ensures)
-
 pub second_part-requires : goal.second_part-requires
 second_part-requires c =
     let i = c.requires.0 in
@@ -41,6 +36,8 @@ encode_parts-requires c =
 
 pub returns : goal.returns
 returns c =
+    -- the bytes of ek that are decoded, from the first
+    let e : c.vector_bytes-n.result - 0 ≡ vector_bytes c.args.p = omega (arith, c.vector_bytes-n.ensures) in
     encrypt-parts c.args.p c.args.ek.now c.args.m.now c.args.r.now c.requires.0.matrix
-    (rw (decoded-bytes c) at c.decode12_all.ensures)
+    (rw e at c.decode12_all.ensures)
     c.transformed_noise.ensures c.first_parts.ensures c.second_part.ensures c.encode_parts.ensures
