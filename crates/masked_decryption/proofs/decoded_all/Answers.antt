@@ -1,6 +1,6 @@
 -- Polynomials don't overlap, in the bytes and in u, so that turn i leaves those before it as they are.
 use mathlib.Core.List.{map}
-use Prim.Native.Nat.{ℕ, ◌+◌, ◌-◌, ◌*◌, ◌≤◌}
+use Prim.Native.Nat.{◌*◌}
 use native.Mathlib.Omega.{arith}
 use Rattle.codec.specs.Bytes.{byte_decode}
 use Rattle.codec.specs.Compress.{decompress}
@@ -8,7 +8,6 @@ use Rattle.words.specs.Part.{part_fits, length_span}
 use Rattle.vectors.proofs.Concatenated.{concatenated_start, concatenated_read, concatenated_end}
 use Rattle.masked_decryption.proofs.decoded_all.Goals as goal
 
--- ---- facts
 pub decoded-requires : goal.decoded-requires
 decoded-requires c =
     let i = c.loop-i.i in

@@ -6,7 +6,6 @@ use Rattle.masked_encryption.specs.Encryption.{encrypt_with}
 use native.Mathlib.Omega.{arith}
 use Rattle.masked_encryption.proofs.encrypt_with.Goals as goal
 
--- ---- facts
 pub stage7-requires : goal.stage7-requires
 stage7-requires c =
     let from_zero : 256 * (c.args.p.k + 1) - 0 ≡ 256 * (c.args.p.k + 1) = omega arith in

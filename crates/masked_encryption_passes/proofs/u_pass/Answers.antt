@@ -11,7 +11,6 @@ use Rattle.kpke.proofs.Encoded.{place_fits}
 use Rattle.masked_encryption_passes.specs.Passes.{u_pass}
 use Rattle.masked_encryption_passes.proofs.u_pass.Goals as goal
 
--- ---- facts
 pub dot-requires : goal.dot-requires
 dot-requires c =
     let s = c.args in

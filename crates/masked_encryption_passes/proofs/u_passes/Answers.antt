@@ -11,7 +11,6 @@ use Rattle.vectors.proofs.Concatenated.{concatenated_end}
 use Rattle.masked_encryption_passes.specs.Passes.{u_pass}
 use Rattle.masked_encryption_passes.proofs.u_passes.Goals as goal
 
--- ---- facts
 pub u_pass-requires : goal.u_pass-requires
 u_pass-requires c =
     let l = c.loop-i in

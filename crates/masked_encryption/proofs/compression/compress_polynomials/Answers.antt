@@ -10,7 +10,6 @@ use Rattle.stages.proofs.StoredRun.{ran_as}
 use Rattle.masked_encryption.proofs.Polynomials.{group_words, group_masks, groups_of}
 use Rattle.masked_encryption.proofs.compression.compress_polynomials.Goals as goal
 
--- ---- facts
 pub compress_groups-requires : goal.compress_groups-requires
 compress_groups-requires c =
     let d = c.args.d in

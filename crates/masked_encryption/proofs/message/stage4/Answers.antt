@@ -1,5 +1,4 @@
 -- Turn i makes bit i of the message a coefficient with mask coefficient i, and stores its two shares at place i.
-use Prim.Native.Nat.{◌-◌}
 use mathlib.Core.Path.{refl}
 use native.Mathlib.Omega.{arith}
 use Rattle.worksheet.specs.Ran.{bind, over, next_coeff}
@@ -8,7 +7,6 @@ use Rattle.worksheet.specs.StoredSharings.{sharings_start, sharings_turn, sharin
 use Rattle.stages.specs.Worksheet.{stage4}
 use Rattle.masked_encryption.proofs.message.stage4.Goals as goal
 
--- ---- facts
 pub bit_to_coeff-o-requires : goal.bit_to_coeff-o-requires
 bit_to_coeff-o-requires c =
     (c.bit_of.ensures.bits, c.requires.coeffs.below.at c.loop-i.i)

@@ -1,8 +1,7 @@
 -- Turn i writes the planes of polynomial i behind those of the polynomials before it.
 use mathlib.Core.Path.{sym, ◌∙◌}
-use Prim.Native.Nat.{◌+◌, ◌-◌, ◌*◌, ◌≤◌}
+use Prim.Native.Nat.{◌*◌}
 use native.Mathlib.Omega.{arith}
-use lib.ListN.{length}
 use Rattle.codec.specs.Bytes.{byte_decode}
 use Rattle.words.specs.Part.{part_fits, length_span}
 use Rattle.vectors.proofs.Concatenated.{concatenated_start, concatenated_fits, concatenated_read, concatenated_end}
@@ -10,7 +9,6 @@ use Rattle.stages.specs.Worksheet.{planes_of}
 use Rattle.stages.specs.FlattenLaws.{flatten-tab}
 use Rattle.masked_mlkem.proofs.comparison.first_planes.Goals as goal
 
--- ---- facts
 pub encoded_planes-requires : goal.encoded_planes-requires
 encoded_planes-requires c =
     let l = c.loop-i in

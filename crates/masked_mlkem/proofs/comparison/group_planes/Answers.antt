@@ -1,6 +1,6 @@
 -- Turn g writes the planes of group g behind those of the groups before it.
 use mathlib.Core.Path.{sym, ◌∙◌}
-use Prim.Native.Nat.{◌-◌, ◌*◌}
+use Prim.Native.Nat.{◌*◌}
 use native.Mathlib.Omega.{arith}
 use Rattle.words.specs.Part.{length_span}
 use Rattle.vectors.proofs.Concatenated.{concatenated_start, concatenated_fits, concatenated_turn, concatenated_end}
@@ -9,7 +9,6 @@ use Rattle.stages.specs.FlattenLaws.{flatten-tab}
 use Rattle.masked_mlkem.proofs.Compared.{group_planes}
 use Rattle.masked_mlkem.proofs.comparison.group_planes.Goals as goal
 
--- ---- facts
 pub coefficient_planes-requires : goal.coefficient_planes-requires
 coefficient_planes-requires c =
     let l = c.loop-g in

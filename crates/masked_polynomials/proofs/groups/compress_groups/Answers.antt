@@ -1,15 +1,14 @@
 -- Turn g draws the masks of group g and writes its d planes behind those of the groups before it.
 use mathlib.Core.Path.{sym, ◌∙◌}
-use Prim.Native.Nat.{◌+◌, ◌-◌, ◌*◌, ◌^◌, ◌<◌, ◌≤◌}
+use Prim.Native.Nat.{◌+◌, ◌*◌, ◌^◌, ◌<◌}
 use native.Mathlib.Nat.{le_refl, le_of_eq, le_trans, le-add_right}
 use native.Mathlib.Omega.{arith}
-use lib.ListN.{length}
 use Rattle.worksheet.specs.SharedList.{SharedList, shared_list}
 use Rattle.words.specs.Part.{part_fits, part_within}
 use Rattle.masked_polynomials.proofs.Compressed.{group_part, compress_part}
 use Rattle.stages.proofs.StoredRun.{written_start, written_turn, written_end, fits0, fits1}
 use Rattle.stages.proofs.StoredRun.{words_start, words_turn, fits_words}
-use Rattle.words.specs.Turn.{Placed, placed, turn_less, next_fits}
+use Rattle.words.specs.Turn.{placed}
 use Rattle.masked_polynomials.proofs.groups.compress_groups.Goals as goal
 
 -- what the call leaves in the parts that it is lent

@@ -1,5 +1,4 @@
 -- Dropping 13 of d + 13 planes leaves those from place 13 on, which the turns copy in order.
-use Prim.Native.Nat.{◌-◌}
 use native.Mathlib.Omega.{arith}
 use lib.ListN.{length-set}
 use Rattle.masked_polynomials.proofs.Compressed.{copied_start, copied_turn, copied_end}

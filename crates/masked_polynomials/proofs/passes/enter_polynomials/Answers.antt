@@ -1,5 +1,5 @@
 -- Turn i enters part i of both shares.
-use Prim.Native.Nat.{◌-◌, ◌*◌}
+use Prim.Native.Nat.{◌*◌}
 use mathlib.Core.Path.{◌≡◌}
 use native.Mathlib.Omega.{arith}
 use Rattle.worksheet.specs.RanLoops.{times_start, times_turn}
@@ -8,7 +8,6 @@ use Rattle.words.specs.Part.{part_span, length_span}
 use Rattle.stages.specs.LayoutLaws.{parts_by_start, parts_by_suc}
 use Rattle.masked_polynomials.proofs.passes.enter_polynomials.Goals as goal
 
--- ---- facts
 pub loop-i-init : goal.loop-i-init
 loop-i-init c =
     let s = c.args in

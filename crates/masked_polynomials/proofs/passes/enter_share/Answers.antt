@@ -1,5 +1,4 @@
 -- Turn i enters element i, so i turns are the first i entries.
-use Prim.Native.Nat.{◌-◌}
 use mathlib.Core.Path.{◌≡◌, refl}
 use native.Mathlib.Numerals.{add-one}
 use native.Mathlib.Omega.{arith}
@@ -28,6 +27,3 @@ returns c ws cs =
 
 pub loop-i-init : goal.loop-i-init
 loop-i-init c = (refl, omega arith, λ ws cs. times_start _)
-
-pub overflow_cast-f : goal.overflow_cast-f
-overflow_cast-f c = record { fits = omega (arith, c.shared_slice_known-in-loop-i-1.given c.loop-i.i) }
