@@ -1,5 +1,4 @@
 -- Rows don't overlap, so that turn i leaves the rows before it as they are.
-use Prim.Native.Nat.{◌-◌}
 use Rattle.vectors.specs.Vector.{parts}
 use Rattle.kpke.specs.Expanded.{places_of}
 use Rattle.vectors.proofs.Concatenated.{Concatenated}
@@ -10,6 +9,3 @@ use Rattle.masked_encryption_passes.proofs.u_passes.Given as goal
 abbrev pub invariant-loop-i : goal.invariant-loop-i
 invariant-loop-i l =
     Concatenated 256 l.k (λ i. u_pass l.k (places_of l.k l.a) (parts 256 l.y) (parts 256 l.e1 i) i) l.initial.u l.i l.u
-
-abbrev pub decreases-loop-i : goal.decreases-loop-i
-decreases-loop-i l = l.k - l.i

@@ -1,5 +1,4 @@
 -- Turn i makes bit i of the message a coefficient with mask coefficient i, and stores its two shares at place i.
-use Prim.Native.Nat.{◌-◌}
 use Rattle.worksheet.specs.Prog.{coeff, times}
 use Rattle.worksheet.specs.Ran.{Draws}
 use Rattle.worksheet.specs.SharedList.{shared_list}
@@ -15,6 +14,3 @@ invariant-loop-i l =
     (λ n ys r. Draws coeff n (times n (λ j. bit_to_coeff 1665 (string_bit (shared_list l.m0 l.m1) j)))
     l.initial.rec l.cs ys r)
     256 256 l.mu0 l.mu1 l.rec l.i
-
-abbrev pub decreases-loop-i : goal.decreases-loop-i
-decreases-loop-i l = 256 - l.i

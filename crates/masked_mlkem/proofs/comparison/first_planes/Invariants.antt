@@ -1,5 +1,5 @@
 -- Turn i writes the planes of polynomial i behind those of the polynomials before it.
-use Prim.Native.Nat.{◌-◌, ◌*◌}
+use Prim.Native.Nat.{◌*◌}
 use Rattle.codec.specs.Bytes.{byte_decode}
 use Rattle.vectors.specs.Vector.{parts}
 use Rattle.vectors.proofs.Concatenated.{Concatenated}
@@ -10,6 +10,3 @@ use Rattle.masked_mlkem.proofs.comparison.first_planes.Given as goal
 abbrev pub invariant-loop-i : goal.invariant-loop-i
 invariant-loop-i l =
     Concatenated (4 * l.d) l.k (λ i. planes_of l.d (byte_decode l.d (parts (32 * l.d) l.c i))) l.initial.out l.i l.out
-
-abbrev pub decreases-loop-i : goal.decreases-loop-i
-decreases-loop-i l = l.k - l.i

@@ -1,5 +1,5 @@
 -- Turn i enters part i of both shares.
-use Prim.Native.Nat.{ℕ, ◌-◌, ◌≤◌}
+use Prim.Native.Nat.{ℕ, ◌≤◌}
 use mathlib.Core.List.{List}
 use Rattle.worksheet.specs.Pass.{enter_both}
 use Rattle.worksheet.specs.Prog.{times}
@@ -15,6 +15,3 @@ invariant-loop-i l = (l.i ≤ l.k)
     × ((ws cs : List ℕ)
     → Ran (times l.i (λ j. enter_both 256 (parts 256 l.f j) (parts 256 l.g j))) l.initial.rec ws cs
     (polynomials l.i (shared_list l.f l.g)) l.rec ws cs)
-
-abbrev pub decreases-loop-i : goal.decreases-loop-i
-decreases-loop-i l = l.k - l.i
