@@ -75,7 +75,8 @@ module _ (p : Parameters) {c d : List ℕ} (a : Ciphertext p c) (b : Ciphertext 
       let n : suc (word_count p - 1) ≡ word_count p = omega (arith, fits.dv.least) in
       let bit : Bool → ℕ = λ b. cond b 1 0 in
       gives_bind
-      (gives-add_public (word_count p) (λ j. get_or (ciphertext_planes p c) j 0) (λ j. get_or (ciphertext_planes p d) j 0)
+      (gives-add_public (word_count p) (λ j. get_or (ciphertext_planes p c) j 0)
+      (λ j. get_or (ciphertext_planes p d) j 0)
       (λ j. get_or w j none)
       (λ j l. record { lt = (below-ciphertext_planes p c).at j })
       (λ j l. s.each.at none j (omega (arith, length_ciphertext_planes p d))))

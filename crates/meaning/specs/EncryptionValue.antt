@@ -98,7 +98,8 @@ module _ (p : Parameters) where
     encrypt-ciphertext = rw encrypt-encoded (encoded_ciphertext p u_numbers_lem v_numbers_lem)
 
     encrypt_words_lem : ciphertext_planes p (encrypt p ek m r) ≡ words_of p u_made v_made
-    encrypt_words_lem = ap (ciphertext_planes p) encrypt-encoded ∙ ciphertext_planes_encoded p u_numbers_lem v_numbers_lem
+    encrypt_words_lem =
+        ap (ciphertext_planes p) encrypt-encoded ∙ ciphertext_planes_encoded p u_numbers_lem v_numbers_lem
 
   -- ---- the whole
 

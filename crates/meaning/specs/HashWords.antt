@@ -39,6 +39,7 @@ module _ {in0 in1 : List ℕ} (e : length in0 ≡ length in1) (b0 : Below 256 in
       record {
         words = shake256_words message n;
         sharing = s;
-        bytes = words_to_bytes_of (shake256_words message n) (length-shake256_words message n) ∙ shake256_bytes message n;
+        bytes =
+            words_to_bytes_of (shake256_words message n) (length-shake256_words message n) ∙ shake256_bytes message n;
       })
       (words.gives-masked_shake256_words e b0 b1 n)

@@ -26,7 +26,8 @@ joined_append a b c d e =
     ap₂ xor (get_or-append-add a c i 0) (ap (λ (n : ℕ). get_or (b ++ d) (n + i) 0) e ∙ get_or-append-add b d i 0)))
 
 pub joined_bytes : (x y : List ℕ)
-    → joined_list (shared_list (words_to_bytes 8 x) (words_to_bytes 8 y)) ≡ words_to_bytes 8 (joined_list (shared_list x y))
+    → joined_list (shared_list (words_to_bytes 8 x) (words_to_bytes 8 y))
+    ≡ words_to_bytes 8 (joined_list (shared_list x y))
 unfolding joined_list
 joined_bytes x y =
     let f : ℕ → ℕ = λ i. joined (shared_at (shared_list x y) i) in

@@ -80,7 +80,8 @@ gives-stage2 {f} a =
 -- ---- stage 4
 
 -- at depth 1 the numbers are the bits
-get_or-byte_decode : (b : List ℕ) (i : ℕ) → length b ≡ 32 → i < 256 → get_or (byte_decode 1 b) i 0 ≡ get_or (bits_of 8 b) i 0
+get_or-byte_decode : (b : List ℕ) (i : ℕ) → length b ≡ 32 → i < 256
+    → get_or (byte_decode 1 b) i 0 ≡ get_or (bits_of 8 b) i 0
 unfolding byte_decode value
 get_or-byte_decode b i e h =
     let l = bits_of 8 b in

@@ -45,7 +45,8 @@ module _ (eta : ℕ) {b : List ℕ} {s : SharedList} (a : BytesSharing (8 * eta)
   sampled : sample_poly_cbd eta b ≡ tab 256 (λ i. binomial eta (λ j. joined (string_bit s (2 * eta * i + j))))
   sampled =
       tab_of 0 (sample_poly_cbd eta b) 256 (length-sample_poly_cbd eta b) (λ i h.
-      get_or-sample_poly_cbd eta b i (bytes_sharing_length a ∙ omega arith) h ∙ binomial_cong eta (λ j g. bit_at i j h g))
+      get_or-sample_poly_cbd eta b i (bytes_sharing_length a ∙ omega arith) h
+      ∙ binomial_cong eta (λ j g. bit_at i j h g))
 
 -- noise polynomial j of the 2 k + 1: the first k have width eta1, the others eta2
 module _ (p : Parameters) (r : List ℕ) where

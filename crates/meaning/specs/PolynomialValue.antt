@@ -146,7 +146,8 @@ module _ (p : Parameters) (ek : List ℕ) where
     y_shares j h = a.at nothing j (omega arith)
 
     gives_u : (i : ℕ) → i < p.k
-        → Gives (PolySharing (u_share p ek f i)) (enter_both 256 (u_share p ek (shares0 n) i) (u_share p ek (shares1 n) i))
+        → Gives (PolySharing (u_share p ek f i))
+        (enter_both 256 (u_share p ek (shares0 n) i) (u_share p ek (shares1 n) i))
     unfolding u_share
     gives_u i h =
         let e = a.at nothing (p.k + i) (omega arith) in

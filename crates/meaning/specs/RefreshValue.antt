@@ -1,5 +1,5 @@
 -- Refreshing changes shares, and not what they join to: what a mask adds to the first share it takes from the second.
-use Rattle.std.specs.Prelude.{◌≡◌, List, ◌++◌, ℕ, ◌+◌, ◌%◌, ◌<◌, length, get_or}
+use Rattle.std.specs.Prelude.{◌≡◌, List, ◌++◌, ℕ, ◌+◌, ◌%◌, length, get_or}
 use Rattle.std.proofs.Common.{sym, ap, ap₂, ◌∙◌, arith, ext_get_or}
 use Rattle.words.specs.Word.{xor}
 use Rattle.words.specs.WordLaws.{xor_swap, xor_same, xor_zero}
@@ -14,9 +14,9 @@ use Rattle.parameters.specs.declared.Parameters.{Parameters}
 use Rattle.vectors.specs.Vector.{parts, concat}
 use Rattle.split_key.specs.SplitKey.{SplitKey}
 use Rattle.split_key.specs.Sized.{RefreshSized}
-use Rattle.split_key.specs.Refresh.{fresh_coeffs, xor_words, fresh_words, fresh_key}
+use Rattle.split_key.specs.Refresh.{xor_words, fresh_words, fresh_key}
 use Rattle.split_key.specs.RefreshLaws.{length-xor_words}
-use Rattle.meaning.specs.JoinedDk.{joined_coeffs, joined_dk}
+use Rattle.meaning.specs.JoinedDk.{joined_dk}
 
 mask_cancels : (x y m : ℕ) → ((x + m) % q + minus y m) % q ≡ (x + y) % q
 mask_cancels x y m = omega arith

@@ -70,7 +70,8 @@ joined-string_bit {s = s} a i h =
 
 -- ---- lists of sharings
 
-pub sharing_list_tab : {n : ℕ} {x : ℕ → ℕ} {w : List Shares} → Each (λ j. Sharing 64 (x j)) n w → SharingList (tab n x) w
+pub sharing_list_tab : {n : ℕ} {x : ℕ → ℕ} {w : List Shares} → Each (λ j. Sharing 64 (x j)) n w
+    → SharingList (tab n x) w
 sharing_list_tab {n} {x} r =
     let e = length-tab n x in
     record {

@@ -1,5 +1,6 @@
 -- The bits of words are the bits of their bytes, the lowest first, and bytes are determined by their bits.
-use Rattle.std.specs.Prelude.{◌≡◌, refl, List, [], ◌∷◌, ◌++◌, ℕ, zero, suc, ◌+◌, ◌-◌, ◌*◌, ◌/◌, ◌%◌, ◌<◌, length, get_or}
+use Rattle.std.specs.Prelude.{◌≡◌, refl, List, [], ◌∷◌, ◌++◌, length, get_or}
+use Rattle.std.specs.Prelude.{ℕ, zero, suc, ◌+◌, ◌-◌, ◌*◌, ◌/◌, ◌%◌, ◌<◌}
 use Rattle.std.proofs.Common.{sym, ap, ap₂, ◌∙◌, arith}
 use Rattle.words.specs.Bounded.{Below}
 use Rattle.words.specs.Numeral.{digits}
@@ -27,7 +28,8 @@ bits_of-words_to_bytes n (w ∷ l) =
     ∙ ap₂ (λ (a b : List ℕ). a ++ b) (bits_of-digits n w) (bits_of-words_to_bytes n l)
 
 -- bit i is bit i % d of number i / d
-pub get_or-bits_of : (d : ℕ) (l : List ℕ) (i : ℕ) → 0 < d → get_or (bits_of d l) i 0 ≡ digit (i % d) (get_or l (i / d) 0)
+pub get_or-bits_of : (d : ℕ) (l : List ℕ) (i : ℕ) → 0 < d
+    → get_or (bits_of d l) i 0 ≡ digit (i % d) (get_or l (i / d) 0)
 unfolding bits_of digit
 get_or-bits_of d [] i h = sym (digit_zero (i % d))
 get_or-bits_of d (x ∷ l) i h = get_or-digits_append 2 d x l (bits_of d l) i h (get_or-bits_of d l (i - d) h)
