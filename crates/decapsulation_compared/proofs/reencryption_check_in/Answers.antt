@@ -1,11 +1,11 @@
 -- Encryption draws the first words and all coefficients, and stage 8 the words behind them.
-use mathlib.Core.Path.{◌≡◌, ◌∙◌}
+use mathlib.Core.Path.{◌∙◌}
 use native.Mathlib.Omega.{arith}
 use lib.ListN.{drop}
 use Rattle.worksheet.specs.Ran.{bind, over}
 use Rattle.worksheet.specs.SharedList.{shared_list}
 use Rattle.stages.specs.Worksheet.{word_count}
-use Rattle.stages.specs.Counts.{encrypt_words, encrypt_coeffs, stage8_words}
+use Rattle.stages.specs.Counts.{encrypt_coeffs, stage8_words}
 use Rattle.stages.specs.Lent.{Long}
 use Rattle.stages.proofs.StoredRun.{length_rest}
 use Rattle.stages.proofs.Strips.{part_from}
