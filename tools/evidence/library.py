@@ -4,8 +4,8 @@ import os, pathlib, re, shutil, subprocess, sys
 ROOT = pathlib.Path(__file__).resolve().parents[2]
 LIBRARY = ROOT / "target/staticlib/libcapi.a"
 WARNINGS = ["-O2", "-Wall", "-Wextra", "-no-pie", f"-I{ROOT}/include", f"-I{ROOT}/tools/evidence"]
-# what each control opens: the function, and which of its parameters is the sharing
-OPENED = {"open-and": ("worksheet::gates::masked_and", 3), "open-equal-bit": ("masked_comparison::selection::copies", 1)}
+# what each control opens: the function, and which parameter of the compiler's module is the sharing's first share; the second comes behind it
+OPENED = {"open-and": ("worksheet::gates::masked_and", 5), "open-equal-bit": ("masked_comparison::selection::copies", 0)}
 
 
 def need(header, package):
@@ -55,25 +55,22 @@ def recording_kit(where):
 
 
 def with_opened_operand(module, function, place):
-    """The same module, in which both shares of the function's operand at that place become their exclusive or and 0 before the function runs."""
-    head = re.search(rf'^define [^@]*@"{function}"\(([^)]*)\)([^{{]*){{', module, re.M)
+    """The same module, in which the shares of the function's operand, the parameters at that place and behind it, become their exclusive or and 0 before the
+    function runs."""
+    head = re.search(rf'^define internal ([^@]*)@"{function}"\(([^)]*)\)([^{{]*){{', module, re.M)
     if not head:
         sys.exit(f"the library's module has no function {function}")
-    parameters = [re.sub(r"%\w+$", f"%p{i}", p) for i, p in enumerate(head.group(1).split(", "))]
+    result = head.group(1).replace("noundef", "").strip()
+    parameters = [re.sub(r"%\w+$", f"%p{i}", p) for i, p in enumerate(head.group(2).split(", "))]
     passed = [re.sub(r" noundef", "", p) for p in parameters]
-    passed[place] = "ptr %opened"
+    if passed[place:place + 2] != [f"i64 %p{place}", f"i64 %p{place + 1}"]:
+        sys.exit(f"{function} takes no two shares at {place}")
+    passed[place:place + 2] = ["i64 %joined", "i64 0"]
+    called = f'call {result} @"{function} on shares"({", ".join(passed)})'
     body = [
-        f'define internal void @"{function}"({", ".join(parameters)}){head.group(2)}{{',
-        "%opened = alloca [16 x i8], align 8",
-        f"%share0 = load i64, ptr %p{place}, align 8",
-        f"%at1 = getelementptr i8, ptr %p{place}, i64 8",
-        "%share1 = load i64, ptr %at1, align 8",
-        "%joined = xor i64 %share0, %share1",
-        "store i64 %joined, ptr %opened, align 8",
-        "%opened1 = getelementptr i8, ptr %opened, i64 8",
-        "store i64 0, ptr %opened1, align 8",
-        f'call void @"{function} on shares"({", ".join(passed)})',
-        "ret void",
+        f'define internal {result} @"{function}"({", ".join(parameters)}){head.group(3)}{{',
+        f"%joined = xor i64 %p{place}, %p{place + 1}",
+        *([called, "ret void"] if result == "void" else [f"%answer = {called}", f"ret {result} %answer"]),
         "}",
     ]
     renamed = head.group(0).replace(f'@"{function}"', f'@"{function} on shares"')
