@@ -5,7 +5,7 @@
 ghost use Rattle.cli_support.specs.Bounded.{Bounded};
 
 use cli_commands::commands::{Call, Command, Stream};
-use cli_commands::{commands, hashes, keys, sampling};
+use cli_commands::{commands, hashes, keys, stream_sampling};
 use cli_support::arguments::{arg, arg_count, buffer};
 use cli_support::desk::Desk;
 use cli_support::messages;
@@ -38,7 +38,7 @@ fn run(desk: &impl Desk, command: Command) {
     match command {
         Command::Help => commands::print_usage(desk, Stream::Output),
         Command::Hashing(hash) => hashes::run(desk, hash),
-        Command::Sampling => sampling::sample(desk),
+        Command::Sampling => stream_sampling::sample(desk),
         Command::Calling(call) => run_named(desk, call),
         Command::Unknown => commands::print_usage(desk, Stream::Error),
     }
