@@ -6,7 +6,7 @@ use Rattle.words.specs.Word.{xor, and}
 use Rattle.words.specs.Bits.{Bits}
 use Rattle.words.specs.WordLaws.{xor-bits, and-bits, zero_bits, xor_zero, xor-xor_cancel}
 use Rattle.words.specs.Formula.{boole, at, ◌⊕◌}
-use Rattle.worksheet.specs.declared.Shares.{Shares}
+use Rattle.worksheet.specs.Shares.{Shares}
 use Rattle.worksheet.specs.Prog.{◌>>=◌, mask, entry}
 use Rattle.worksheet.specs.Couple.{Coupled, ret_c, draw_c, enter_c, coupled_bind}
 use Rattle.worksheet.specs.Couple.{Like, Silent, SameAt, here, there, under}

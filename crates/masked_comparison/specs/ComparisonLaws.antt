@@ -9,7 +9,7 @@ use Rattle.words.specs.Bits.{Bits, or}
 use Rattle.words.specs.WordLaws.{xor_same, and_comm, and-ones, low_bits, high_bits, low-xor, xor_shift}
 use Rattle.words.specs.Formula.{boole, at, ◌⊕◌, ◌⊗◌}
 use Rattle.words.specs.Table.{every}
-use Rattle.worksheet.specs.declared.Shares.{Shares}
+use Rattle.worksheet.specs.Shares.{Shares}
 use Rattle.worksheet.specs.Prog.{◌>>=◌, entry}
 use Rattle.worksheet.specs.Uses.{Uses, ret_u, enter_u, uses_bind, uses-loop, uses-times, uses_recount}
 use Rattle.worksheet.specs.Turns.{Each}

@@ -2,7 +2,7 @@
 use Rattle.std.specs.Prelude.{ℕ, zero, suc, ◌+◌, ◌*◌, ◌<◌, ◌≤◌, ◌≡◌, refl, Bool, true}
 use Rattle.std.proofs.Common.{ap, suc-mul, add-one, arith}
 use Rattle.words.specs.WordLaws.{or-bits}
-use Rattle.worksheet.specs.declared.Shares.{Shares}
+use Rattle.worksheet.specs.Shares.{Shares}
 use Rattle.worksheet.specs.Prog.{loop}
 use Rattle.worksheet.specs.Couple.{Coupled, Like, SameAt, coupled_bind}
 use Rattle.worksheet.specs.CoupleLoops.{coupled-loop, like-loop, same_at_loop}

@@ -5,7 +5,7 @@ use Rattle.std.specs.Prelude.{◌≡◌, Bool, true, false, List}
 use Rattle.std.proofs.Common.{ap, ap₂, arith}
 use Rattle.words.specs.Word.{xor}
 use Rattle.words.specs.WordLaws.{xor-bits, and-bits}
-use Rattle.worksheet.specs.declared.Shares.{Shares}
+use Rattle.worksheet.specs.Shares.{Shares}
 use Rattle.worksheet.specs.Prog.{Prog, ◌>>=◌, entry, times}
 use Rattle.worksheet.specs.Couple.{Coupled, enter_c, Like, SameAt, here, there, coupled_bind}
 use Rattle.worksheet.specs.CoupleLoops.{coupled-times, like-times, same_at_times}

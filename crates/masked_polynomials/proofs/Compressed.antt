@@ -10,7 +10,7 @@ use lib.Seq.{get_or-drop}
 use Rattle.words.specs.Tab.{tab}
 use Rattle.words.specs.TabLaws.{length-tab, get_or-tab, tab_of}
 use Rattle.worksheet.specs.declared.Recorder.{Recorder}
-use Rattle.worksheet.specs.declared.Shares.{Shares}
+use Rattle.worksheet.specs.Shares.{Shares}
 use Rattle.worksheet.specs.Prog.{Prog}
 use Rattle.worksheet.specs.Sharing.{none}
 use Rattle.worksheet.specs.SharedList.{SharedList, shared_list, shared_at}

@@ -9,7 +9,7 @@ use Rattle.ring.specs.Polynomial.{minus}
 use Rattle.codec.specs.Bytes.{bits_of}
 use Rattle.codec.specs.BytesLaws.{length-bits_of}
 use Rattle.sampling.specs.Sample.{sum, sample_poly_cbd}
-use Rattle.worksheet.specs.declared.Shares.{Shares}
+use Rattle.worksheet.specs.Shares.{Shares}
 use Rattle.worksheet.specs.Prog.{entry}
 use Rattle.worksheet.specs.ProgLaws.{loop_cong, times_cong}
 use Rattle.worksheet.specs.Uses.{Uses, ret_u, enter_u, uses_bind, uses_map, uses-loop, uses-times, uses_recount}

@@ -1,7 +1,7 @@
 -- What the functions of the masked sponge do by themselves: what goes in with a block, and what comes out.
 use Rattle.std.specs.Prelude.{List, ◌++◌, ℕ, ◌+◌, ◌-◌, ◌/◌, get_or, take, drop}
 use Rattle.words.specs.Tab.{tab}
-use Rattle.worksheet.specs.declared.Shares.{Shares}
+use Rattle.worksheet.specs.Shares.{Shares}
 use Rattle.worksheet.specs.Prog.{Prog, ret, ◌>>=◌}
 use Rattle.worksheet.specs.Sharing.{shares}
 use Rattle.worksheet.specs.SharedList.{SharedList}

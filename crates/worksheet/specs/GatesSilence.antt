@@ -5,7 +5,7 @@ use Rattle.std.proofs.Common.{ap, arith}
 use Rattle.words.specs.Word.{xor, and, complement}
 use Rattle.words.specs.Bits.{Bits, or}
 use Rattle.words.specs.WordLaws.{xor-bits, and-bits, zero_bits}
-use Rattle.worksheet.specs.declared.Shares.{Shares}
+use Rattle.worksheet.specs.Shares.{Shares}
 use Rattle.worksheet.specs.Prog.{Prog, ◌>>=◌, entry}
 use Rattle.worksheet.specs.Couple.{Coupled, ret_c, enter_c, Like, SameAt, here, there, coupled_bind, same_at_left}
 use Rattle.worksheet.specs.Couple.{same_at_right}

@@ -2,7 +2,7 @@
 use Rattle.std.specs.Prelude.{ℕ, ◌≡◌, [], ◌∷◌}
 use Rattle.words.specs.Word.{xor, and}
 use Rattle.words.specs.Formula.{boole, at, ◌⊕◌, ◌⊗◌}
-use Rattle.worksheet.specs.declared.Shares.{Shares}
+use Rattle.worksheet.specs.Shares.{Shares}
 use Rattle.worksheet.specs.Prog.{◌>>=◌, mask, mask_low, entry}
 use Rattle.worksheet.specs.Uses.{Uses, ret_u, word_u, enter_u}
 use Rattle.worksheet.specs.MaskedAnd.{masked_and}

@@ -7,7 +7,7 @@ use Rattle.words.specs.Word.{xor, and}
 use Rattle.words.specs.Bits.{Bits}
 use Rattle.words.specs.WordLaws.{xor-bits, and-bits, zero_bits}
 use Rattle.words.specs.Formula.{boole, at, ◌⊕◌}
-use Rattle.worksheet.specs.declared.Shares.{Shares}
+use Rattle.worksheet.specs.Shares.{Shares}
 use Rattle.worksheet.specs.Prog.{◌>>=◌, mask, mask_low, entry}
 use Rattle.worksheet.specs.Couple.{Coupled, ret_c, draw_c, Like, SameAt}
 use Rattle.worksheet.specs.Matching.{identity, coupled-mask_low, same_at_mask_low}

@@ -6,7 +6,7 @@ use Rattle.words.specs.Bits.{Bits}
 use Rattle.words.specs.WordLaws.{xor-bits, complement-bits, zero_bits, xor_same, xor_zero, xor_cancel, xor_right_comm}
 use Rattle.words.specs.WordLaws.{xor_swap, complement-xor}
 use Rattle.words.specs.Formula.{boole, at, ◌⊕◌}
-use Rattle.worksheet.specs.declared.Shares.{Shares}
+use Rattle.worksheet.specs.Shares.{Shares}
 use Rattle.worksheet.specs.Sharing.{joined, none, shares}
 
 -- share 0 at false, share 1 at true
