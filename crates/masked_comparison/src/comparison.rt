@@ -10,7 +10,7 @@ ghost use Rattle.words.specs.Word.{low};
 ghost use Rattle.worksheet.specs.Prog.{word};
 ghost use Rattle.worksheet.specs.Ran.{Makes, MakesWith, Draws};
 
-use worksheet::{EnteredShares, Recorder, Shares};
+use worksheet::{Entered, Recorder, Shares};
 
 // Public words go into share 0.
 pub fn add_public(rec: Recorder, c: &[u64], w0: &mut [u64]) -> Recorder
@@ -31,7 +31,7 @@ pub fn add_public(rec: Recorder, c: &[u64], w0: &mut [u64]) -> Recorder
 }
 
 // All words are folded into the first by Or.
-fn fold_or(rec: Recorder, n: usize, w0: &[u64], w1: &[u64], ws: &[u64]) -> EnteredShares
+fn fold_or(rec: Recorder, n: usize, w0: &[u64], w1: &[u64], ws: &[u64]) -> Entered<Shares>
     requires { FoldLent n n w0.now w1.now ws.now }
     ensures { Draws word n (fold_or n (shared_at (shared_list w0.now w1.now))) rec ws.now
         result.value result.rec }
@@ -50,7 +50,7 @@ fn fold_or(rec: Recorder, n: usize, w0: &[u64], w1: &[u64], ws: &[u64]) -> Enter
         acc = o.value;
         rec = o.rec;
     }
-    EnteredShares { value: acc, rec }
+    Entered { value: acc, rec }
 }
 
 // The h lowest bits set.
@@ -69,7 +69,7 @@ fn low_bits(x: u64, h: usize) -> u64
 }
 
 // The low h bits Or the next h.
-fn halve(rec: Recorder, h: usize, w: Shares, r: u64) -> EnteredShares
+fn halve(rec: Recorder, h: usize, w: Shares, r: u64) -> Entered<Shares>
     requires { h ≤ 32 }
     ensures { MakesWith word (Comparison.halve h w) r rec result.value result.rec }
 {
@@ -92,7 +92,7 @@ fn half_width(j: usize) -> usize
     32 >> j
 }
 
-fn halves(rec: Recorder, w: Shares, ws: &[u64]) -> EnteredShares
+fn halves(rec: Recorder, w: Shares, ws: &[u64]) -> Entered<Shares>
     requires { 6 ≤ length ws.now }
     ensures { Draws word 6 (Comparison.halves 6 w) rec ws.now result.value result.rec }
 {
@@ -103,11 +103,11 @@ fn halves(rec: Recorder, w: Shares, ws: &[u64]) -> EnteredShares
         acc = o.value;
         rec = o.rec;
     }
-    EnteredShares { value: acc, rec }
+    Entered { value: acc, rec }
 }
 
 // Of n + 1 words.
-pub fn all_zero(rec: Recorder, n: usize, w0: &[u64], w1: &[u64], ws: &[u64]) -> EnteredShares
+pub fn all_zero(rec: Recorder, n: usize, w0: &[u64], w1: &[u64], ws: &[u64]) -> Entered<Shares>
     requires { FoldLent n (all_zero_words n) w0.now w1.now ws.now }
     ensures { Draws word (all_zero_words n) (all_zero n (shared_at (shared_list w0.now w1.now)))
         rec ws.now result.value result.rec }

@@ -28,8 +28,8 @@ pub fn stage4(
             s1: m1[i / 64],
         };
         let o = bit_to_coeff(rec, 1665, bit_of(w, i % 64), cs[i]);
-        mu0[i] = o.s0;
-        mu1[i] = o.s1;
+        mu0[i] = o.value.s0;
+        mu1[i] = o.value.s1;
         rec = o.rec;
     }
     rec

@@ -18,7 +18,7 @@ use masked_comparison::comparison::{add_public, all_zero};
 use parameters::Parameters;
 use planes::coefficient_planes;
 use stages::mask_counts::word_count;
-use worksheet::{EnteredShares, Recorder};
+use worksheet::{Entered, Recorder, Shares};
 
 // The planes of 256 numbers, group by group.
 fn group_planes(f: &[u16], d: usize, out: &mut [u64])
@@ -81,7 +81,7 @@ fn equal_bit(
     planes1: &[u64],
     ws: &[u64],
     public: &mut [u64],
-) -> EnteredShares
+) -> Entered<Shares>
     requires { EqualWork p c.now (shared_list planes0.old planes1.now) ws.now public.old }
     ensures { GivesBit
         (Draws word (stage8_words p)
@@ -103,7 +103,7 @@ pub fn stage8(
     planes0: &mut [u64],
     planes1: &[u64],
     ws: &[u64],
-) -> EnteredShares
+) -> Entered<Shares>
     requires { EqualInput p c.now (shared_list planes0.old planes1.now) ws.now }
     ensures { GivesBit
         (Draws word (stage8_words p)
