@@ -57,7 +57,13 @@ fn fixed_points(rec: Recorder, d: usize, h: u64, x: &[u16]) -> Entered<[u64; 64]
 }
 
 // The result's d planes stand from place 13 on.
-pub fn masked_compress(rec: Recorder, d: usize, x0: &[u16], x1: &[u16], ws: &[u64]) -> Entered<Planes>
+pub fn masked_compress(
+    rec: Recorder,
+    d: usize,
+    x0: &[u16],
+    x1: &[u16],
+    ws: &[u64],
+) -> Entered<Planes>
     requires { CompressLent d x0.now x1.now ws.now }
     ensures { Draws word (compress_words d)
         (masked_compress d (shared_at (shared_list x0.now x1.now))) rec ws.now
