@@ -13,7 +13,7 @@ ghost use Rattle.masked_sponge.specs.MaskedSteps.{squeeze_bytes, lane, given};
 
 use fips202::squeeze::extract;
 use keccak::state::State;
-use worksheet::Recorder;
+use worksheet::{Entered, Recorder, Shared};
 
 // The permutations after the first block of an output of n, words or bytes, of which a block has so many.
 pub fn further(n: usize, per: usize) -> usize
@@ -33,9 +33,8 @@ fn first_lanes(s: State, out: &mut [u64])
     requires { length out.old ≤ 25 }
     ensures { out.new ≡ tab (length out.old) (lane s.lanes) }
 {
-    for i in 0..out.len() {
-        out[i] = s.lanes[i];
-    }
+    let n = out.len();
+    out.copy_from_slice(&s.lanes[..n]);
 }
 
 // The state's first lanes, to the places from a to e.
@@ -56,11 +55,10 @@ fn give_bytes(s: State, a: usize, e: usize, out: &mut [u8])
 
 // ---- both
 
-// The outputs are filled from the shares s and t of the state, with 600 masks for each further permutation.
+// The outputs are filled from the shares of the state, with 600 masks for each further permutation.
 pub fn masked_squeeze(
     rec: Recorder,
-    s: State,
-    t: State,
+    s: Shared<State>,
     rate: usize,
     ws: &[u64],
     out0: &mut [u8],
@@ -68,36 +66,30 @@ pub fn masked_squeeze(
 ) -> Recorder
     requires { BytesLent rate ws.now out0.old out1.old }
     ensures { Draws word (keccak_p_words * further_blocks rate (length out0.old))
-        (squeeze_bytes (rate / 8) (length out0.old) (shared_state s t))
+        (squeeze_bytes (rate / 8) (length out0.old) (shared_state s.s0 s.s1))
         rec ws.now (shared_list out0.new out1.new) result }
 {
     let n = out0.len();
     let m = further(n, rate);
-    let mut rec = rec;
-    let mut s0 = s;
-    let mut s1 = t;
+    let mut o = Entered { value: s, rec };
     for i in 0..m {
         let a = i * rate;
         let e = a + rate;
         let k = 600 * i;
-        give_bytes(s0, a, e, out0);
-        give_bytes(s1, a, e, out1);
-        let o = masked_keccak::permute(rec, s0, s1, &ws[k..]);
-        s0 = o.s0;
-        s1 = o.s1;
-        rec = o.rec;
+        give_bytes(o.value.s0, a, e, out0);
+        give_bytes(o.value.s1, a, e, out1);
+        o = masked_keccak::permute(o.rec, o.value, &ws[k..]);
     }
     let a = m * rate;
-    give_bytes(s0, a, n, out0);
-    give_bytes(s1, a, n, out1);
-    rec
+    give_bytes(o.value.s0, a, n, out0);
+    give_bytes(o.value.s1, a, n, out1);
+    o.rec
 }
 
 // The same with output in words, of which a block has so many lanes.
 pub fn masked_squeeze_words(
     rec: Recorder,
-    s: State,
-    t: State,
+    s: Shared<State>,
     lanes: usize,
     ws: &[u64],
     o0: &mut [u64],
@@ -105,27 +97,22 @@ pub fn masked_squeeze_words(
 ) -> Recorder
     requires { OutputLent 25 lanes ws.now o0.old o1.old }
     ensures { Draws word (keccak_p_words * further_blocks lanes (length o0.old))
-        (masked_squeeze lanes (length o0.old) (shared_state s t))
+        (masked_squeeze lanes (length o0.old) (shared_state s.s0 s.s1))
         rec ws.now (shared_list o0.new o1.new) result }
 {
     let n = o0.len();
     let m = further(n, lanes);
-    let mut rec = rec;
-    let mut s0 = s;
-    let mut s1 = t;
+    let mut o = Entered { value: s, rec };
     for i in 0..m {
         let a = i * lanes;
         let e = a + lanes;
         let k = 600 * i;
-        give_lanes(s0, a, e, o0);
-        give_lanes(s1, a, e, o1);
-        let o = masked_keccak::permute(rec, s0, s1, &ws[k..]);
-        s0 = o.s0;
-        s1 = o.s1;
-        rec = o.rec;
+        give_lanes(o.value.s0, a, e, o0);
+        give_lanes(o.value.s1, a, e, o1);
+        o = masked_keccak::permute(o.rec, o.value, &ws[k..]);
     }
     let a = m * lanes;
-    give_lanes(s0, a, n, o0);
-    give_lanes(s1, a, n, o1);
-    rec
+    give_lanes(o.value.s0, a, n, o0);
+    give_lanes(o.value.s1, a, n, o1);
+    o.rec
 }

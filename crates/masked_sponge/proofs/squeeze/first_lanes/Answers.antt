@@ -1,14 +1,9 @@
--- Turn i stores lane i at place i, so the filled front grows to the whole slice.
-use mathlib.Core.Path.{refl}
-use native.Mathlib.Omega.{arith}
-use Rattle.words.specs.Fill.{filled_start, filled_turn, filled_end}
+-- The state's first lanes are copied, as many as there are places.
+use Rattle.std.proofs.lemmas.List.{get_or-take}
+use Rattle.words.specs.TabLaws.{tab_of}
 use Rattle.masked_sponge.proofs.squeeze.first_lanes.Goals as goal
 
-pub loop-i-preserved : goal.loop-i-preserved
-loop-i-preserved c = (refl, filled_turn c.loop-i.invariant.1 (omega arith) refl)
-
-pub loop-i-init : goal.loop-i-init
-loop-i-init c = (refl, filled_start refl)
-
 pub returns : goal.returns
-returns c = filled_end c.loop-i.invariant.1 (omega arith)
+returns c =
+    let copied = c.copy_from_slice.ensures in
+    tab_of 0 _ _ copied.len (λ i h. rw copied.after (get_or-take _ _ i 0 h))

@@ -10,8 +10,8 @@ use Rattle.masked_sponge.proofs.squeeze.masked_squeeze.Given as goal
 -- i blocks are given out, of m and a last one
 abbrev pub invariant-loop-i : goal.invariant-loop-i
 invariant-loop-i l =
-    Squeezing byte_of l.rate (length l.initial.out0) (shared_state l.initial.s0 l.initial.s1) l.initial.rec l.ws l.i
-    (shared_state l.s0 l.s1) l.rec l.out0 l.out1
+    Squeezing byte_of l.rate (length l.initial.out0) (shared_state l.initial.o.value.s0 l.initial.o.value.s1) l.initial.o.rec l.ws l.i
+    (shared_state l.o.value.s0 l.o.value.s1) l.o.rec l.out0 l.out1
 
 abbrev pub decreases-loop-i : goal.decreases-loop-i
 decreases-loop-i l = l.m - l.i

@@ -9,8 +9,8 @@ use Rattle.masked_sponge.proofs.squeeze.masked_squeeze_words.Given as goal
 -- i blocks are given out, of m and a last one
 abbrev pub invariant-loop-i : goal.invariant-loop-i
 invariant-loop-i l =
-    Squeezing lane l.lanes (length l.initial.o0) (shared_state l.initial.s0 l.initial.s1) l.initial.rec l.ws l.i
-    (shared_state l.s0 l.s1) l.rec l.o0 l.o1
+    Squeezing lane l.lanes (length l.initial.o0) (shared_state l.initial.o.value.s0 l.initial.o.value.s1) l.initial.o.rec l.ws l.i
+    (shared_state l.o.value.s0 l.o.value.s1) l.o.rec l.o0 l.o1
 
 abbrev pub decreases-loop-i : goal.decreases-loop-i
 decreases-loop-i l = l.m - l.i
