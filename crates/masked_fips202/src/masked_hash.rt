@@ -57,7 +57,7 @@ fn masked_sponge(
     let rec = Recorder { left: 0, value: 0 };
     let k = 25 + 600 * (in0.len() / rate + 1);
     let o = masked_absorb(rec, in0, in1, rate, suffix, masks);
-    masked_squeeze(o.rec, o.s0, o.s1, rate, &masks[k..], out0, out1);
+    masked_squeeze(o.rec, o.value, rate, &masks[k..], out0, out1);
 }
 
 // The same, refused where a length isn't exact.

@@ -30,7 +30,7 @@ fn sponge_words(
 {
     let k = 25 + 600 * (in0.len() / rate + 1);
     let o = masked_absorb(rec, in0, in1, rate, suffix, ws);
-    masked_squeeze_words(o.rec, o.s0, o.s1, rate / 8, &ws[k..], o0, o1)
+    masked_squeeze_words(o.rec, o.value, rate / 8, &ws[k..], o0, o1)
 }
 
 // Eight words.

@@ -20,9 +20,7 @@ pub fn words_to_bytes(w: &[u64], out: &mut [u8])
 pub fn zero_bytes(out: &mut [u8])
     ensures { out.new ≡ replicate (length out.old) 0 }
 {
-    for i in 0..out.len() {
-        out[i] = 0;
-    }
+    out.fill(0);
 }
 
 // Share 0 of the input: words, then the public string.
