@@ -8,7 +8,7 @@ ghost use Rattle.worksheet.specs.SharedList.{shared_list};
 ghost use Rattle.masked_keccak.specs.MaskedKeccak.{masked_keccak_p, keccak_p_words};
 
 use keccak::state::State;
-use worksheet::Recorder;
+use worksheet::{Recorder, Shared};
 
 pub mod gadget_calls;
 
@@ -16,10 +16,8 @@ pub mod gadget_calls;
 pub extern "C" fn bench_keccak_p(s: &mut [u64; 25])
     ensures { s.new ≡ keccak_p s.old }
 {
-    let lanes = *s;
-    let t = keccak::permute(State { lanes });
-    let after = t.lanes;
-    *s = after;
+    let t = keccak::permute(State { lanes: *s });
+    *s = t.lanes;
 }
 
 // The permutation on two shares; hands back the entry that is `left` entries ahead, or 0 where that is 0.
@@ -37,17 +35,12 @@ pub extern "C" fn bench_masked_keccak_p(
     if masks.len() < 600 {
         return 0;
     }
-    let a = *s;
-    let b = *t;
-    let o = masked_keccak::permute(
-        Recorder { left, value: 0 },
-        State { lanes: a },
-        State { lanes: b },
-        masks,
-    );
-    let c = o.s0.lanes;
-    let d = o.s1.lanes;
-    *s = c;
-    *t = d;
+    let shared = Shared {
+        s0: State { lanes: *s },
+        s1: State { lanes: *t },
+    };
+    let o = masked_keccak::permute(Recorder { left, value: 0 }, shared, masks);
+    *s = o.value.s0.lanes;
+    *t = o.value.s1.lanes;
     o.rec.value
 }
