@@ -16,8 +16,10 @@ pub mod gadget_calls;
 pub extern "C" fn bench_keccak_p(s: &mut [u64; 25])
     ensures { s.new ≡ keccak_p s.old }
 {
-    let t = keccak::permute(State { lanes: *s });
-    *s = t.lanes;
+    let lanes = *s;
+    let t = keccak::permute(State { lanes });
+    let after = t.lanes;
+    *s = after;
 }
 
 // The permutation on two shares; hands back the entry that is `left` entries ahead, or 0 where that is 0.
@@ -35,12 +37,16 @@ pub extern "C" fn bench_masked_keccak_p(
     if masks.len() < 600 {
         return 0;
     }
+    let a = *s;
+    let b = *t;
     let shared = Shared {
-        s0: State { lanes: *s },
-        s1: State { lanes: *t },
+        s0: State { lanes: a },
+        s1: State { lanes: b },
     };
     let o = masked_keccak::permute(Recorder { left, value: 0 }, shared, masks);
-    *s = o.value.s0.lanes;
-    *t = o.value.s1.lanes;
+    let c = o.value.s0.lanes;
+    let d = o.value.s1.lanes;
+    *s = c;
+    *t = d;
     o.rec.value
 }
