@@ -1,7 +1,7 @@
 -- The state's first lanes are copied, as many as there are places.
 use Rattle.std.proofs.lemmas.List.{get_or-take}
 use Rattle.words.specs.TabLaws.{tab_of}
-use Rattle.masked_sponge.proofs.squeeze.first_lanes.Goals as goal
+use Rattle.masked_sponge.proofs.squeeze.U64Output.extract.Goals as goal
 
 pub returns : goal.returns
 returns c =
