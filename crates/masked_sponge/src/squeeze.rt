@@ -8,7 +8,7 @@ ghost use Rattle.worksheet.specs.SharedList.{SharedList};
 ghost use Rattle.fips202.specs.Sponge.{byte_of};
 ghost use Rattle.masked_keccak.specs.MaskedKeccak.{keccak_p_words};
 ghost use Rattle.masked_keccak.specs.SharedRows.{shared_state};
-ghost use Rattle.masked_sponge.specs.Lent.{OutputLent, PartLent};
+ghost use Rattle.masked_sponge.specs.Lent.{WholeLanes, BlockFits, OutputLent, PartLent};
 ghost use Rattle.masked_sponge.specs.MaskedSponge.{further_blocks, masked_squeeze};
 ghost use Rattle.masked_sponge.specs.MaskedSteps.{squeeze_bytes, lane, given};
 ghost use Rattle.masked_sponge.specs.GivenOut.{GivesOut, bytes_given_out, words_given_out};
@@ -22,10 +22,7 @@ pub fn further(n: usize, per: usize) -> usize
     requires { 0 < per }
     ensures { result ≡ further_blocks per n }
 {
-    if n == 0 {
-        return 0;
-    }
-    (n - 1) / per
+    n.saturating_sub(1) / per
 }
 
 // What a sponge's output is made of: bytes, or words.
@@ -39,8 +36,15 @@ pub trait Output: Copy {
     // How many make a lane.
     ghost in_lane: { ℕ };
 
+    // How many a block of so many bytes has.
+    ghost block: { ℕ → ℕ };
+
     // The definition's output, in blocks of so many of them.
     ghost squeezed: { ℕ → ℕ → SharedList → Prog (SharedOf (List Self)) };
+
+    fn block(rate: usize) -> usize
+        requires { WholeLanes rate }
+        ensures { (result ≡ block rate) × BlockFits most in_lane result };
 
     // The first of a state.
     fn extract(s: State, out: &mut [Self])
@@ -57,7 +61,13 @@ impl Output for u8 {
 
     ghost in_lane = { 8 };
 
+    ghost block = { λ rate. rate };
+
     ghost squeezed = { λ per n s. squeeze_bytes (per / 8) n s };
+
+    fn block(rate: usize) -> usize {
+        rate
+    }
 
     fn extract(s: State, out: &mut [u8]) {
         extract(s, out);
@@ -73,7 +83,13 @@ impl Output for u64 {
 
     ghost in_lane = { 1 };
 
+    ghost block = { λ rate. rate / 8 };
+
     ghost squeezed = { masked_squeeze };
+
+    fn block(rate: usize) -> usize {
+        rate / 8
+    }
 
     fn extract(s: State, out: &mut [u64]) {
         let n = out.len();

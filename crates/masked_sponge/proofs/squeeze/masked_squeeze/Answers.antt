@@ -13,20 +13,20 @@ use Rattle.masked_sponge.proofs.squeeze.masked_squeeze.Goals as goal
 -- the block of a turn, and the rest behind the loop, are lent in either share
 pub give-requires : goal.give-requires
 give-requires g c =
-    block_lent c.requires.fits (rw c.further-m.ensures at c.loop-i-test.true) _ c.loop-i.invariant.long0
+    block_lent c.requires.block.fits (rw c.further-m.ensures at c.loop-i-test.true) _ c.loop-i.invariant.long0
 
 pub give-requires-in-loop-i : goal.give-requires-in-loop-i
 give-requires-in-loop-i g c =
-    block_lent c.requires.fits (rw c.further-m.ensures at c.loop-i-test.true) _ c.loop-i.invariant.long1
+    block_lent c.requires.block.fits (rw c.further-m.ensures at c.loop-i-test.true) _ c.loop-i.invariant.long1
 
 pub give-requires-2 : goal.give-requires-2
 give-requires-2 g c =
-    let p = c.requires in
+    let p = c.requires.block in
     rest_lent p.fits p.positive c.further-m.ensures _ c.loop-i.invariant.long0
 
 pub give-requires-3 : goal.give-requires-3
 give-requires-3 g c =
-    let p = c.requires in
+    let p = c.requires.block in
     rest_lent p.fits p.positive c.further-m.ensures _ c.loop-i.invariant.long1
 
 pub loop-i-preserved : goal.loop-i-preserved
@@ -38,7 +38,7 @@ loop-i-preserved g c =
 
 pub returns : goal.returns
 returns g c cs =
-    squeezed_ran c.loop-i.invariant _ g.met.T.Output.gives_out c.requires.positive c.requires.whole
+    squeezed_ran c.loop-i.invariant _ g.met.T.Output.gives_out c.requires.block.positive c.requires.block.whole
     c.further-m.ensures c.loop-i-test.false
     c.give-2.ensures c.give-3.ensures cs
 
