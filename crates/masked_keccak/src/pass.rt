@@ -19,8 +19,8 @@ pub(crate) fn enter_lanes(rec: Recorder, s: State) -> Recorder
     ensures { Makes (times 25 (λ i. entry (get_or s.lanes i 0))) rec s.lanes result }
 {
     let mut rec = rec;
-    for i in 0..25 {
-        rec = enter(rec, s.lanes[i]);
+    for lane in &s.lanes {
+        rec = enter(rec, *lane);
     }
     rec
 }
