@@ -35,6 +35,7 @@ fn mask_planes(rec: Recorder, n: usize, x: [u64; 24], ws: &[u64]) -> Entered<Pla
     let mut rec = rec;
     let mut s0 = [0u64; 24];
     let mut s1 = [0u64; 24];
+    // By place, as the definition's turns are: planes, masks and both shares are walked side by side.
     for i in 0..n {
         let r = ws[i];
         let e = worksheet::enter_xor(rec, x[i], r);
@@ -67,6 +68,7 @@ fn carry_planes(rec: Recorder, n: usize, a: Planes, b: Planes, ws: &[u64]) -> En
     let mut rec = rec;
     let mut s0 = [0u64; 24];
     let mut s1 = [0u64; 24];
+    // By place, as the definition's turns are: each carry is made of the one before it, and of planes at its place.
     for i in 0..n - 1 {
         let x = Shares {
             s0: a.s0[i],
@@ -102,6 +104,7 @@ fn sum_planes(rec: Recorder, n: usize, a: Planes, b: Planes, c: Planes) -> Enter
     let mut rec = rec;
     let mut s0 = [0u64; 24];
     let mut s1 = [0u64; 24];
+    // By place, as the definition's turns are: the shares of four lists of planes are walked side by side.
     for i in 0..n {
         let x = enter_xor3(rec, a.s0[i], b.s0[i], c.s0[i]);
         let y = enter_xor3(x.rec, a.s1[i], b.s1[i], c.s1[i]);

@@ -22,9 +22,9 @@ pub fn add_public(rec: Recorder, c: &[u64], w0: &mut [u64]) -> Recorder
         rec (zip (length c.now) (shared_list w0.new w1)) result }
 {
     let mut rec = rec;
-    for j in 0..c.len() {
-        let e = worksheet::enter_xor(rec, w0[j], c[j]);
-        w0[j] = e.value;
+    for (j, w) in w0.iter_mut().enumerate() {
+        let e = worksheet::enter_xor(rec, *w, c[j]);
+        *w = e.value;
         rec = e.rec;
     }
     rec
@@ -41,6 +41,7 @@ fn fold_or(rec: Recorder, n: usize, w0: &[u64], w1: &[u64], ws: &[u64]) -> Enter
         s0: w0[0],
         s1: w1[0],
     };
+    // By place, as the definition's turns are: both shares and the masks are walked side by side.
     for j in 0..n {
         let w = Shares {
             s0: w0[j + 1],
@@ -98,6 +99,7 @@ fn halves(rec: Recorder, w: Shares, ws: &[u64]) -> Entered<Shares>
 {
     let mut rec = rec;
     let mut acc = w;
+    // By place, as the definition's turns are: the width is made of the place.
     for j in 0..6 {
         let o = halve(rec, half_width(j), acc, ws[j]);
         acc = o.value;

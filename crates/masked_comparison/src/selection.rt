@@ -51,6 +51,7 @@ pub fn select_all(
         rec ws.now (shared_list out0.new out1.new) result }
 {
     let mut rec = rec;
+    // By place, as the definition's turns are: seven lists are walked side by side.
     for j in 0..n {
         let x = Shares {
             s0: x0[j],

@@ -48,9 +48,9 @@ fn fixed_points(rec: Recorder, d: usize, h: u64, x: &[u16]) -> Entered<[u64; 64]
 {
     let mut rec = rec;
     let mut v = [0u64; 64];
-    for i in 0..64 {
+    for (i, n) in v.iter_mut().enumerate() {
         let e = enter_fixed_point(rec, d, h, x[i]);
-        v[i] = e.value;
+        *n = e.value;
         rec = e.rec;
     }
     Entered { value: v, rec }
@@ -72,9 +72,7 @@ pub fn masked_compress(
     let n = d + 13;
     let a = fixed_points(rec, d, 0, x0);
     let b = fixed_points(a.rec, d, 4096, x1);
-    let v = a.value;
-    let w = b.value;
-    let x = bit_planes(&v, n);
-    let y = bit_planes(&w, n);
+    let x = bit_planes(&a.value, n);
+    let y = bit_planes(&b.value, n);
     adder(b.rec, n, x, y, ws)
 }
