@@ -3,14 +3,14 @@
 use Rattle.std.specs.Prelude.{◌≡◌, refl, Bool, true, false, not, ℕ}
 use Rattle.std.proofs.Common.{sym, subst, ◌∙◌, true≢false, arith}
 use Rattle.std.proofs.lemmas.Bool.{not-true, not-false}
-use Rattle.refusals.specs.declared.Answer.TheVariants.{NoSuchRank}
-use Rattle.refusals.specs.Refusals.{number}
+use Rattle.refusals.specs.declared.Refusal.TheVariants.{NoSuchRank}
+use Rattle.refusals.specs.Refusals.{refusal_number}
 use Rattle.parameters.specs.declared.Parameters.{Parameters}
 use Rattle.parameters.specs.Ranks.{is_rank, of_rank}
 use Rattle.parameters.specs.ByRank.{ByRank}
 
 module _ (rank : ℕ) {t : Bool} (tested : t ≡ is_rank rank) {n : ℕ} {Call : Parameters → Type 0} {Kept : Type 0} where
-  pub by_rank_refused : not t ≡ true → n ≡ number NoSuchRank → Kept → ByRank rank n Call Kept
+  pub by_rank_refused : not t ≡ true → n ≡ refusal_number NoSuchRank → Kept → ByRank rank n Call Kept
   by_rank_refused h e k =
       let f = sym tested ∙ not-true t h in
       record { called = λ a. absurd (true≢false (sym a ∙ f)); refused = λ _. (e, k) }
