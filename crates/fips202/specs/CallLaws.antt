@@ -1,9 +1,8 @@
 -- What a hash call leaves in its output, by the output's length.
 use Rattle.std.specs.Prelude.{◌≡◌, List, [], ◌∷◌, ℕ, length}
 use Rattle.std.proofs.Common.{ap, ◌∙◌}
-use Rattle.refusals.specs.declared.Answer.{Answer}
-use Rattle.refusals.specs.declared.Answer.TheVariants.{Done, WrongLength}
-use Rattle.refusals.specs.Refusals.{number, after, lent}
+use Rattle.refusals.specs.declared.Refusal.TheVariants.{WrongLength}
+use Rattle.refusals.specs.Refusals.{Answer, Done, number, after, lent}
 use Rattle.refusals.specs.RefusalLaws.{passed, no_row, exact-sized, after_done}
 use Rattle.fips202.specs.Calls.{sized_answer, Hashed}
 
