@@ -9,7 +9,7 @@ ghost use Rattle.masked_fips202.specs.MaskedCalls.{masked_sha3_512_call, masked_
 
 use crate::sponge::masked_sponge;
 use masked_sponge::squeeze::further;
-use refusals::Answer;
+use refusals::{Answer, Refusal};
 use worksheet::Recorder;
 
 // The permutations for n bytes of input and d of output.
@@ -57,17 +57,17 @@ fn masked_hash(
     let n = in0.len();
     let d = out0.len();
     if n != in1.len() {
-        return Answer::WrongLength;
+        return Err(Refusal::WrongLength);
     }
     if d != out1.len() {
-        return Answer::WrongLength;
+        return Err(Refusal::WrongLength);
     }
     if !enough(masks.len(), permutations(rate, n, d)) {
-        return Answer::WrongLength;
+        return Err(Refusal::WrongLength);
     }
     let rec = Recorder { left: 0, value: 0 };
     masked_sponge(rec, rate, suffix, in0, in1, masks, out0, out1);
-    Answer::Done
+    Ok(())
 }
 
 pub fn masked_sha3_512(
@@ -82,7 +82,7 @@ pub fn masked_sha3_512(
         (number result) out0.new out1.new }
 {
     if out0.len() != 64 {
-        return Answer::WrongLength;
+        return Err(Refusal::WrongLength);
     }
     masked_hash(72, 0x06, in0, in1, masks, out0, out1)
 }
