@@ -12,13 +12,8 @@ ghost use Rattle.sampling.specs.Results.{KeptCount, BitCount, Sampling};
 
 use codec::bits::{high, low, wide16};
 use codec::byte_decode;
+use refusals::{Answer, Refusal};
 use ring::difference;
-
-#[derive(Clone, Copy)]
-pub enum Sampled {
-    Full,
-    Short,
-}
 
 // Algorithm 7, line 6
 fn d1_of(b0: u8, b1: u8) -> u16
@@ -68,8 +63,8 @@ fn keep(f: &mut [u16], k: usize, x: u16) -> usize
     k
 }
 
-// Algorithm 7, SampleNTT: whether the stream fills f, which then holds what SampleNTT gives.
-pub fn fill_ntt(stream: &[u8], f: &mut [u16]) -> bool
+// Algorithm 7, SampleNTT: f then holds what SampleNTT gives, unless the stream is too short to fill it.
+pub fn fill_ntt(stream: &[u8], f: &mut [u16]) -> Answer
     requires { (length stream.now ≡ 840) × (length f.old ≡ 256) }
     ensures { Sampling (full stream.now) (sample_ntt stream.now) result f.new }
 {
@@ -78,21 +73,24 @@ pub fn fill_ntt(stream: &[u8], f: &mut [u16]) -> bool
         k = keep(f, k, d1_of(stream[3 * i], stream[3 * i + 1]));
         k = keep(f, k, d2_of(stream[3 * i + 1], stream[3 * i + 2]));
     }
-    k == 256
+    if k == 256 {
+        Ok(())
+    } else {
+        Err(Refusal::ShortStream)
+    }
 }
 
 // Algorithm 7 on a stream that may be short: f then stays as it is.
-pub fn sample_ntt(stream: &[u8], f: &mut [u16]) -> Sampled
+pub fn sample_ntt(stream: &[u8], f: &mut [u16]) -> Answer
     requires { (length stream.now ≡ 840) × (length f.old ≡ 256) }
     ensures value { result ≡ answer_of (full stream.now) }
     ensures f_after { f.new
         ≡ cond (full stream.now) (sample_ntt stream.now) f.old }
 {
     if count_accepted(stream) < 256 {
-        return Sampled::Short;
+        return Err(Refusal::ShortStream);
     }
-    fill_ntt(stream, f);
-    Sampled::Full
+    fill_ntt(stream, f)
 }
 
 // how many of the three bits of v are 1

@@ -1,14 +1,18 @@
 -- Turn by turn f's front holds what the definition has accepted so far, as far as there is room; all places are taken
 -- exactly where 256 are accepted.
 use mathlib.Core.Path.{◌≡◌, sym, ap, ap₂, ◌∙◌}
-use mathlib.Core.List.{◌++◌}
+use mathlib.Core.Bool.{Bool}
+use mathlib.Core.List.{List, ◌++◌}
 use Prim.Native.Nat.{ℕ}
 use native.Mathlib.Omega.{arith}
-use borrow.Author.Tests.{leb-true}
+use borrow.Author.Tests.{leb-true, eq-eqb, ne_eqb}
+use lib.Dec.{eqb}
 use lib.ListN.{length}
-use Rattle.sampling.specs.Sample.{kept, accepted, sample_ntt}
+use Rattle.sampling.specs.Sample.{kept, accepted, full, sample_ntt}
+use Rattle.sampling.specs.SampleAnswer.{answer_of}
+use Rattle.sampling.specs.Results.{Sampling}
 use Rattle.sampling.specs.SampleLaws.{accepted_turn}
-use Rattle.sampling.specs.Collect.{collected_start, collected_as, collected_end, collected_taken}
+use Rattle.sampling.specs.Collect.{Collected, collected_start, collected_as, collected_end, collected_taken}
 use Rattle.sampling.proofs.fill_ntt.Goals as goal
 
 -- ---- facts
@@ -29,13 +33,17 @@ loop-i-preserved c =
       collected_as e (c.keep-k-in-loop-i.ensures _ (c.keep-k.ensures l c.loop-i.invariant.2)),
     )
 
-pub returns : goal.returns
+-- what all groups leave, by whether all places are taken
+sampled : (s : List ℕ) {f : List ℕ} {i k : ℕ} {b : Bool} → Collected (accepted i s) f k → i ≡ 280 → eqb k 256 ≡ b
+    → Sampling (full s) (sample_ntt s) (answer_of b) f
 unfolding sample_ntt
-returns c =
-    let s = c.args.stream.now in
-    let e : c.loop-i.i ≡ 280 = omega arith in
-    let all = collected_as (ap (λ (i : ℕ). accepted i s) e) c.loop-i.invariant.2 in
-    record {
-      answer = collected_taken all;
-      holds = λ t. collected_end all (leb-true 256 (length (accepted 280 s)) (sym (collected_taken all) ∙ t));
-    }
+sampled s c g t =
+    let all = collected_as (ap (λ (i : ℕ). accepted i s) g) c in
+    let e = sym t ∙ collected_taken all in
+    record { answer = ap answer_of e; holds = λ h. collected_end all (leb-true 256 (length (accepted 280 s)) h) }
+
+pub returns-then-k-eq256 : goal.returns-then-k-eq256
+returns-then-k-eq256 c = sampled c.args.stream.now c.loop-i.invariant.2 (omega arith) (eq-eqb _ 256 c.if-k-eq256.true)
+
+pub returns-else-k-eq256 : goal.returns-else-k-eq256
+returns-else-k-eq256 c = sampled c.args.stream.now c.loop-i.invariant.2 (omega arith) (ne_eqb _ 256 c.if-k-eq256.false)
