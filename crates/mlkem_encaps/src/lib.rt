@@ -16,7 +16,7 @@ use kpke::encrypt::encrypt;
 use kpke::matrix::expand;
 use parameters::{Edition, Parameters, ct_bytes, ek_bytes, is_rank, of_rank, vector_bytes};
 use refusals::conditions::reduced;
-use refusals::{Answer, exact};
+use refusals::{Answer, Refusal, exact};
 use slices::copy_bytes;
 use vectors::decode_all;
 
@@ -107,13 +107,11 @@ fn encaps_in(
 {
     let n = vector_bytes(p);
     if !vector_reduced(&ek[0..n], p.k) {
-        return Answer::PublicKeyRange;
+        return Err(Refusal::PublicKeyRange);
     }
-    if !expand(&ek[n..], p.k, a) {
-        return Answer::ShortStream;
-    }
+    expand(&ek[n..], p.k, a)?;
     write_secret(e, p, a, ek, m, ct, k);
-    Answer::Done
+    Ok(())
 }
 
 // Row 1 passed.
@@ -159,7 +157,7 @@ fn encaps_at(e: Edition, p: Parameters, ek: &[u8], m: &[u8], ct: &mut [u8], k: &
     let has = [ek.len(), m.len(), ct.len(), k.len()];
     let wants = [ek_bytes(p), 32, ct_bytes(p), 32];
     if !exact(&has, &wants) {
-        return Answer::WrongLength;
+        return Err(Refusal::WrongLength);
     }
     encaps_sized(e, p, ek, m, ct, k)
 }
@@ -178,7 +176,7 @@ pub fn encaps(e: Edition, rank: u32, ek: &[u8], m: &[u8], ct: &mut [u8], k: &mut
         k.new }
 {
     if !is_rank(rank) {
-        return Answer::NoSuchRank;
+        return Err(Refusal::NoSuchRank);
     }
     encaps_at(e, of_rank(rank), ek, m, ct, k)
 }

@@ -13,7 +13,7 @@ use hash_functions::hash_h;
 use kpke::matrix::expand;
 use mlkem::seeds;
 use parameters::{Edition, Parameters, dk_bytes, ek_bytes, is_rank, of_rank, vector_bytes};
-use refusals::{Answer, exact};
+use refusals::{Answer, Refusal, exact};
 use slices::copy_bytes;
 
 // Algorithm 16, line 3, what follows K-PKE's key: ek || H(ek) || z.
@@ -62,11 +62,9 @@ fn keygen_in(
 {
     let mut g = [0u8; 64];
     seeds(e, p, d, &mut g);
-    if !expand(&g[0..32], p.k, a) {
-        return Answer::ShortStream;
-    }
+    expand(&g[0..32], p.k, a)?;
     write_keys(p, a, &g, z, ek, dk);
-    Answer::Done
+    Ok(())
 }
 
 // Row 1 passed.
@@ -112,7 +110,7 @@ fn keygen_at(e: Edition, p: Parameters, d: &[u8], z: &[u8], ek: &mut [u8], dk: &
     let has = [d.len(), z.len(), ek.len(), dk.len()];
     let wants = [32, 32, ek_bytes(p), dk_bytes(p)];
     if !exact(&has, &wants) {
-        return Answer::WrongLength;
+        return Err(Refusal::WrongLength);
     }
     keygen_sized(e, p, d, z, ek, dk)
 }
@@ -131,7 +129,7 @@ pub fn keygen(e: Edition, rank: u32, d: &[u8], z: &[u8], ek: &mut [u8], dk: &mut
         dk.new }
 {
     if !is_rank(rank) {
-        return Answer::NoSuchRank;
+        return Err(Refusal::NoSuchRank);
     }
     keygen_at(e, of_rank(rank), d, z, ek, dk)
 }

@@ -1,5 +1,5 @@
 -- Laws of the rows, and of row 1's lengths.
-use Rattle.std.specs.Prelude.{◌≡◌, refl, Bool, true, false, not, cond, ◌&&◌, List, [], ◌∷◌, ◌++◌, ℕ, ◌<◌, eqb, length, Ok, Err}
+use Rattle.std.specs.Prelude.{◌≡◌, refl, Bool, true, false, not, cond, ◌&&◌, List, [], ◌∷◌, ◌++◌, ℕ, ◌<◌, eqb, length, Ok, Err, IsErrAnd}
 use Rattle.std.proofs.Common.{sym, ap, ap₂, ◌∙◌, arith, eqb-true, eq-eqb, ne_eqb}
 use Rattle.std.proofs.Math.Bool.{and_assoc}
 use Rattle.std.proofs.lemmas.Bool.{not-true, not-false}
@@ -44,6 +44,11 @@ pub done_passed : (b : Bool) (r : Refusal) (rs : List Row) → answer (row (not 
 unfolding answer
 done_passed true r rs h = (refl, h)
 done_passed false r rs h = absurd (omega (arith, ap number h, refusal_number-positive r))
+
+-- what `?` returns of a refused call is its refusal
+pub handed_on : (a : Answer) {r : Refusal} → IsErrAnd a (λ x. x ≡ r) → a ≡ Err r
+handed_on (Ok tt) h = absurd h
+handed_on (Err x) h = ap Err h
 
 -- ---- what a call leaves
 
