@@ -7,7 +7,7 @@ ghost use Rattle.masked_keccak.specs.MaskedKeccak.{chi_lane, masked_chi};
 ghost use Rattle.masked_keccak.specs.SharedRows.{shared_state, shared_row, masked_chi_row};
 
 use keccak::row::Row;
-use keccak::state::{State, row_at, whole};
+use keccak::state::State;
 use worksheet::{Entered, Recorder, Shared, Shares, masked_and, masked_not, masked_xor};
 
 // The lane w with u and v, the next two of its row, and the mask r.
@@ -77,38 +77,38 @@ pub(crate) fn chi(rec: Recorder, s: Shared<State>, ws: &[u64]) -> Entered<Shared
         (zip 25 (shared_state result.value.s0 result.value.s1)) result.rec }
 {
     let x0 = Shared {
-        s0: row_at(s.s0, 0),
-        s1: row_at(s.s1, 0),
+        s0: s.s0.row_at(0),
+        s1: s.s1.row_at(0),
     };
     let x1 = Shared {
-        s0: row_at(s.s0, 5),
-        s1: row_at(s.s1, 5),
+        s0: s.s0.row_at(5),
+        s1: s.s1.row_at(5),
     };
     let x2 = Shared {
-        s0: row_at(s.s0, 10),
-        s1: row_at(s.s1, 10),
+        s0: s.s0.row_at(10),
+        s1: s.s1.row_at(10),
     };
     let x3 = Shared {
-        s0: row_at(s.s0, 15),
-        s1: row_at(s.s1, 15),
+        s0: s.s0.row_at(15),
+        s1: s.s1.row_at(15),
     };
     let x4 = Shared {
-        s0: row_at(s.s0, 20),
-        s1: row_at(s.s1, 20),
+        s0: s.s0.row_at(20),
+        s1: s.s1.row_at(20),
     };
     let r0 = chi_row(rec, x0, ws);
     let r1 = chi_row(r0.rec, x1, &ws[5..]);
     let r2 = chi_row(r1.rec, x2, &ws[10..]);
     let r3 = chi_row(r2.rec, x3, &ws[15..]);
     let r4 = chi_row(r3.rec, x4, &ws[20..]);
-    let s0 = whole(
+    let s0 = State::from_rows(
         r0.value.s0,
         r1.value.s0,
         r2.value.s0,
         r3.value.s0,
         r4.value.s0,
     );
-    let s1 = whole(
+    let s1 = State::from_rows(
         r0.value.s1,
         r1.value.s1,
         r2.value.s1,

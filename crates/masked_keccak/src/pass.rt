@@ -5,13 +5,12 @@ ghost use Rattle.worksheet.specs.Prog.{entry, times};
 ghost use Rattle.worksheet.specs.Ran.{Makes};
 
 use keccak::state::State;
-use keccak::steps::{pi, rho, theta};
 use worksheet::{Recorder, enter};
 
 pub(crate) fn pass(s: State) -> State
     ensures { result.lanes ≡ pi_of (rho_of (theta_of s.lanes)) }
 {
-    pi(rho(theta(s)))
+    s.theta().rho().pi()
 }
 
 // The lanes in order.

@@ -2,7 +2,7 @@
 -- code's 25 offsets.
 use borrow.Author.Rules.{rules}
 use Rattle.keccak.proofs.ByRows.{rho_calls}
-use Rattle.keccak.proofs.steps.rho.Goals as goal
+use Rattle.keccak.proofs.state.State.rho.Goals as goal
 
 pub returns : goal.returns
 returns c = search (rules, rho_calls)

@@ -2,7 +2,7 @@
 -- theta lane by lane.
 use borrow.Author.Rules.{rules}
 use Rattle.keccak.proofs.ByRows.{theta_calls}
-use Rattle.keccak.proofs.steps.theta.Goals as goal
+use Rattle.keccak.proofs.state.State.theta.Goals as goal
 
 pub returns : goal.returns
 returns c = search (rules, theta_calls)

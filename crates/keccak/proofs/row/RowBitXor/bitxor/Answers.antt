@@ -1,7 +1,7 @@
 -- The language's ^ is the definitions' xor, on each of the five lanes.
 use mathlib.Core.Path.{refl}
 use Rattle.words.specs.Word.{xor}
-use Rattle.keccak.proofs.row.xor_row.Goals as goal
+use Rattle.keccak.proofs.row.RowBitXor.bitxor.Goals as goal
 
 pub returns : goal.returns
 unfolding xor
