@@ -12,17 +12,12 @@ pub fn extract(s: State, out: &mut [u8])
     ensures { out.new ≡ tab (length out.old) (byte_of s.lanes) }
 {
     let n = out.len();
-    let mut j: usize = 0;
-    while j < n / 8 {
+    for j in 0..n / 8 {
         let a = 8 * j;
-        let e = a + 8;
-        bytes::store(s.lanes[j], &mut out[a..e]);
-        j += 1;
+        bytes::store(s.lanes[j], &mut out[a..a + 8]);
     }
-    let mut i = 8 * j;
-    while i < n {
+    for i in n - n % 8..n {
         out[i] = bytes::byte(s.lanes[i / 8], i % 8);
-        i += 1;
     }
 }
 
@@ -31,14 +26,12 @@ pub(crate) fn squeeze(s: State, rate: usize, out: &mut [u8])
     requires { (0 < rate) × (rate ≤ 200) }
     ensures { out.new ≡ squeezed rate s.lanes (length out.old) }
 {
-    let n = out.len();
     let mut t = s;
-    let mut a: usize = 0;
-    while rate < n - a {
-        let e = a + rate;
-        extract(t, &mut out[a..e]);
+    let blocks = out.len().saturating_sub(1) / rate;
+    for i in 0..blocks {
+        let a = i * rate;
+        extract(t, &mut out[a..a + rate]);
         t = keccak::permute(t);
-        a = e;
     }
-    extract(t, &mut out[a..]);
+    extract(t, &mut out[blocks * rate..]);
 }

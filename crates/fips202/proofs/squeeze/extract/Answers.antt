@@ -5,7 +5,7 @@ use mathlib.Core.Path.{◌≡◌, refl, ◌∙◌}
 use mathlib.Core.List.{List}
 use borrow.Author.Rules.{rules}
 use native.Mathlib.Omega.{arith}
-use lib.ListN.{get_or}
+use lib.ListN.{get_or, length}
 use Rattle.words.specs.Tab.{tab}
 use Rattle.words.specs.TabLaws.{tab_cong}
 use Rattle.words.specs.Numeral.{digits}
@@ -25,18 +25,18 @@ lane-bytes s j =
 pub loop-j-preserved : goal.loop-j-preserved
 loop-j-preserved c =
     let j = c.loop-j.j in
-    let w : 8 * (j + 1) ≡ 8 * j + 8 = omega arith in (
-      rw w
-          (filled_part c.loop-j.invariant.0 (omega arith) (omega arith)
-          (c.store.ensures ∙ lane-bytes c.args.s.lanes j)),
-      search rules,
-    )
+    let w : 8 * (j + 1) ≡ 8 * j + 8 = omega arith in
+    rw w
+    (filled_part c.loop-j.invariant (omega arith) (omega arith) (c.store.ensures ∙ lane-bytes c.args.s.lanes j))
 
 pub loop-j-init : goal.loop-j-init
-loop-j-init c = (filled_start refl, search rules)
+loop-j-init c = filled_start refl
 
 pub loop-i-init : goal.loop-i-init
-loop-i-init c = c.loop-j.invariant.0
+loop-i-init c =
+    let n = length c.args.out.now in
+    let e : n - n % 8 ≡ 8 * c.loop-j.j = omega arith in
+    rw e c.loop-j.invariant
 
 pub loop-i-preserved : goal.loop-i-preserved
 loop-i-preserved c = filled_turn c.loop-i.invariant (search rules) c.byte.ensures

@@ -1,13 +1,13 @@
 -- Whole lanes are stored as long as eight bytes are left, then single bytes: either way byte i is byte i % 8 of lane
 -- i / 8.
-use Prim.Native.Nat.{◌-◌, ◌*◌, ◌/◌, ◌≤◌}
+use Prim.Native.Nat.{◌-◌, ◌*◌, ◌/◌}
 use Rattle.words.specs.Fill.{Filled}
 use Rattle.fips202.specs.Sponge.{byte_of}
 use Rattle.fips202.proofs.squeeze.extract.Given as goal
 
 -- j lanes are given out
 abbrev pub invariant-loop-j : goal.invariant-loop-j
-invariant-loop-j l = Filled l.n (byte_of l.s.lanes) (8 * l.j) l.out × (l.j ≤ l.n / 8)
+invariant-loop-j l = Filled l.n (byte_of l.s.lanes) (8 * l.j) l.out
 
 abbrev pub decreases-loop-j : goal.decreases-loop-j
 decreases-loop-j l = l.n / 8 - l.j
