@@ -2,7 +2,7 @@
 use native.Mathlib.Omega.{arith}
 use lib.ListN.{length-set}
 use Rattle.transform.proofs.Butterflies.{butterfly_calls}
-use Rattle.transform.proofs.transform.butterfly_at.Goals as goal
+use Rattle.transform.proofs.transform.ForwardDirection.butterfly.Goals as goal
 
 pub returns : goal.returns
 returns c =

@@ -1,7 +1,7 @@
 -- The code works on remainders, and q is added so that the difference is not negative: modulo q neither changes
 -- the results.
 use Rattle.transform.proofs.Butterflies.{inverse_butterfly_calls}
-use Rattle.transform.proofs.transform.inverse_butterfly_at.Goals as goal
+use Rattle.transform.proofs.transform.InverseDirection.butterfly.Goals as goal
 
 pub returns : goal.returns
 returns c =
