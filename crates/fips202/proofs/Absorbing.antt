@@ -1,7 +1,7 @@
 -- The loop that takes a message's whole blocks in.
 use mathlib.Core.Path.{◌≡◌, refl, sym, ap, ◌∙◌}
 use mathlib.Core.List.{List, ◌++◌}
-use Prim.Native.Nat.{ℕ, suc, ◌+◌, ◌-◌, ◌*◌, ◌%◌, ◌<◌, ◌≤◌}
+use Prim.Native.Nat.{ℕ, suc, ◌+◌, ◌-◌, ◌*◌, ◌/◌, ◌%◌, ◌<◌, ◌≤◌}
 use native.Mathlib.Nat.{suc-mul, zero-mul}
 use native.Mathlib.Omega.{arith}
 use lib.Arith.{digits_mod}
@@ -9,9 +9,18 @@ use lib.ListN.{length, length-append, take, drop, replicate}
 use lib.Seq.{take-append_seam, drop-append_seam}
 use Rattle.std.proofs.lemmas.List.{length-drop, drop-drop}
 use Rattle.words.specs.Iterate.{iterate}
+use Rattle.words.specs.Numeral.{value}
+use Rattle.words.specs.Part.{part_take}
 use Rattle.keccak.specs.KeccakP.{keccak_p}
-use Rattle.fips202.specs.Sponge.{padding, padded, mixed, absorbed}
+use Rattle.fips202.specs.Sponge.{padding, padded, lane_of, mixed, absorbed}
 use Rattle.fips202.specs.Blocks.{taken, absorbed-padded}
+
+-- eight bytes of p are a lane of its first block
+pub lane_part : (rate : ℕ) (p : List ℕ) (j : ℕ) {w : ℕ} → j < rate / 8
+    → w ≡ value 256 (take (8 * j + 8 - 8 * j) (drop (8 * j) p)) → w ≡ lane_of (take rate p) j
+lane_part rate p j h e =
+    let d : 8 * j + 8 - 8 * j ≡ 8 = omega arith in
+    e ∙ ap (value 256) (rw d (sym (part_take (8 * j) 8 rate p (omega arith))))
 
 -- the blocks of m before what is left are taken in, by an iterator over blocks of size bytes
 pub record Absorbing (rate : ℕ) (m : List ℕ) (size : ℕ) (left t : List ℕ) : Type 0 where

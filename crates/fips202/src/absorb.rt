@@ -12,9 +12,8 @@ fn mix_block(s: State, block: &[u8]) -> State
     ensures { result.lanes ≡ mixed block.now s.lanes }
 {
     let mut t = s;
-    for j in 0..block.len() / 8 {
-        let a = 8 * j;
-        t.lanes[j] ^= bytes::load(&block[a..a + 8]);
+    for (j, lane) in block.chunks_exact(8).enumerate() {
+        t.lanes[j] ^= bytes::load(lane);
     }
     t
 }

@@ -6,19 +6,17 @@ ghost use Rattle.fips202.specs.Sponge.{byte_of, squeezed};
 use crate::bytes;
 use keccak::state::State;
 
-// The first bytes of the state, whole lanes first.
+// The first bytes of the state.
 pub fn extract(s: State, out: &mut [u8])
     requires { length out.old ≤ 200 }
     ensures { out.new ≡ tab (length out.old) (byte_of s.lanes) }
 {
-    let n = out.len();
-    for j in 0..n / 8 {
+    let mut b = [0u8; 200];
+    for (j, lane) in s.lanes.iter().enumerate() {
         let a = 8 * j;
-        bytes::store(s.lanes[j], &mut out[a..a + 8]);
+        bytes::store(*lane, &mut b[a..a + 8]);
     }
-    for i in n - n % 8..n {
-        out[i] = bytes::byte(s.lanes[i / 8], i % 8);
-    }
+    out.copy_from_slice(&b[..out.len()]);
 }
 
 // Steps 7 to 10: a block of output, and a permutation while more than a block is wanted.

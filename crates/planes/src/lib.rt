@@ -13,8 +13,8 @@ fn pack(v: &[u64], w: &mut [u64])
     requires { (length v.now ≡ 64) × (length w.old ≡ 32) }
     ensures { w.new ≡ tab 32 (packed (λ i. get_or v.now i 0)) }
 {
-    for i in 0..32 {
-        w[i] = (v[i] & 0xffff_ffff) ^ (v[i + 32] << 32);
+    for (i, x) in w.iter_mut().enumerate() {
+        *x = (v[i] & 0xffff_ffff) ^ (v[i + 32] << 32);
     }
 }
 
@@ -71,8 +71,8 @@ fn widened(f: &[u16]) -> [u64; 64]
     ensures { result ≡ tab 64 (λ i. get_or f.now i 0) }
 {
     let mut v = [0u64; 64];
-    for i in 0..64 {
-        v[i] = u64::from(f[i]);
+    for (i, x) in f.iter().enumerate() {
+        v[i] = u64::from(*x);
     }
     v
 }
