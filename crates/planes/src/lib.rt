@@ -27,7 +27,7 @@ fn exchange(x: u64, y: u64, s: usize, m: u64) -> (u64, u64)
     (x ^ (t << s), y ^ t)
 }
 
-// Rows i and i + 16 become rows 2 i and 2 i + 1.
+// Rows i and i + 16 become rows 2 i and 2 i + 1; by place, since halves zipped with pairs would say it no plainer.
 fn step(w: &[u64], s: usize, m: u64, o: &mut [u64])
     requires { StepLent s w.now o.old }
     ensures { o.new ≡ tab 32 (stepped s m (λ i. get_or w.now i 0)) }

@@ -69,7 +69,8 @@ impl Direction for Inverse {
     }
 }
 
-// lines 7 to 11: the len pairs from start on
+// lines 7 to 11: the len pairs from start on; by place, since what is written through two halves zipped isn't known to a
+// proof in the end
 fn block_at<D: Direction>(f: &mut [u16], z: u16, len: usize, start: usize)
     requires { (start + 2 * len ≤ length f.old) × (z < q) }
     ensures { f.new ≡ pairs D.pair z len start f.old }
@@ -80,7 +81,8 @@ fn block_at<D: Direction>(f: &mut [u16], z: u16, len: usize, start: usize)
     }
 }
 
-// lines 4 to 12: k blocks of 2 len coefficients
+// lines 4 to 12: k blocks of 2 len coefficients; by number, since roots in either order beside the blocks say it no
+// plainer
 fn layer_at<D: Direction>(f: &mut [u16], zetas: &[u16], k: usize, len: usize)
     requires { LayerInput f.old zetas.now k len }
     ensures { f.new ≡ blocks D.pair D.entry k len f.old }
