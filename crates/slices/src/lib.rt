@@ -7,18 +7,14 @@ pub fn copy_bytes(s: &[u8], out: &mut [u8])
     requires { length s.now ≡ length out.old }
     ensures { out.new ≡ s.now }
 {
-    for i in 0..s.len() {
-        out[i] = s[i];
-    }
+    out.copy_from_slice(s);
 }
 
 pub fn copy_coefficients(s: &[u16], out: &mut [u16])
     requires { length s.now ≡ length out.old }
     ensures { out.new ≡ s.now }
 {
-    for i in 0..s.len() {
-        out[i] = s[i];
-    }
+    out.copy_from_slice(s);
 }
 
 // s || t.
@@ -26,7 +22,7 @@ pub fn concat_bytes(s: &[u8], t: &[u8], out: &mut [u8])
     requires { length s.now + length t.now ≡ length out.old }
     ensures { out.new ≡ s.now ++ t.now }
 {
-    let n = s.len();
-    copy_bytes(s, &mut out[0..n]);
-    copy_bytes(t, &mut out[n..]);
+    let (front, back) = out.split_at_mut(s.len());
+    front.copy_from_slice(s);
+    back.copy_from_slice(t);
 }
