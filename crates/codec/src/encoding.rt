@@ -5,7 +5,7 @@ ghost use Rattle.codec.specs.Bytes.{byte_encode, byte_decode, byte_decode12};
 ghost use Rattle.codec.specs.Lent.{EncodeInput, DecodeInput};
 
 use crate::bits::{high, low, low_byte, put_above, wide8, wide16};
-use ring::reduce;
+use ring::{map_coefficients, reduce};
 
 // Algorithm 5, ByteEncode_d: each turn loads a coefficient or stores a byte.
 pub fn byte_encode(f: &[u16], d: u32, out: &mut [u8])
@@ -57,9 +57,7 @@ pub fn byte_decode(b: &[u8], d: u32, f: &mut [u16])
 fn reduce_all(f: &mut [u16])
     ensures { f.new ≡ map (λ x. x % q) f.old }
 {
-    for i in 0..f.len() {
-        f[i] = reduce(wide16(f[i]));
-    }
+    map_coefficients(f, |x| reduce(wide16(x)));
 }
 
 // Algorithm 6 at d = 12

@@ -1,5 +1,5 @@
 -- Turn by turn one coefficient of f becomes the sum's; the others are still as they were.
-use Rattle.std.proofs.Common.{◌+◌, ◌-◌, ◌%◌, length, get_or}
+use Rattle.std.proofs.Common.{◌+◌, ◌%◌, length, get_or}
 use Rattle.words.specs.Fill.{Replaced}
 use Rattle.words.specs.Residue.{q}
 use Rattle.ring.proofs.polynomial.add_to.Given as goal

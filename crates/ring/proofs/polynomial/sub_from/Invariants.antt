@@ -1,5 +1,5 @@
 -- Turn by turn one coefficient of f becomes the difference's; that g's is reduced first changes nothing modulo q.
-use Rattle.std.proofs.Common.{◌-◌, length, get_or}
+use Rattle.std.proofs.Common.{length, get_or}
 use Rattle.words.specs.Fill.{Replaced}
 use Rattle.ring.specs.Polynomial.{minus}
 use Rattle.ring.proofs.polynomial.sub_from.Given as goal
