@@ -5,7 +5,7 @@ ghost use Rattle.codec.specs.Bytes.{byte_encode, byte_decode, byte_decode12};
 ghost use Rattle.codec.specs.Lent.{EncodeInput, DecodeInput};
 
 use crate::bits::{high, low, low_byte, put_above, wide8, wide16};
-use ring::{map_coefficients, reduce};
+use ring::{map_coefficients, remainder};
 
 // Algorithm 5, ByteEncode_d: each turn loads a coefficient or stores a byte.
 pub fn byte_encode(f: &[u16], d: u32, out: &mut [u8])
@@ -53,18 +53,11 @@ pub fn byte_decode(b: &[u8], d: u32, f: &mut [u16])
     }
 }
 
-// every number modulo q
-fn reduce_all(f: &mut [u16])
-    ensures { f.new ≡ map (λ x. x % q) f.old }
-{
-    map_coefficients(f, |x| reduce(wide16(x)));
-}
-
 // Algorithm 6 at d = 12
 pub fn byte_decode12(b: &[u8], f: &mut [u16])
     requires { (length b.now ≡ 384) × (length f.old ≡ 256) }
     ensures { f.new ≡ byte_decode12 b.now }
 {
     byte_decode(b, 12, f);
-    reduce_all(f);
+    map_coefficients(f, |x| remainder(x));
 }
