@@ -35,21 +35,3 @@ loop-j-preserved c =
 pub returns : goal.returns
 unfolding dot
 returns c = reached_end c.loop-j.invariant.1 (omega arith)
-
-pub overflow_mul-x : goal.overflow_mul-x
-overflow_mul-x c = omega (arith, c.requires.left c.loop-j.j (omega arith))
-
-pub overflow_add-x : goal.overflow_add-x
-overflow_add-x c = omega (arith, c.requires.left c.loop-j.j (omega arith))
-
-pub overflow_mul-x-in-loop-j : goal.overflow_mul-x-in-loop-j
-overflow_mul-x-in-loop-j c = omega (arith, c.requires.left c.loop-j.j (omega arith))
-
-pub overflow_add-xe : goal.overflow_add-xe
-overflow_add-xe c = omega (arith, c.requires.left c.loop-j.j (omega arith))
-
-pub offset_bounds-a-x : goal.offset_bounds-a-x
-offset_bounds-a-x c = omega (arith, c.requires.left c.loop-j.j (omega arith))
-
-pub slice_bounds-multiply_add-end : goal.slice_bounds-multiply_add-end
-slice_bounds-multiply_add-end c = omega (arith, c.requires.left c.loop-j.j (omega arith))
