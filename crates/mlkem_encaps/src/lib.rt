@@ -17,7 +17,6 @@ use kpke::matrix::expand;
 use parameters::{Edition, Parameters, ct_bytes, ek_bytes, is_rank, of_rank, vector_bytes};
 use refusals::conditions::reduced;
 use refusals::{Answer, Refusal, exact};
-use slices::copy_bytes;
 use vectors::decode_all;
 
 // FIPS 203, section 7.2, the modulus check: each coefficient of an encoded vector is below q. They go to t.
@@ -48,7 +47,7 @@ fn write_mlkem(p: Parameters, a: &[u16], ek: &[u8], m: &[u8], ct: &mut [u8], k: 
     let mut g = [0u8; 64];
     hash_h(ek, &mut h);
     hash_g(m, &h, &mut g);
-    copy_bytes(&g[0..32], k);
+    k.copy_from_slice(&g[0..32]);
     encrypt(p, a, ek, m, &g[32..], ct);
 }
 

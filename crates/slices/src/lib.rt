@@ -1,4 +1,6 @@
-// Copies from slices to a slice of the same length, and FIPS 203's a || b (section 2.3).
+// Copies from slices to a slice of the same length, and FIPS 203's a || b (section 2.3). A share is moved by functions
+// that docs/shares.md lists: so the two copies of one are functions, by type, and what is public is copied by std's
+// copy_from_slice, which promises the same.
 #![tactic(auto)]
 
 ghost use Rattle.std.specs.Prelude.{◌++◌, ◌≡◌, ◌+◌, length};

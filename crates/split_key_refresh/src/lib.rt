@@ -19,8 +19,8 @@ fn xor_words(z: &mut [u64], masks: &[u64])
     requires { length z.old ≡ length masks.now }
     ensures { z.new ≡ xor_words z.old masks.now }
 {
-    for i in 0..z.len() {
-        z[i] = z[i] ^ masks[i];
+    for (i, word) in z.iter_mut().enumerate() {
+        *word ^= masks[i];
     }
 }
 

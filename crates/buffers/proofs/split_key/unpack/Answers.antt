@@ -19,5 +19,5 @@ returns c =
       secret1 = numbers_part 2 half words half b c.get_coefficients-2.ensures (omega arith) (omega arith);
       reject0 = numbers_part 8 words second 32 b c.get_words.ensures (omega arith) (omega arith);
       reject1 = numbers_part 8 second rest 32 b c.get_words-2.ensures (omega arith) (omega arith);
-      public = c.copy_bytes.ensures ∙ part_rest rest b;
+      public = c.copy_from_slice.ensures.after ∙ part_rest rest b;
     }
