@@ -3,7 +3,8 @@
 // copy_from_slice, which promises the same.
 #![tactic(auto)]
 
-ghost use Rattle.std.specs.Prelude.{◌++◌, ◌≡◌, ◌+◌, length};
+ghost use Rattle.std.specs.Prelude.{◌++◌, ◌≡◌, ◌+◌, ◌<◌, ℕ, length};
+ghost use Rattle.words.specs.Tab.{tab};
 
 pub fn copy_bytes(s: &[u8], out: &mut [u8])
     requires { length s.now ≡ length out.old }
@@ -27,4 +28,16 @@ pub fn concat_bytes(s: &[u8], t: &[u8], out: &mut [u8])
     let (front, back) = out.split_at_mut(s.len());
     front.copy_from_slice(s);
     back.copy_from_slice(t);
+}
+
+// Place i of out becomes f(i): where that is v(i), out becomes the list v(0), v(1), ..
+pub fn tabulate<T: Copy, F: Fn(usize) -> T>(out: &mut [T], f: F)
+    requires { (i : ℕ) → i < length out.old → F.pre f i }
+    ensures { (v : ℕ → T)
+        → ((i : ℕ) (y : T) → i < length out.old → F.post f i y → y ≡ v i)
+        → out.new ≡ tab (length out.old) v }
+{
+    for (i, x) in out.iter_mut().enumerate() {
+        *x = f(i);
+    }
 }
