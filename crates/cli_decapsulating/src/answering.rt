@@ -7,6 +7,7 @@ use cli_support::answers::is_refused;
 use cli_support::desk::Desk;
 use cli_support::split_file::replace_split;
 use cli_support::{messages, outputs};
+use decapsulation::{Input, SplitKey};
 use parameters::Edition;
 
 // The shares of K as 64 bytes. The split key is replaced by one with the raised count; false where it isn't.
@@ -32,22 +33,20 @@ fn decapsulate(
     let mut k0 = [0u64; 4];
     let mut k1 = [0u64; 4];
     let mut raised = count;
-    let answer = decapsulation::decaps(
-        e,
-        k as u32,
+    let key = SplitKey {
         s0,
         s1,
         z0,
         z1,
         public,
-        limit,
-        &mut raised,
+    };
+    let input = Input {
+        key,
         ct,
         words,
         coeffs,
-        &mut k0,
-        &mut k1,
-    );
+    };
+    let answer = decapsulation::decaps(e, k as u32, &input, limit, &mut raised, &mut k0, &mut k1);
     if is_refused(desk, answer) {
         return false;
     }
@@ -116,9 +115,20 @@ pub fn print_step(
     step: u64,
 ) {
     let mut value: u64 = 0;
-    let answer = decapsulation::trace(
-        e, rank, s0, s1, z0, z1, public, ct, words, coeffs, step, &mut value,
-    );
+    let key = SplitKey {
+        s0,
+        s1,
+        z0,
+        z1,
+        public,
+    };
+    let input = Input {
+        key,
+        ct,
+        words,
+        coeffs,
+    };
+    let answer = decapsulation::trace(e, rank, &input, step, &mut value);
     if is_refused(desk, answer) {
         return;
     }

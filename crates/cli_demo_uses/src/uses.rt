@@ -8,6 +8,7 @@ use buffers::values::xor_words;
 use cli_support::answers::is_refused;
 use cli_support::arguments::same;
 use cli_support::desk::Desk;
+use decapsulation::{Input, SplitKey};
 use parameters::Edition;
 use text::print;
 
@@ -49,9 +50,20 @@ pub fn decapsulate(
 ) -> bool {
     let mut k0 = [0u64; 4];
     let mut k1 = [0u64; 4];
-    let answer = decapsulation::decaps(
-        e, rank, s0, s1, z0, z1, public, limit, count, ct, words, coeffs, &mut k0, &mut k1,
-    );
+    let key = SplitKey {
+        s0,
+        s1,
+        z0,
+        z1,
+        public,
+    };
+    let input = Input {
+        key,
+        ct,
+        words,
+        coeffs,
+    };
+    let answer = decapsulation::decaps(e, rank, &input, limit, count, &mut k0, &mut k1);
     if is_refused(desk, answer) {
         return false;
     }
@@ -101,9 +113,20 @@ fn trace(
     step: u64,
 ) -> bool {
     let mut value: u64 = 0;
-    let answer = decapsulation::trace(
-        e, rank, s0, s1, z0, z1, public, ct, words, coeffs, step, &mut value,
-    );
+    let key = SplitKey {
+        s0,
+        s1,
+        z0,
+        z1,
+        public,
+    };
+    let input = Input {
+        key,
+        ct,
+        words,
+        coeffs,
+    };
+    let answer = decapsulation::trace(e, rank, &input, step, &mut value);
     if is_refused(desk, answer) {
         return false;
     }

@@ -1,4 +1,5 @@
 pub mod SplitKey
+pub mod Lent
 pub mod SplitLaws
 pub mod KeyState
 pub mod Import

@@ -3,9 +3,25 @@
 use crate::left;
 use crate::left::Left;
 use crate::splits::number_at;
+use decapsulation::{Input, SplitKey};
 use refusals::number;
 use test_memory::memory::{word, words_at};
 use test_memory::operands;
+
+fn input_at<'a>(r: &[u8], b: &'a [u8], c: &'a [u16], w: &'a [u64]) -> Input<'a> {
+    Input {
+        key: SplitKey {
+            s0: operands::coefficients(r, 11, c),
+            s1: operands::coefficients(r, 12, c),
+            z0: operands::words(r, 13, w),
+            z1: operands::words(r, 14, w),
+            public: operands::bytes(r, 15, b),
+        },
+        ct: operands::bytes(r, 16, b),
+        words: operands::words(r, 17, w),
+        coeffs: operands::coefficients(r, 18, c),
+    }
+}
 
 // The limit is operand 10.
 fn decaps_on(
@@ -20,16 +36,9 @@ fn decaps_on(
     number(decapsulation::decaps(
         operands::edition(r, 9),
         operands::high(r, 9),
-        operands::coefficients(r, 11, c),
-        operands::coefficients(r, 12, c),
-        operands::words(r, 13, w),
-        operands::words(r, 14, w),
-        operands::bytes(r, 15, b),
+        &input_at(r, b, c, w),
         operands::low(r, 10),
         count,
-        operands::bytes(r, 16, b),
-        operands::words(r, 17, w),
-        operands::coefficients(r, 18, c),
         k0,
         k1,
     ))
@@ -52,14 +61,7 @@ pub(crate) fn trace(r: &[u8], b: &[u8], c: &[u16], w: &[u64]) -> Left {
     let answer = decapsulation::trace(
         operands::edition(r, 9),
         operands::high(r, 9),
-        operands::coefficients(r, 11, c),
-        operands::coefficients(r, 12, c),
-        operands::words(r, 13, w),
-        operands::words(r, 14, w),
-        operands::bytes(r, 15, b),
-        operands::bytes(r, 16, b),
-        operands::words(r, 17, w),
-        operands::coefficients(r, 18, c),
+        &input_at(r, b, c, w),
         word(w, operands::start(r, 10)),
         &mut value,
     );
