@@ -14,8 +14,8 @@ fn enter_share(rec: Recorder, f: &[u16]) -> Recorder
     ensures { Makes (entries (length f.now) (λ i. get_or f.now i 0)) rec f.now result }
 {
     let mut rec = rec;
-    for i in 0..f.len() {
-        rec = worksheet::enter(rec, f[i] as u64);
+    for x in f {
+        rec = worksheet::enter(rec, *x as u64);
     }
     rec
 }

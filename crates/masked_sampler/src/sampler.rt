@@ -36,6 +36,7 @@ fn convert_bits(
         (zip (2 * eta) (shared_list s0.new s1.new)) result }
 {
     let mut rec = rec;
+    // By place, as the definition's turns are: bits, weights, masks and both shares are walked side by side.
     for j in 0..2 * eta {
         let z = bit_to_coeff(rec, weight(eta, j), bit_of(b, j), cs[j]);
         s0[j] = z.value.s0;
@@ -52,8 +53,8 @@ fn sum_terms(rec: Recorder, n: usize, x: &[u16]) -> Entered<u16>
 {
     let mut rec = rec;
     let mut s = x[0];
-    for j in 0..n {
-        let e = enter_sum(rec, s, x[j + 1]);
+    for y in &x[1..n + 1] {
+        let e = enter_sum(rec, s, *y);
         s = e.value;
         rec = e.rec;
     }
