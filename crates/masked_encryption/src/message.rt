@@ -22,6 +22,7 @@ pub fn stage4(
         rec cs.now (shared_list mu0.new mu1.new) result }
 {
     let mut rec = rec;
+    // By place, as the definition's turns are: bits, masks and both shares are walked side by side.
     for i in 0..256 {
         let w = Shares {
             s0: m0[i / 64],

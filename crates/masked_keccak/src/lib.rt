@@ -48,6 +48,7 @@ pub fn permute(rec: Recorder, s: Shared<State>, ws: &[u64]) -> Entered<Shared<St
 {
     let mut o = Entered { value: s, rec };
     let constants = round_constants();
+    // By place, as the definition's turns are: round i takes constant i and the masks from 25 i on.
     for i in 0..24 {
         o = round(o.rec, o.value, &constants, i, &ws[25 * i..]);
     }

@@ -25,6 +25,7 @@ fn group_planes(f: &[u16], d: usize, out: &mut [u64])
     requires { PlanesInput d f.now out.old }
     ensures { out.new ≡ planes_of d f.now }
 {
+    // By place, as the definition's parts are: 64 numbers here, d planes there.
     for g in 0..4 {
         let a = 64 * g;
         let ae = a + 64;
@@ -52,6 +53,7 @@ fn first_planes(c: &[u8], d: u32, k: usize, out: &mut [u64])
 {
     let n = 32 * (d as usize);
     let m = 4 * (d as usize);
+    // By place, as the definition's parts are: 32 d bytes here, 4 d planes there.
     for i in 0..k {
         let a = n * i;
         let ae = a + n;

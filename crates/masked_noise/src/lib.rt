@@ -93,6 +93,7 @@ fn sample_all(
         rec cs.now (zip 256 (shared_list f0.new f1.new)) result }
 {
     let mut rec = rec;
+    // By place, as the definition's turns are: bits, masks and both shares are walked side by side.
     for i in 0..256 {
         let k = 2 * eta * i;
         let o = sample_one(rec, eta, i, o0, o1, &cs[k..]);
@@ -208,6 +209,7 @@ fn noise_polys(
     let words = noise_words(eta as u32);
     let coeffs = noise_coeffs(eta as u32);
     let mut rec = rec;
+    // By place, as the definition's turns are: both strips and both shares are walked side by side.
     for i in 0..k {
         let a = 256 * i;
         let e = a + 256;

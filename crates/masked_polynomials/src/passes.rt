@@ -36,6 +36,7 @@ pub fn enter_polynomials(rec: Recorder, k: usize, f: &[u16], g: &[u16]) -> Recor
         rec (polynomials k (shared_list f.now g.now)) result }
 {
     let mut rec = rec;
+    // By place, as the definition's turns are: parts of both shares.
     for i in 0..k {
         let a = 256 * i;
         let e = a + 256;
