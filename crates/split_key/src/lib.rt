@@ -6,7 +6,10 @@
 ghost use Rattle.std.specs.Prelude.{◌≡◌};
 ghost use Rattle.split_key.specs.KeyState.{is_limit};
 
+mod lent_to_write; // a split key's buffers, with its limit and its count
 pub mod splitting; // the parts of a split key
+
+pub use lent_to_write::{KeyStateMut, SharesMut};
 
 // A split key as it is lent to be read: the secret's shares, z's shares, and the public key followed by h.
 #[derive(Clone, Copy)]
@@ -22,5 +25,5 @@ pub struct SplitKey<'a> {
 pub fn is_limit(limit: u32) -> bool
     ensures { result ≡ is_limit limit }
 {
-    (limit >= 1) & (limit <= 1000000)
+    (1..=1_000_000).contains(&limit)
 }
