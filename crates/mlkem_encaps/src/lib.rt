@@ -14,7 +14,7 @@ ghost use Rattle.refusals.specs.Refusals.{number};
 use hash_functions::{hash_g, hash_h, hash_kdf};
 use kpke::encrypt::encrypt;
 use kpke::matrix::expand;
-use parameters::{Edition, Parameters, ct_bytes, ek_bytes, is_rank, of_rank, vector_bytes};
+use parameters::{Edition, Parameters, ct_bytes, ek_bytes, vector_bytes};
 use refusals::conditions::reduced;
 use refusals::{Answer, Refusal, exact};
 use vectors::decode_all;
@@ -174,8 +174,5 @@ pub fn encaps(e: Edition, rank: u32, ek: &[u8], m: &[u8], ct: &mut [u8], k: &mut
         ct.new
         k.new }
 {
-    if !is_rank(rank) {
-        return Err(Refusal::NoSuchRank);
-    }
-    encaps_at(e, of_rank(rank), ek, m, ct, k)
+    encaps_at(e, Parameters::try_from(rank)?, ek, m, ct, k)
 }

@@ -12,7 +12,7 @@ ghost use Rattle.refusals.specs.Refusals.{number};
 use hash_functions::hash_h;
 use kpke::matrix::expand;
 use mlkem::seeds;
-use parameters::{Edition, Parameters, dk_bytes, ek_bytes, is_rank, of_rank, vector_bytes};
+use parameters::{Edition, Parameters, dk_bytes, ek_bytes, vector_bytes};
 use refusals::{Answer, Refusal, exact};
 
 // Algorithm 16, line 3, what follows K-PKE's key: ek || H(ek) || z.
@@ -127,8 +127,5 @@ pub fn keygen(e: Edition, rank: u32, d: &[u8], z: &[u8], ek: &mut [u8], dk: &mut
         ek.new
         dk.new }
 {
-    if !is_rank(rank) {
-        return Err(Refusal::NoSuchRank);
-    }
-    keygen_at(e, of_rank(rank), d, z, ek, dk)
+    keygen_at(e, Parameters::try_from(rank)?, d, z, ek, dk)
 }
