@@ -7,10 +7,7 @@ use test_memory::record::Record;
 
 // out is operand 1; the hash and the message are operands 9 and 10.
 pub(crate) fn hash(r: Record, m: &Memory, left: &mut Left) -> u64 {
-    HashFunction::from(r.low(9)).digest(
-        r.lent(10, &m.bytes),
-        r.taken(1, &m.bytes, &mut left.b0),
-    )
+    HashFunction::from(r.low(9)).digest(r.lent(10, &m.bytes), r.taken(1, &m.bytes, &mut left.b0))
 }
 
 // The masked hashes by their numbers.

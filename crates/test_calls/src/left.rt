@@ -1,5 +1,5 @@
-// What a call may change, and what it leaves there: operands 1 to 8 of its record say where that stands in the memory,
-// and as much as a call hasn't is zero.
+// What a call may change: operands 1 to 8 of its record, the same eight for each call, say where that stands in the
+// memory. What a call hasn't stays zero and is put back so.
 use test_memory::failure::Outcome;
 use test_memory::memory::{Memory, store};
 use test_memory::record::Record;

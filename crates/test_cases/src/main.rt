@@ -2,6 +2,8 @@
 // name the files; for each it prints how many of its cases hold, and the first that doesn't.
 #![tactic(auto)]
 
+ghost use Rattle.std.specs.Prelude.{◌≤◌, IfOk};
+
 use arrayvec::ArrayVec;
 use std::env::{Env, FillError};
 use std::fs::File;
@@ -28,6 +30,7 @@ fn read_number(input: &mut File) -> Result<u32, Damaged> {
 }
 
 fn read_length(input: &mut File, most: usize) -> Result<usize, Damaged>
+    ensures { IfOk result (λ n. n ≤ most) }
 {
     let n = read_number(input)? as usize;
     if n <= most { Ok(n) } else { Err(Damaged) }
@@ -55,10 +58,11 @@ fn read_name(input: &mut File) -> Result<Name, Damaged> {
 
 // Records have 262,144 bytes at most.
 fn read_case(input: &mut File, memory: &mut Memory) -> Result<Outcome, Damaged> {
-    let mut records = [0u8; 262144];
-    let n = read_length(input, records.len())?;
-    read(input, &mut records[..n])?;
-    Ok(case(&records[..n], memory))
+    let mut buffer = [0u8; 262144];
+    let n = read_length(input, 262144)?;
+    let records = &mut buffer[..n];
+    read(input, records)?;
+    Ok(case(records, memory))
 }
 
 // ---- a file

@@ -53,10 +53,7 @@ pub(crate) fn copy(r: Record, m: &mut Memory) -> Outcome {
 pub(crate) fn join(r: Record, m: &mut Memory) -> Outcome {
     let mut both = [0u8; 4096];
     load(r.lent(0, &m.bytes), 0, &mut both);
-    for (x, y) in both
-        .iter_mut()
-        .zip(part(&m.bytes, r.start(1), r.count(0)))
-    {
+    for (x, y) in both.iter_mut().zip(part(&m.bytes, r.start(1), r.count(0))) {
         *x ^= *y;
     }
     store(r.first(0, &both), &mut m.bytes, r.start(0))
@@ -159,7 +156,9 @@ fn store_elements<T: Element>(r: Record, bytes: &mut [u8], memory: &[T]) -> Outc
     if elements.len() != r.count(1) % 65537 {
         return Err(Failure::Outside);
     }
-    let length = T::BYTES.checked_mul(elements.len()).ok_or(Failure::Outside)?;
+    let length = T::BYTES
+        .checked_mul(elements.len())
+        .ok_or(Failure::Outside)?;
     T::put(elements, part_mut(bytes, r.start(0), length)?);
     Ok(())
 }

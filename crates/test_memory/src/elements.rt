@@ -5,6 +5,7 @@ use buffers::little_endian;
 
 pub(crate) trait Element: Copy {
     ghost BYTES: { ℕ };
+
     const BYTES: usize;
 
     fn get(bytes: &[u8], out: &mut [Self])
@@ -16,6 +17,7 @@ pub(crate) trait Element: Copy {
 
 impl Element for u16 {
     ghost BYTES = { 2 };
+
     const BYTES: usize = 2;
 
     fn get(bytes: &[u8], out: &mut [u16]) {
@@ -29,6 +31,7 @@ impl Element for u16 {
 
 impl Element for u64 {
     ghost BYTES = { 8 };
+
     const BYTES: usize = 8;
 
     fn get(bytes: &[u8], out: &mut [u64]) {

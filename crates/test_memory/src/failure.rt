@@ -3,8 +3,8 @@
 #[derive(Clone, Copy, Debug, PartialEq, Eq)]
 pub enum Failure {
     NoSuchKind, // there is no record of its kind, or no element of its width
-    Outside,    // what it would change, or copy, isn't in the memory
-    Differs,    // what it wants isn't so
+    Outside, // what it would change, or copy, isn't in the memory
+    Differs, // what it wants isn't so
 }
 
 // What comes of a record.

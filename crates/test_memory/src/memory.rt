@@ -28,9 +28,8 @@ impl Memory {
     }
 }
 
-// ---- parts
+// ---- parts, which are cut at the end, or whole
 
-// Cut at the end.
 pub fn part<T>(s: &[T], at: usize, n: usize) -> &[T]
     ensures { length result.now ≤ n }
 {
