@@ -2,6 +2,7 @@
 // 8.
 use crate::left::Left;
 use refusals::number;
+use split_key::{KeyStateMut, SharesMut};
 use test_memory::memory::{Memory, element};
 use test_memory::record::Record;
 
@@ -20,13 +21,17 @@ pub(crate) fn import(r: Record, m: &Memory, left: &mut Left) -> u64 {
         r.lent(11, &m.coefficients),
         r.lent(12, &m.words),
         r.low(9),
-        r.taken(3, &m.coefficients, &mut left.c0),
-        r.taken(4, &m.coefficients, &mut left.c1),
-        r.taken(5, &m.words, &mut left.w0),
-        r.taken(6, &m.words, &mut left.w1),
-        r.taken(1, &m.bytes, &mut left.b0),
-        &mut limit,
-        &mut count,
+        &mut KeyStateMut {
+            shares: SharesMut {
+                s0: r.taken(3, &m.coefficients, &mut left.c0),
+                s1: r.taken(4, &m.coefficients, &mut left.c1),
+                z0: r.taken(5, &m.words, &mut left.w0),
+                z1: r.taken(6, &m.words, &mut left.w1),
+            },
+            public: r.taken(1, &m.bytes, &mut left.b0),
+            limit: &mut limit,
+            count: &mut count,
+        },
     ));
     left.n0 = limit as u64;
     left.n1 = count as u64;
@@ -40,10 +45,12 @@ pub(crate) fn refresh(r: Record, m: &Memory, left: &mut Left) -> u64 {
         r.high(9),
         r.lent(10, &m.coefficients),
         r.lent(11, &m.words),
-        r.taken(3, &m.coefficients, &mut left.c0),
-        r.taken(4, &m.coefficients, &mut left.c1),
-        r.taken(5, &m.words, &mut left.w0),
-        r.taken(6, &m.words, &mut left.w1),
+        &mut SharesMut {
+            s0: r.taken(3, &m.coefficients, &mut left.c0),
+            s1: r.taken(4, &m.coefficients, &mut left.c1),
+            z0: r.taken(5, &m.words, &mut left.w0),
+            z1: r.taken(6, &m.words, &mut left.w1),
+        },
         &mut count,
     ));
     left.n1 = count as u64;
