@@ -19,7 +19,7 @@ pub fn extract(s: State, out: &mut [u8])
     out.copy_from_slice(&b[..out.len()]);
 }
 
-// Steps 7 to 10: a block of output, and a permutation while more than a block is wanted; by place, since what is written
+// Steps 7 to 10: a block of output, and a permutation while more than a block is wanted. By place: what is written
 // through `chunks_mut` isn't known to a proof in the end.
 pub(crate) fn squeeze(s: State, rate: usize, out: &mut [u8])
     requires { (0 < rate) × (rate ≤ 200) }

@@ -1,5 +1,6 @@
 -- How much comparison and selection do, and what comparison joins to.
-use Rattle.std.specs.Prelude.{ℕ, zero, suc, ◌+◌, ◌-◌, ◌*◌, ◌/◌, ◌^◌, ◌<◌, ◌≡◌, refl, Bool, true, false, cond, ◌&&◌, [], ◌∷◌}
+use Rattle.std.specs.Prelude.{ℕ, zero, suc, ◌+◌, ◌-◌, ◌*◌, ◌/◌, ◌^◌, ◌<◌, ◌≡◌, refl, Bool, true, false, cond, ◌&&◌, []}
+use Rattle.std.specs.Prelude.{◌∷◌}
 use Rattle.std.proofs.Math.Path.{sym}
 use Rattle.std.proofs.Common.{ap, ap₂, ◌∙◌, subst, add-one, arith}
 use Rattle.std.proofs.Math.Nat.{sub_self, sub-zero, two-pow-succ, zero-mod, zero-div}

@@ -13,7 +13,8 @@ use Rattle.worksheet.specs.Choice.{Both, Kept, KeptWords, Way, keeping, coupled-
 use Rattle.worksheet.specs.MaskedAndSilence.{behind}
 use Rattle.worksheet.specs.Gates.{masked_or}
 use Rattle.worksheet.specs.EntryCounts.{or_entries}
-use Rattle.worksheet.specs.GatesSilence.{or_reads_left, or_reads_right, like-masked_or, coupled-masked_or, same_at_masked_or}
+use Rattle.worksheet.specs.GatesSilence.{or_reads_left, or_reads_right, like-masked_or, coupled-masked_or}
+use Rattle.worksheet.specs.GatesSilence.{same_at_masked_or}
 use Rattle.masked_comparison.specs.Comparison.{fold_or}
 
 -- ---- Or by choices

@@ -15,7 +15,8 @@ use Rattle.worksheet.specs.SharingLaws.{share, sharing-bits, apart-xor, sharing-
 use Rattle.worksheet.specs.Choice.{Both, both_bits, Kept, KeptWords, KeptList, Way, keeping, coupled-way}
 use Rattle.worksheet.specs.MaskedAndSilence.{reads_left, reads_right, behind}
 use Rattle.worksheet.specs.Gates.{masked_xor}
-use Rattle.worksheet.specs.GatesSilence.{like-masked_xor, coupled-masked_xor, like-xor_and, coupled-xor_and, same_at_xor_and}
+use Rattle.worksheet.specs.GatesSilence.{like-masked_xor, coupled-masked_xor, like-xor_and, coupled-xor_and}
+use Rattle.worksheet.specs.GatesSilence.{same_at_xor_and}
 use Rattle.masked_comparison.specs.Comparison.{copies, select}
 use Rattle.masked_comparison.specs.EntryCounts.{select_entries}
 use Rattle.masked_comparison.specs.SelectionLaws.{copies_bits}

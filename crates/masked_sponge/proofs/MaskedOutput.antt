@@ -70,8 +70,8 @@ module _ {A : Type 0} where
     pub all0 : out0 ≡ tab n (output_of read per (λ q. (states_of s₀ ws cs q).s0))
     pub all1 : out1 ≡ tab n (output_of read per (λ q. (states_of s₀ ws cs q).s1))
 
-  pub squeezing_start : {read : Reading A} {per n : ℕ} {s : SharedList} {r : Recorder} {ws : List ℕ} {out0 out1 : List A}
-      → length out0 ≡ n → length out1 ≡ n → Squeezing read per n s r ws 0 s r out0 out1
+  pub squeezing_start : {read : Reading A} {per n : ℕ} {s : SharedList} {r : Recorder} {ws : List ℕ}
+      {out0 out1 : List A} → length out0 ≡ n → length out1 ≡ n → Squeezing read per n s r ws 0 s r out0 out1
   squeezing_start {per = per} e0 e1 =
       record {
         within = omega arith;

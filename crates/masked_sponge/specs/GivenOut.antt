@@ -1,5 +1,5 @@
--- Output given out of the states that a sponge on two shares goes through: elements of any kind, of which each block has
--- so many. Bytes and words are the two kinds.
+-- Output given out of the states that a sponge on two shares goes through: elements of any kind, of which each block
+-- has so many. Bytes and words are the two kinds.
 use mathlib.Core.Path.{◌≡◌, ap, ap₂, ◌∙◌, subst}
 use mathlib.Core.List.{List}
 use Prim.Native.Nat.{ℕ, suc, ◌+◌, ◌-◌, ◌*◌, ◌/◌, ◌%◌, ◌<◌}

@@ -71,7 +71,8 @@ module _ (rank : ℕ) {r : Result Parameters Refusal} (tried : r ≡ set_of rank
           refused = λ _. (ap number (handed_on a h) ∙ s.1, k);
         }
 
-pub by_rank_done : {rank : ℕ} {Call : Parameters → Type 0} {Kept : Type 0} → ByRank rank 0 Call Kept → Call (of_rank rank)
+pub by_rank_done : {rank : ℕ} {Call : Parameters → Type 0} {Kept : Type 0} → ByRank rank 0 Call Kept
+    → Call (of_rank rank)
 by_rank_done {rank} {Call} b = go (is_rank rank) refl
   where
     go : (t : Bool) → is_rank rank ≡ t → Call (of_rank rank)

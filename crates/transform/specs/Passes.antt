@@ -1,5 +1,5 @@
--- What the code's transform and its inverse share: the pairs of a block and the blocks of a layer, whatever becomes of a
--- pair and whichever root a block takes. Nothing here need be believed: `ntt` and `inverse_ntt` promise Transform's.
+-- What the code's transform and its inverse share: the pairs of a block and the blocks of a layer, whatever becomes of
+-- a pair and whichever root a block takes. Nothing here need be believed: `ntt` and `inverse_ntt` promise Transform's.
 use Rattle.std.specs.Prelude.{List, ℕ, ◌+◌, ◌*◌}
 use Rattle.words.specs.Iterate.{iterate}
 use Rattle.transform.specs.Transform.{zeta}

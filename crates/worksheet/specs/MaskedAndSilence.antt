@@ -31,7 +31,8 @@ result r u v = shares (get_or (entries r u v) 3 0) (get_or (entries r u v) 7 0)
 
 pub like-masked_and : (w : ℕ) (u v u' v' : Shares) → Like and_entries (masked_and w u v) (masked_and w u' v')
 unfolding masked_and mask_low mask entry ◌>>=◌ identity
-like-masked_and w u v u' v' = draw_c identity (λ x h. coupled-enter_all (entries _ u v) (entries _ u' v') refl (ret_c tt))
+like-masked_and w u v u' v' =
+    draw_c identity (λ x h. coupled-enter_all (entries _ u v) (entries _ u' v') refl (ret_c tt))
 
 pub sharing-result : {n X Y r : ℕ} {u v : Shares} → Sharing n X u → Sharing n Y v → Bits n r
     → Sharing n (and X Y) (result r u v)

@@ -77,7 +77,8 @@ keep_same true X = xor_same X
 abbrev pub xor_shares : Shares → Shares → Shares
 xor_shares a b = shares (xor a.s0 b.s0) (xor a.s1 b.s1)
 
-pub sharing-xor_shares : {n X Y : ℕ} {a b : Shares} → Sharing n X a → Sharing n Y b → Sharing n (xor X Y) (xor_shares a b)
+pub sharing-xor_shares : {n X Y : ℕ} {a b : Shares} → Sharing n X a → Sharing n Y b
+    → Sharing n (xor X Y) (xor_shares a b)
 sharing-xor_shares {a = a} {b = b} s t =
     record {
       bits0 = xor-bits s.bits0 t.bits0;

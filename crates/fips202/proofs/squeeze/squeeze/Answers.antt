@@ -50,6 +50,7 @@ returns c =
     let i : c.loop-i.i ≡ k / rate = omega arith in
     output_end
     (output_part (k / rate) (rw i at c.loop-i.invariant.0) refl (rw i at c.loop-i.invariant.1)
-    (omega (arith, blocks_within k rate)) (omega arith) (last_block (length c.loop-i.out) rate c.requires.0 (omega arith))
+    (omega (arith, blocks_within k rate)) (omega arith)
+        (last_block (length c.loop-i.out) rate c.requires.0 (omega arith))
     c.extract-2.ensures)
     (omega arith)

@@ -44,7 +44,8 @@ masked_sponge-requires c =
       sponge = c.requires;
       inputs = c.if-n-in1.false;
       outputs = c.if-d-out1.false;
-      masks = le_of_eq (sym (eqb-true _ _ (counted _ _ _ c.enough.ensures c.permutations.ensures ∙ c.if-not-enough.false)));
+      masks = le_of_eq (sym
+          (eqb-true _ _ (counted _ _ _ c.enough.ensures c.permutations.ensures ∙ c.if-not-enough.false)));
     }
 
 pub returns : goal.returns

@@ -17,4 +17,5 @@ returns g c cs =
     let m = keccak_p_words * further in
     let e : k + m ≡ hash_mask_words (blocks + further) = omega arith in
     rw (← e)
-    (bind _ (c.masked_absorb-o.ensures cs) (part_words a.ws.now k m (rw c.block.ensures.0 at (c.masked_squeeze.ensures cs))))
+    (bind _ (c.masked_absorb-o.ensures cs)
+        (part_words a.ws.now k m (rw c.block.ensures.0 at (c.masked_squeeze.ensures cs))))

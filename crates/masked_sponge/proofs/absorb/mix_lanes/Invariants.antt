@@ -10,7 +10,8 @@ use Rattle.masked_sponge.proofs.absorb.mix_lanes.Given as goal
 abbrev pub invariant-loop-j : goal.invariant-loop-j
 invariant-loop-j l =
     Mixing (l.rate / 8) (shared_lane (take l.rate l.p0) (take l.rate l.p1))
-    (shared_list l.initial.value.s0.lanes l.initial.value.s1.lanes) l.j l.initial.rec l.rec l.value.s0.lanes l.value.s1.lanes
+    (shared_list l.initial.value.s0.lanes l.initial.value.s1.lanes) l.j l.initial.rec l.rec l.value.s0.lanes
+    l.value.s1.lanes
 
 abbrev pub decreases-loop-j : goal.decreases-loop-j
 decreases-loop-j l = l.rate / 8 - l.j

@@ -51,7 +51,8 @@ overflow_sub-gammas c =
 
 pub bounds-gammas-j-in-loop-j : goal.bounds-gammas-j-in-loop-j
 bounds-gammas-j-in-loop-j c =
-    let h : c.loop-j.j < 64 = half_length c.args.zetas.now c.loop-j.invariant.0 c.loop-j-test.true in simp length-set (omega arith)
+    let h : c.loop-j.j < 64 = half_length c.args.zetas.now c.loop-j.invariant.0 c.loop-j-test.true in
+        simp length-set (omega arith)
 
 pub slice_bounds-z-items-count : goal.slice_bounds-z-items-count
 slice_bounds-z-items-count c = omega (arith, tabulated_length 128 zeta c.requires.table)
@@ -62,4 +63,5 @@ slice_bounds-z-items-start c = omega (arith, tabulated_length 128 zeta c.require
 pub returns : goal.returns
 returns c =
     let long = c.loop-j.invariant.0 in
-    filled_end c.loop-j.invariant.1 (omega (arith, length_part 64 (length c.args.zetas.now - 64) c.args.zetas.now (omega arith)))
+    filled_end c.loop-j.invariant.1
+        (omega (arith, length_part 64 (length c.args.zetas.now - 64) c.args.zetas.now (omega arith)))
