@@ -94,7 +94,7 @@ pub add_set : (f g : List ℕ) (i x y : ℕ) → length f ≡ length g
 add_set f g i x y e =
     ext_get_or 0 _ _
     (length-add (slice_set f i x) (slice_set g i y) ∙ length-set f i x
-        ∙ sym (length-set (add f g) i _ ∙ length-add f g))
+    ∙ sym (length-set (add f g) i _ ∙ length-add f g))
     (λ k h.
     get_or_add (slice_set f i x) (slice_set g i y) k (length-set f i x ∙ e ∙ sym (length-set g i y))
     ∙ go k (omega (arith, length-add (slice_set f i x) (slice_set g i y), length-set f i x)) (ℕ_discrete k i))
@@ -131,7 +131,7 @@ part_add a n f g h =
     ∙ tab_cong n (λ i l.
     ap₂ (λ (x y : ℕ). (x + y) % q)
     (sym (get_or-take n (drop a f) i 0 l ∙ get_or-drop a f i 0))
-        (sym (get_or-take n (drop a g) i 0 l ∙ get_or-drop a g i 0)))
+    (sym (get_or-take n (drop a g) i 0 l ∙ get_or-drop a g i 0)))
     ∙ rw (length_part a n f h)
 
 -- what is taken away in turn is taken away at once

@@ -55,7 +55,7 @@ module _ (n : ℕ) where
       → words_to_bytes n l ≡ tab (n * length l) (λ i. get_or l (i / n) 0 / 256 ^ (i % n) % 256)
   words_to_bytes-tab l =
       tab_of 0 (words_to_bytes n l) (n * length l) (length-words_to_bytes l)
-          (λ i h. get_or-words_to_bytes l i (positive n h))
+      (λ i h. get_or-words_to_bytes l i (positive n h))
     where
       positive : (k : ℕ) {i : ℕ} → i < k * length l → 0 < k
       positive zero {i} h = absurd (omega (arith, subst (λ (z : ℕ). i < z) (zero-mul (length l)) h))
