@@ -2,7 +2,7 @@
 // that are repeated repeat none themselves.
 use crate::calls;
 use test_memory::Kind;
-use test_memory::failure::{Failure, Outcome};
+use test_memory::failure::Outcome;
 use test_memory::memory::Memory;
 use test_memory::record::{Record, Records};
 
@@ -34,8 +34,7 @@ fn all<F: Fn(Record, &mut Memory) -> Outcome>(records: Records, m: &mut Memory, 
 {
     let mut all = Ok(());
     for r in records {
-        let whole = r.is_whole().then_some(()).ok_or(Failure::Outside);
-        all = all.and(f(r, m)).and(whole);
+        all = all.and(f(r, m)).and(r.whole());
     }
     all
 }

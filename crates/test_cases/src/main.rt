@@ -11,7 +11,7 @@ use std::io::{Print, Read};
 use std::{io, str};
 use test_calls::case;
 use test_memory::failure::Outcome;
-use test_memory::memory::{Memory, part};
+use test_memory::memory::Memory;
 
 // ---- reading
 
@@ -139,12 +139,13 @@ fn file(rt: &HostRuntime, name: &[u8]) -> io::Result<()> {
     print_tally(rt, count, tally, read)
 }
 
-// What is longer than a path can be names no file.
+// What is longer than a path can be names no file. The arguments are asked for one by one: an iterator over them would
+// take memory from the heap.
 fn main(rt: HostRuntime) -> io::Result<()> {
     let mut name = [0u8; 4096];
     for i in 1..usize::MAX {
         match rt.arg(i, &mut name) {
-            Ok(n) => file(&rt, part(&name, 0, n))?,
+            Ok(n) => file(&rt, &name[..n])?,
             Err(FillError::TooLong) => file(&rt, &[])?,
             Err(FillError::NotPresent) => return Ok(()),
         }

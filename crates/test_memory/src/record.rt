@@ -1,8 +1,9 @@
 // A record: its length, its kind, operands, and for some kinds bytes or records behind the operands. An operand is a
 // pair of numbers; a buffer's are where it begins in the memory, and how many elements are lent of it.
-ghost use Rattle.std.specs.Prelude.{length};
+ghost use Rattle.std.specs.Prelude.{◌≤◌, length};
 ghost use Rattle.std.specs.Iterator.{at_most};
 
+use crate::failure::{Failure, Outcome};
 use crate::memory::{load, number, part};
 use parameters::Edition;
 
@@ -12,9 +13,12 @@ pub struct Record<'a> {
 }
 
 impl<'a> Record<'a> {
-    // It has as many bytes as it says.
-    pub fn is_whole(self) -> bool {
-        self.bytes.len() == number(self.bytes, 0) as usize
+    // Whether it has as many bytes as it says.
+    pub fn whole(self) -> Outcome {
+        if self.bytes.len() == number(self.bytes, 0) as usize {
+            return Ok(());
+        }
+        Err(Failure::Cut)
     }
 
     pub fn kind(self) -> u32 {
@@ -23,7 +27,7 @@ impl<'a> Record<'a> {
 
     // ---- operands
 
-    // Operand i's two numbers.
+    // Operand i's two numbers; no record has 64 operands.
     pub fn low(self, i: usize) -> u32 {
         number(self.bytes, 8 + 8 * (i % 64))
     }
@@ -76,7 +80,9 @@ impl<'a> Record<'a> {
         part(buffer, 0, self.count(i))
     }
 
-    pub fn first_mut<T>(self, i: usize, buffer: &mut [T]) -> &mut [T] {
+    pub fn first_mut<T>(self, i: usize, buffer: &mut [T]) -> &mut [T]
+        ensures { length result.now ≤ length buffer.old }
+    {
         let n = self.count(i).min(buffer.len());
         &mut buffer[..n]
     }
