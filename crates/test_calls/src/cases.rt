@@ -6,7 +6,8 @@ use test_memory::failure::Outcome;
 use test_memory::memory::Memory;
 use test_memory::record::{Record, Records};
 
-// Of a record that repeats others; from the kind of the first call on records make calls.
+// The kind of a record that repeats others, and that of the first call. An enum over all kinds would be no plainer: it
+// needs a case for calls that aren't there, since they put zeros back.
 const REPEAT: u32 = 17;
 
 const FIRST_CALL: u32 = 32;
