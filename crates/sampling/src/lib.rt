@@ -42,9 +42,9 @@ fn count_accepted(stream: &[u8]) -> usize
     ensures { result ≡ length (accepted 280 stream.now) }
 {
     let mut n = 0;
-    for i in 0..280 {
-        n += accepts(d1_of(stream[3 * i], stream[3 * i + 1]));
-        n += accepts(d2_of(stream[3 * i + 1], stream[3 * i + 2]));
+    for b in stream.chunks_exact(3) {
+        n += accepts(d1_of(b[0], b[1]));
+        n += accepts(d2_of(b[1], b[2]));
     }
     n
 }
@@ -69,9 +69,9 @@ pub fn fill_ntt(stream: &[u8], f: &mut [u16]) -> Answer
     ensures { Sampling (full stream.now) (sample_ntt stream.now) result f.new }
 {
     let mut k = 0;
-    for i in 0..280 {
-        k = keep(f, k, d1_of(stream[3 * i], stream[3 * i + 1]));
-        k = keep(f, k, d2_of(stream[3 * i + 1], stream[3 * i + 2]));
+    for b in stream.chunks_exact(3) {
+        k = keep(f, k, d1_of(b[0], b[1]));
+        k = keep(f, k, d2_of(b[1], b[2]));
     }
     if k == 256 {
         Ok(())
@@ -116,8 +116,8 @@ fn centre_all(f: &mut [u16], eta: u32)
     requires { (eta ≤ 3) × Below (2 ^ (2 * eta)) f.old }
     ensures { f.new ≡ map (centred eta) f.old }
 {
-    for i in 0..f.len() {
-        f[i] = centred_at(f[i], eta);
+    for x in f.iter_mut() {
+        *x = centred_at(*x, eta);
     }
 }
 
