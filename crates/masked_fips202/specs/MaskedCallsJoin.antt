@@ -2,7 +2,7 @@
 -- FIPS 202's hash of what its two inputs join to, whatever masks are lent. Lengths follow from the answer. Bytes are
 -- below 256 and words below 2^64: at a call the types of the slices say so, and of lists it is asked.
 use Rattle.std.specs.Prelude.{◌≡◌, ℕ, ◌^◌, length}
-use Rattle.std.proofs.Common.{sym, ap₂, ◌∙◌, arith}
+use Rattle.std.proofs.Common.{sym, ap₂, ◌∙◌}
 use Rattle.std.proofs.Math.Path.{ap}
 use mathlib.Core.List.{List, []}
 use Rattle.words.specs.Bounded.{Below}

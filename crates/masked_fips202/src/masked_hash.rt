@@ -24,16 +24,7 @@ fn permutations(rate: usize, n: usize, d: usize) -> usize
 fn enough(n: usize, permutations: usize) -> bool
     ensures { result ≡ eqb n (hash_mask_words permutations) }
 {
-    if n < 25 {
-        return false;
-    }
-    if (n - 25) % 600 != 0 {
-        return false;
-    }
-    if (n - 25) / 600 != permutations {
-        return false;
-    }
-    true
+    n % 600 == 25 && n / 600 == permutations
 }
 
 // The outputs are filled with the shares of the hash, or it is refused where a length isn't exact.
