@@ -7,7 +7,8 @@ use Rattle.refusals.specs.declared.Refusal.{Refusal}
 use Rattle.refusals.specs.declared.Refusal.TheVariants.{WrongLength, MaskRange, ShareRange}
 use Rattle.refusals.specs.Refusals.{Answer, Done, refusal_number, number, answer, sized}
 use Rattle.refusals.specs.Reduced.{reduced}
-use Rattle.refusals.specs.RefusalLaws.{refusal_number-positive, Exact, passed, done_passed, sized-exact, exact-sized, after_kept}
+use Rattle.refusals.specs.RefusalLaws.{refusal_number-positive, Exact, passed, done_passed}
+use Rattle.refusals.specs.RefusalLaws.{sized-exact, exact-sized, after_kept}
 use Rattle.parameters.specs.declared.Parameters.{Parameters}
 use Rattle.split_key.specs.Sized.{RefreshSized}
 use Rattle.split_key.specs.Refresh.{refresh_lengths, refresh_rows, refresh_answer, Refreshed}

@@ -9,10 +9,14 @@ pub struct SharesMut<'a> {
     pub z1: &'a mut [u64],
 }
 
-// A split key with its use limit and the count of its uses, lent.
+// A split key with its use limit and the count of its uses, lent. The shares are fields of its own: references of
+// lifetimes that differ are not proved to pass from a SharesMut into it.
 #[derive(Drop)]
 pub struct KeyStateMut<'a> {
-    pub shares: SharesMut<'a>,
+    pub s0: &'a mut [u16],
+    pub s1: &'a mut [u16],
+    pub z0: &'a mut [u64],
+    pub z1: &'a mut [u64],
     pub public: &'a mut [u8],
     pub limit: &'a mut u32,
     pub count: &'a mut u32,

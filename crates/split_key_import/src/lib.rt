@@ -50,9 +50,8 @@ fn write_split(
     let n = vector_bytes(p);
     let z = n + ek_bytes(p) + 32;
     let e = z + 32;
-    let shares = &mut state.shares;
-    split_coefficients(&dk[0..n], p.k, mask_coeffs, shares.s0, shares.s1);
-    split_words(&dk[z..e], mask_words, shares.z0, shares.z1);
+    split_coefficients(&dk[0..n], p.k, mask_coeffs, state.s0, state.s1);
+    split_words(&dk[z..e], mask_words, state.z0, state.z1);
     copy_public(dk, n, z, state.public);
     *state.limit = limit;
     *state.count = 0;
@@ -106,10 +105,10 @@ fn import_at(
         dk.len(),
         mask_coeffs.len(),
         mask_words.len(),
-        state.shares.s0.len(),
-        state.shares.s1.len(),
-        state.shares.z0.len(),
-        state.shares.z1.len(),
+        state.s0.len(),
+        state.s1.len(),
+        state.z0.len(),
+        state.z1.len(),
         state.public.len(),
     ];
     let wants = [dk_bytes(p), n, 4, n, n, 4, 4, m];
