@@ -6,8 +6,8 @@ ghost use Rattle.decapsulation.specs.Calls.{Decapsulated, Traced, DecapsulatedBy
 
 use crate::lengths::{exact_input, exact_shares};
 use decapsulation_run::{Input, decapsulate};
-use parameters::{Edition, Parameters, is_rank, of_rank};
-use refusals::Answer;
+use parameters::{Edition, Parameters};
+use refusals::{Answer, Refusal};
 use stages::entry_counts::steps;
 use tracing::left_of;
 
@@ -28,17 +28,15 @@ fn decaps_at(
     let used = *count;
     let exact = exact_input(e, p, input);
     if !(exact & exact_shares(k0.len(), k1.len())) {
-        return Answer::WrongLength;
+        return Err(Refusal::WrongLength);
     }
     if used >= limit {
-        return Answer::LimitReached;
+        return Err(Refusal::LimitReached);
     }
     let mut value: u64 = 0;
-    let answer = decapsulate(0, e, p, input, k0, k1, &mut value);
-    if refusals::number(answer) == 0 {
-        *count = used + 1;
-    }
-    answer
+    decapsulate(0, e, p, input, k0, k1, &mut value)?;
+    *count = used + 1;
+    Ok(())
 }
 
 // Masked decapsulation for the parameter set of a rank.
@@ -54,10 +52,7 @@ pub fn decaps(
     ensures { DecapsulatedBy e rank (input_of input.now) limit count.old k0.old k1.old (number result)
         count.new k0.new k1.new }
 {
-    if !is_rank(rank) {
-        return Answer::NoSuchRank;
-    }
-    decaps_at(e, of_rank(rank), input, limit, count, k0, k1)
+    decaps_at(e, Parameters::try_from(rank)?, input, limit, count, k0, k1)
 }
 
 // Told a step.
@@ -66,7 +61,7 @@ fn trace_at(e: Edition, p: Parameters, input: &Input, step: u64, value: &mut u64
     ensures { Traced e p (input_of input.now) step value.old (number result) value.new }
 {
     if !exact_input(e, p, input) {
-        return Answer::WrongLength;
+        return Err(Refusal::WrongLength);
     }
     let mut k0 = [0u64; 4];
     let mut k1 = [0u64; 4];
@@ -78,8 +73,5 @@ fn trace_at(e: Edition, p: Parameters, input: &Input, step: u64, value: &mut u64
 pub fn trace(e: Edition, rank: u32, input: &Input, step: u64, value: &mut u64) -> Answer
     ensures { TracedBy e rank (input_of input.now) step value.old (number result) value.new }
 {
-    if !is_rank(rank) {
-        return Answer::NoSuchRank;
-    }
-    trace_at(e, of_rank(rank), input, step, value)
+    trace_at(e, Parameters::try_from(rank)?, input, step, value)
 }

@@ -1,8 +1,6 @@
 -- The tests of rows 5 to 7: what they are lent, and what they leave.
 use Rattle.std.specs.Prelude.{◌≡◌, List, ℕ, ◌+◌, ◌*◌, length, take, drop}
-use Rattle.refusals.specs.declared.Answer.{Answer}
-use Rattle.refusals.specs.declared.Answer.TheVariants.{Done}
-use Rattle.refusals.specs.Refusals.{answer}
+use Rattle.refusals.specs.Refusals.{Answer, Done, answer}
 use Rattle.parameters.specs.declared.Parameters.{Parameters}
 use Rattle.parameters.specs.Fits.{Fits}
 use Rattle.parameters.specs.Lengths.{vector_bytes, ek_bytes}

@@ -5,8 +5,8 @@ ghost use Rattle.decapsulation_run.specs.Ranges.{RangesInput, RangesTested};
 use crate::input::Input;
 use kpke::matrix::expand;
 use parameters::{Parameters, vector_bytes};
-use refusals::Answer;
 use refusals::conditions::{both_reduced, reduced};
+use refusals::{Answer, Refusal};
 
 // Where none refuses, a holds the matrix A-hat.
 pub fn range_rows(p: Parameters, input: &Input, a: &mut [u16]) -> Answer
@@ -16,13 +16,10 @@ pub fn range_rows(p: Parameters, input: &Input, a: &mut [u16]) -> Answer
     let rho = vector_bytes(p);
     let end = rho + 32;
     if !reduced(input.coeffs) {
-        return Answer::MaskRange;
+        return Err(Refusal::MaskRange);
     }
     if !both_reduced(input.key.s0, input.key.s1) {
-        return Answer::ShareRange;
+        return Err(Refusal::ShareRange);
     }
-    if !expand(&input.key.public[rho..end], p.k, a) {
-        return Answer::ShortStream;
-    }
-    Answer::Done
+    expand(&input.key.public[rho..end], p.k, a)
 }

@@ -11,7 +11,7 @@ use crate::input::Input;
 use crate::ranges::range_rows;
 use crate::worksheet_run::run;
 use parameters::{Edition, Parameters};
-use refusals::Answer;
+use refusals::{Answer, Refusal};
 use stages::entry_counts::steps;
 use worksheet::Recorder;
 
@@ -31,17 +31,14 @@ fn decapsulate_in(
     ensures { Told e p left (input_of input.now) k0.old k1.old value.old (number result)
         k0.new k1.new value.new }
 {
-    let refusal = range_rows(p, input, a);
-    if refusals::number(refusal) != 0 {
-        return refusal;
-    }
+    range_rows(p, input, a)?;
     if left > steps(e, p) as u64 {
-        return Answer::NoSuchStep;
+        return Err(Refusal::NoSuchStep);
     }
     let rec = Recorder { left, value: 0 };
     let last = run(rec, e, p, a, input, k0, k1);
     *value = last.value;
-    Answer::Done
+    Ok(())
 }
 
 pub fn decapsulate(
