@@ -162,7 +162,7 @@ module _ (rank limit : ℕ) (before : List Call) (typed : AllTyped before) (e : 
       record {
         decapsulation = λ {dk} {dk'} {c} key key' ct same k0 k1 t v.
             silent ct (λ ws cs. decaps rank e c ws cs k0 k1)
-            (λ b n. cond (is_rank rank) (decaps_verdict k0 k1 b n) NoSuchRank)
+            (λ b n. cond (is_rank rank) (decaps_verdict k0 k1 b n) (Err NoSuchRank))
             (λ b n. by_rank_full (decaps_verdict k0 k1 b n) b (decaps_verdict_full k0 k1 b n))
             (λ dk₁ key₁ n a w ws cs h.
             ap (λ (r : Answer). cond (is_rank rank) r (Err NoSuchRank))
@@ -171,7 +171,7 @@ module _ (rank limit : ℕ) (before : List Call) (typed : AllTyped before) (e : 
             key key' same t v;
         traced = λ {dk} {dk'} {c} key key' ct same step t v.
             silent ct (λ ws cs. trace rank e c ws cs step)
-            (λ b n. cond (is_rank rank) (trace_verdict step b) NoSuchRank)
+            (λ b n. cond (is_rank rank) (trace_verdict step b) (Err NoSuchRank))
             (λ b n. by_rank_full (trace_verdict step b) b (trace_verdict_full step b))
             (λ dk₁ key₁ n a w ws cs h.
             ap (λ (r : Answer). cond (is_rank rank) r (Err NoSuchRank)) (imported_trace e key₁ ct a w ws cs h step))
