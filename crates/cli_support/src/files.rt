@@ -64,12 +64,6 @@ fn draw_letters(desk: &impl Desk, ending: &mut [u8]) -> io::Result<()> {
     Ok(())
 }
 
-fn put_marks(ending: &mut [u8]) {
-    for letter in ending.iter_mut() {
-        *letter = b'X';
-    }
-}
-
 fn open_drawn<D: Desk>(desk: &D, name: &mut [u8]) -> io::Result<D::File> {
     let Some(start) = name.len().checked_sub(6) else {
         return Err(io::Error::from(ErrorKind::InvalidInput));
@@ -89,7 +83,7 @@ pub fn create_temp<D: Desk>(desk: &D, name: &mut [u8]) -> io::Result<D::File> {
     let opened = open_drawn(desk, name);
     if opened.is_err() {
         let start = name.len().saturating_sub(6);
-        put_marks(&mut name[start..]);
+        name[start..].fill(b'X');
     }
     opened
 }
