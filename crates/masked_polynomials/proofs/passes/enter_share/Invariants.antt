@@ -8,6 +8,6 @@ use Rattle.masked_polynomials.proofs.passes.enter_share.Given as goal
 
 -- so many elements entered
 abbrev pub invariant-loop-x : goal.invariant-loop-x
-invariant-loop-x l = (l.x-index ≤ length l.x-items)
+invariant-loop-x l = (l.x-index ≤ length l.f)
     × ((ws cs : List ℕ)
-    → Ran (entries l.x-index (λ k. get_or l.x-items k 0)) l.initial.rec ws cs (take l.x-index l.x-items) l.rec ws cs)
+    → Ran (entries l.x-index (λ k. get_or l.f k 0)) l.initial.rec ws cs (take l.x-index l.f) l.rec ws cs)
