@@ -2,7 +2,7 @@
 
 A tree is a tuple: ("num", text), ("name", n), ("path", text), ("call", path, args), ("method", object, name, args), ("field", object, name),
 ("index", object, index), ("range", from, to), ("un", operator, x), ("bin", operator, x, y), ("cast", x, type), ("array", items), which a tuple is too,
-("closure", names, x), ("try", x), ("struct", path, values) of ("value", field, x), ("let", names, x), ("set", place, x), ("for", names, range or
+("closure", names, x), ("try", x), ("struct", path, values) of ("value", field or .., x), ("let", names, x), ("set", place, x), ("for", names, range or
 iterator, block), ("while", condition, block), ("if", condition, block, block), ("match", x, arms), ("return", x), ("block", items), which a `loop` is too.
 The names are those of a pattern, in a list. What isn't read by these forms is an error.
 
@@ -19,7 +19,7 @@ OUTSIDE = re.compile(r"^pub trait \w+[^{;]*\{|^impl \w+ for HostRuntime \{", re.
 # methods of std that neither decide nor index by what the elements are
 LENGTHS, COPIES = {"len", "is_empty"}, {"copy_from_slice", "fill", "split_at", "split_at_mut", "map"}
 ITEMS = {"iter", "iter_mut", "enumerate", "zip", "rev", "take", "skip", "step_by", "chunks", "chunks_exact", "copied"}
-FOLLOWED = LENGTHS | COPIES | ITEMS | {"remainder", "rotate_left", "saturating_sub", "to_le_bytes"}
+FOLLOWED = LENGTHS | COPIES | ITEMS | {"unwrap", "remainder", "rotate_left", "saturating_sub", "to_le_bytes"}
 NUMBERS = {"u8", "u16", "u32", "u64", "usize"}  # types whose functions are std's
 LEVELS = [["||"], ["&&"], ["==", "!=", "<", ">", "<=", ">="], ["|"], ["^"], ["&"], ["<<", ">>"], ["+", "-"], ["*", "/", "%"]]
 
@@ -45,6 +45,19 @@ def imported(text):
 def last(kind):
     """A type's own name, of its path."""
     return re.sub(r"^&|'\w+|mut |<.*", "", kind).split("::")[-1].strip()
+
+
+def arguments(kind):
+    """The types that a type is made of, in its angle brackets."""
+    inner = re.search(r"<(.*)>", kind)
+    depth, parts = 0, [""]
+    for c in inner.group(1) if inner else "":
+        depth += {"<": 1, "[": 1, ">": -1, "]": -1}.get(c, 0)
+        if c == "," and not depth:
+            parts.append("")
+        else:
+            parts[-1] += c
+    return [p.strip() for p in parts if p.strip() and not p.strip().startswith("'")]
 
 
 class Function:
@@ -286,6 +299,8 @@ class Parser:
         return ("path", path) if "::" in path else ("name", path)
 
     def value(self):
+        if self.skip(".."):
+            return ("value", "..", self.expression())
         name = self.take()
         return ("value", name, self.expression() if self.skip(":") else ("name", name))
 
@@ -296,6 +311,7 @@ class Source:
     def __init__(self, crates):
         self.functions, self.types = {}, set()
         self.methods, self.fields, self.traits = {}, {}, {}  # of a type's name: its functions, its fields' types; of a trait's: its types
+        self.parameters, self.aliases = {}, {}  # of a type's name: its type parameters; what it stands for
         self.names, self.modules = {}, {}  # a module's path -> what its names stand for; -> the modules in it
         for root in sorted(crates.glob("*/src/lib.rt")):
             for file in sorted(root.parent.rglob("*.rt")):
@@ -314,8 +330,10 @@ class Source:
         for name in re.findall(r"^\s*(?:pub(?:\(crate\))? )?(?:struct|enum|type|const) (\w+)", text, flags=re.M):
             self.types.add("::".join(here + [name]))
             names[name] = "::".join(here + [name])
-        for name, body in re.findall(r"\bstruct (\w+)[^{;(]*\{([^}]*)\}", code(text)):
-            self.fields[name] = {n: last(t.strip()) for n, t in re.findall(r"(\w+): ([^,}]+)", body)}
+        for name, parameters, body in re.findall(r"\bstruct (\w+)(<[^{;(]*>)?[^{;(]*\{([^}]*)\}", code(text)):
+            self.fields[name] = {n: t.strip() for n, t in re.findall(r"(\w+): ([^,}]+)", body)}
+            self.parameters[name] = [a.split(":")[0].strip() for a in arguments(parameters)]
+        self.aliases.update(re.findall(r"\btype (\w+) = ([^;]+);", code(text)))
         parser = Parser(text, file)
         while parser.next():
             token = parser.take()
@@ -387,18 +405,21 @@ class Source:
         return full
 
     def kind(self, f, x):
-        """The name of the type of x, where it has methods here, else nothing."""
+        """The type of x, where a parameter, a field or a result tells it, else nothing."""
         if x[0] == "name":
             return f.kinds.get(x[1], "")
         if x[0] == "field":
-            return self.fields.get(self.kind(f, x[1]), {}).get(x[2], "")
+            of = self.kind(f, x[1])
+            of = self.aliases.get(last(of), of)
+            kind = self.fields.get(last(of), {}).get(x[2], "")
+            return dict(zip(self.parameters.get(last(of), []), arguments(of))).get(kind, kind)
         if x[0] == "struct":
             return last(x[1])
         if x[0] == "bin":
             return self.kind(f, x[2])
         if x[0] in ("call", "method"):
             to = self.called(f, x)
-            return last(self.functions[to[0]].result) if to else ""
+            return self.functions[to[0]].result if to else ""
         return ""
 
     def called(self, f, x):
@@ -410,7 +431,7 @@ class Source:
             to = self.resolve(f, x[1])
             return found or [to] * (to in self.functions)
         name = x[2] if x[0] == "method" else {"^": "bitxor"}.get(x[1]) if x[0] == "bin" else None
-        to = name and self.methods.get(self.kind(f, x[1] if x[0] == "method" else x[2]), {}).get(name)
+        to = name and self.methods.get(last(self.kind(f, x[1] if x[0] == "method" else x[2])), {}).get(name)
         return [to] if to else []
 
     def open(self, path):
@@ -419,7 +440,7 @@ class Source:
         if f.body is None:
             parser, parser.at = f.start
             f.body = parser.block()
-            f.kinds = {name: last(kind) for name, kind in f.params}
+            f.kinds = dict(f.params)
             handed = set(f.kinds)  # a closure among them is followed where it is made
             for node in nodes(f.body):
                 if node[0] == "let" and len(node[1]) == 1:
@@ -431,7 +452,7 @@ class Source:
                 if node[0] == "call" and not found:
                     to = self.resolve(f, node[1])
                     of = "::".join(to.split("::")[:-1])
-                    if not to.startswith("std::") and of not in NUMBERS and to not in self.types and of not in self.types:
+                    if to not in ("Ok", "Err", "Some") and not to.startswith("std::") and of not in NUMBERS and to not in self.types and of not in self.types:
                         raise SystemExit(f"{path}: {node[1]} is called, and no crate has it")
                 if node[0] == "method" and not found and node[2] not in FOLLOWED:
                     raise SystemExit(f"{path}: the method {node[2]} isn't followed")
