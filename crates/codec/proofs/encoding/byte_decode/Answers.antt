@@ -19,7 +19,7 @@ pub loop-n-preserved : goal.loop-n-preserved
 loop-n-preserved c =
     let i_lt =
     loaded_more c.loop-n.invariant.2 c.loop-x.invariant.3
-        (omega (arith, bits c.args.d c.loop-x.invariant.1)) c.loop-n-test.true (omega arith) in
+    (omega (arith, bits c.args.d c.loop-x.invariant.1)) c.loop-n-test.true (omega arith) in
     let byte_fits = (c.type_inv.b c.loop-n.i).fits in (
       omega arith,
       omega arith,

@@ -29,7 +29,7 @@ pub loop-n-preserved : goal.loop-n-preserved
 loop-n-preserved c =
     let i_lt =
     loaded_more c.loop-n.invariant.2 c.loop-byte.invariant.3
-        (omega (arith, bits c.args.d c.requires.polynomial)) c.loop-n-test.true (omega arith) in (
+    (omega (arith, bits c.args.d c.requires.polynomial)) c.loop-n-test.true (omega arith) in (
       omega arith,
       omega arith,
       rw (c.put_above-acc.ensures, c.wide16.ensures)
