@@ -23,12 +23,10 @@ pub fn import(
         &masks.words,
         limit,
         &mut KeyStateMut {
-            shares: SharesMut {
-                s0: &mut key.s0[..set.coefficients],
-                s1: &mut key.s1[..set.coefficients],
-                z0: &mut key.z0,
-                z1: &mut key.z1,
-            },
+            s0: &mut key.s0[..set.coefficients],
+            s1: &mut key.s1[..set.coefficients],
+            z0: &mut key.z0,
+            z1: &mut key.z1,
             public: &mut key.public[..set.public],
             limit: &mut key.limit,
             count: &mut key.count,

@@ -22,12 +22,10 @@ pub(crate) fn import(r: Record, m: &Memory, left: &mut Left) -> u64 {
         r.lent(12, &m.words),
         r.low(9),
         &mut KeyStateMut {
-            shares: SharesMut {
-                s0: r.taken(3, &m.coefficients, &mut left.c0),
-                s1: r.taken(4, &m.coefficients, &mut left.c1),
-                z0: r.taken(5, &m.words, &mut left.w0),
-                z1: r.taken(6, &m.words, &mut left.w1),
-            },
+            s0: r.taken(3, &m.coefficients, &mut left.c0),
+            s1: r.taken(4, &m.coefficients, &mut left.c1),
+            z0: r.taken(5, &m.words, &mut left.w0),
+            z1: r.taken(6, &m.words, &mut left.w1),
             public: r.taken(1, &m.bytes, &mut left.b0),
             limit: &mut limit,
             count: &mut count,
