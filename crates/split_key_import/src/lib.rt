@@ -14,7 +14,7 @@ ghost use Rattle.refusals.specs.Refusals.{number};
 ghost use Rattle.refusals.specs.Same.{same as same_of};
 
 use hash_functions::hash_h;
-use parameters::{Parameters, dk_bytes, ek_bytes, is_rank, of_rank, vector_bytes};
+use parameters::{Parameters, dk_bytes, ek_bytes, vector_bytes};
 use refusals::conditions::{reduced, same};
 use refusals::{Answer, Refusal, exact};
 use split_key::splitting::{copy_public, split_coefficients, split_words};
@@ -131,8 +131,12 @@ pub fn import(
     ensures imported { ImportedBy rank dk.now mask_coeffs.now mask_words.now limit
         (state_lent state.old) (number result) (state_lent state.new) }
 {
-    if !is_rank(rank) {
-        return Err(Refusal::NoSuchRank);
-    }
-    import_at(of_rank(rank), dk, mask_coeffs, mask_words, limit, state)
+    import_at(
+        Parameters::try_from(rank)?,
+        dk,
+        mask_coeffs,
+        mask_words,
+        limit,
+        state,
+    )
 }

@@ -10,7 +10,7 @@ ghost use Rattle.split_key.specs.Refresh.{xor_words, fresh_coeffs, fresh_words, 
 ghost use Rattle.split_key.specs.LentToWrite.{s_lent, z_lent, SharesStayLent};
 ghost use Rattle.split_key.specs.Sized.{RefreshSized};
 
-use parameters::{Parameters, is_rank, of_rank};
+use parameters::Parameters;
 use refusals::conditions::{both_reduced, reduced};
 use refusals::{Answer, Refusal, exact};
 use ring::{add_to, sub_from};
@@ -97,8 +97,11 @@ pub fn refresh(
         (s_lent shares.old) (z_lent shares.old) count.old (number result)
         (s_lent shares.new) (z_lent shares.new) count.new }
 {
-    if !is_rank(rank) {
-        return Err(Refusal::NoSuchRank);
-    }
-    refresh_at(of_rank(rank), mask_coeffs, mask_words, shares, count)
+    refresh_at(
+        Parameters::try_from(rank)?,
+        mask_coeffs,
+        mask_words,
+        shares,
+        count,
+    )
 }
