@@ -40,7 +40,8 @@ pub fn path_at(desk: &impl Desk, i: usize) -> Result<Path, Told> {
     Ok(path)
 }
 
-// How many words the command line has, the program's name among them.
+// How many words the command line has, the program's name among them. They are asked for one by one: an iterator over
+// them would take memory from the heap.
 pub fn count(desk: &impl Desk) -> usize {
     let mut room = [0u8; 1];
     for i in 0..usize::MAX {

@@ -8,7 +8,7 @@ use crate::messages;
 use crate::messages::Told;
 use std::io::Read;
 
-// Until out is full, the file ends or reading fails. How many bytes were read.
+// Until out is full, the file ends or reading fails. How many bytes were read: a read gives as many as it likes.
 fn read_full(file: &mut impl Read, out: &mut [u8]) -> usize
     ensures { result ≤ length out.new }
 {

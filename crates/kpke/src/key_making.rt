@@ -40,7 +40,7 @@ fn public_polynomial(
     add_to(f, &e);
 }
 
-// Line 18, t-hat.
+// Line 18, t-hat. By part: what is written through `chunks_exact_mut` isn't known to a proof in the end.
 fn public_vector(a: &[u16], s: &[u16], sigma: &[u8], eta: u32, k: usize, t: &mut [u16])
     requires { RowInput a.now s.now sigma.now eta k × (length t.old ≡ 256 * k) }
     ensures { t.new

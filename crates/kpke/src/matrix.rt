@@ -23,7 +23,7 @@ fn sample_place(rho: &[u8], i: u8, j: u8, f: &mut [u16]) -> Answer
     fill_ntt(&s, f)
 }
 
-// Row i of A-hat.
+// Row i of A-hat. By part: what is written through `chunks_exact_mut` isn't known to a proof in the end.
 fn expand_row(rho: &[u8], k: usize, i: usize, a: &mut [u16]) -> Answer
     requires { ExpandInput rho.now k (256 * k) a.old × (i < 256) }
     ensures { Sampling
@@ -40,7 +40,7 @@ fn expand_row(rho: &[u8], k: usize, i: usize, a: &mut [u16]) -> Answer
     Ok(())
 }
 
-// A-hat: a then holds the matrix, unless a stream yields fewer than 256 coefficients.
+// A-hat: a then holds the matrix, unless a stream yields fewer than 256 coefficients. By part, as a row.
 pub fn expand(rho: &[u8], k: usize, a: &mut [u16]) -> Answer
     requires { ExpandInput rho.now k (256 * k * k) a.old }
     ensures { Sampling

@@ -81,8 +81,7 @@ fn block_at<D: Direction>(f: &mut [u16], z: u16, len: usize, start: usize)
     }
 }
 
-// lines 4 to 12: k blocks of 2 len coefficients; by number, since roots in either order beside the blocks say it no
-// plainer
+// lines 4 to 12: k blocks of 2 len coefficients. By number: roots in either order beside the blocks say it no plainer.
 fn layer_at<D: Direction>(f: &mut [u16], zetas: &[u16], k: usize, len: usize)
     requires { LayerInput f.old zetas.now k len }
     ensures { f.new ≡ blocks D.pair D.entry k len f.old }

@@ -28,7 +28,8 @@ pub fn clear(f: &mut [u16])
     f.fill(0);
 }
 
-// The sum of MultiplyNTTs (algorithm 11) of a's parts start, start + step, .. with b's parts (2.4.7).
+// The sum of MultiplyNTTs (algorithm 11) of a's parts start, start + step, .. with b's parts (2.4.7). By part, since
+// those of a are a stride apart.
 pub fn dot(a: &[u16], start: usize, step: usize, b: &[u16], k: usize, out: &mut [u16])
     requires { DotInput a.now start step b.now k out.old }
     ensures { out.new ≡ dot_of k (λ j. parts 256 a.now (start + step * j)) (parts 256 b.now) }

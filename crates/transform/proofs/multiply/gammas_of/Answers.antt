@@ -52,7 +52,7 @@ overflow_sub-gammas c =
 pub bounds-gammas-j-in-loop-j : goal.bounds-gammas-j-in-loop-j
 bounds-gammas-j-in-loop-j c =
     let h : c.loop-j.j < 64 = half_length c.args.zetas.now c.loop-j.invariant.0 c.loop-j-test.true in
-        simp length-set (omega arith)
+    simp length-set (omega arith)
 
 pub slice_bounds-z-items-count : goal.slice_bounds-z-items-count
 slice_bounds-z-items-count c = omega (arith, tabulated_length 128 zeta c.requires.table)
@@ -64,4 +64,4 @@ pub returns : goal.returns
 returns c =
     let long = c.loop-j.invariant.0 in
     filled_end c.loop-j.invariant.1
-        (omega (arith, length_part 64 (length c.args.zetas.now - 64) c.args.zetas.now (omega arith)))
+    (omega (arith, length_part 64 (length c.args.zetas.now - 64) c.args.zetas.now (omega arith)))
