@@ -53,6 +53,7 @@ fn zeros() -> [u8; MOST]
     [0; MOST]
 }
 
+// The one place that goes by the hash: two of the four answer and two don't.
 fn fill(hash: Hash, message: &[u8], out: &mut [u8])
     ensures { out.new ≡ hashed hash message.now out.old }
 {

@@ -9,10 +9,7 @@ use std::{fs, io, str};
 const ILLEGAL_BYTES: i32 = 84;
 
 fn text_of(path: &[u8]) -> io::Result<&str> {
-    match str::from_utf8(path) {
-        Ok(text) => Ok(text),
-        Err(_) => Err(io::Error::from_raw_os_error(ILLEGAL_BYTES)),
-    }
+    str::from_utf8(path).map_err(|_| io::Error::from_raw_os_error(ILLEGAL_BYTES))
 }
 
 pub fn open_read<D: Desk>(desk: &D, path: &[u8]) -> io::Result<D::File> {

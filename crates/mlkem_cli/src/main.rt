@@ -9,6 +9,7 @@ use cli_support::desk::Desk;
 use cli_support::messages::{Told, unknown};
 use cli_support::sets::{Sizes, sizes_at};
 
+// The one place that goes by the call: a table of functions would say it no plainer.
 fn run_call(desk: &impl Desk, call: Call, set: Sizes) -> Result<(), Told> {
     match call {
         Call::KeyGen => keys::keygen(desk, set),

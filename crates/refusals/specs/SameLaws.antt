@@ -1,7 +1,7 @@
 -- The test of equality holds of equal lists alone, and is the one that std makes.
 use Rattle.std.specs.Prelude.{◌≡◌, refl, Bool, true, false, ◌&&◌, List, [], ◌∷◌, ℕ, ◌≤◌, eqb, length, nat_eq, get_or}
 use Rattle.std.specs.Cmp.Lexicographic.{pointwise}
-use Rattle.std.proofs.Common.{sym, ap, ap₂, eq-eqb, eqb-true}
+use Rattle.std.proofs.Common.{sym, ap, ap₂, ◌∙◌, eq-eqb, eqb-true}
 use Rattle.words.specs.Walk.{Walked, walked_equal, refuted}
 use Rattle.refusals.specs.Same.{same}
 
