@@ -12,7 +12,8 @@ use Rattle.refusals.specs.declared.Refusal.{Refusal}
 use Rattle.refusals.specs.declared.Refusal.TheVariants.{WrongLength, LimitReached}
 use Rattle.refusals.specs.Refusals.{refusal_number, number, answer, after, Lent, lent, sized}
 use Rattle.refusals.specs.SameLaws.{and_left, and_right}
-use Rattle.refusals.specs.RefusalLaws.{refusal_number-positive, refused, passed, after_kept, wants, sized-exact, sized_both}
+use Rattle.refusals.specs.RefusalLaws.{refusal_number-positive, refused, passed, after_kept, wants, sized-exact}
+use Rattle.refusals.specs.RefusalLaws.{sized_both}
 use Rattle.tracing.specs.Told.{told_answer, told_value, left_of}
 use Rattle.tracing.specs.Trace.{step_answer, step_value}
 use Rattle.tracing.proofs.ToldLaws.{told_none, left_answer, left_value}
@@ -102,7 +103,8 @@ module _ (e : Edition) (p : Parameters) (g : Input) (t v : ℕ) {a : Bool} (i : 
   trace_refused f =
       record {
         answer = ap number (sym (refused WrongLength _ (sym i ∙ f)));
-        value = after_kept (Err WrongLength) (step_value (sheet e p g).entries t) v (refusal_number-positive WrongLength);
+        value = after_kept (Err WrongLength) (step_value (sheet e p g).entries t) v
+            (refusal_number-positive WrongLength);
       }
 
   module _ (h : a ≡ true) where

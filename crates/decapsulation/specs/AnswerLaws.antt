@@ -87,7 +87,8 @@ module _ (e : Edition) (p : Parameters) (g : Input) where
   pub trace_rows_lem : (t : ℕ) → Sized e p g → reduced g.coeffs ≡ true
       → (reduced g.key.s.s0 && reduced g.key.s.s1) ≡ true
       → trace_answer e p g t
-      ≡ cond (matrix_full p.k (rho_of p (ek_of p g.key))) (cond (ltb t (steps e p)) Done (Err NoSuchStep)) (Err ShortStream)
+      ≡ cond (matrix_full p.k (rho_of p (ek_of p g.key))) (cond (ltb t (steps e p)) Done (Err NoSuchStep))
+      (Err ShortStream)
   unfolding trace_answer
   trace_rows_lem t l m s = go (matrix_full p.k (rho_of p (ek_of p g.key))) refl
     where
@@ -106,4 +107,5 @@ module _ (e : Edition) (p : Parameters) (g : Input) where
       go false h =
           sym (told_step rs n t)
           ∙ told_refused rs n (t + 1)
-          (passed WrongLength _ (lengths_sized l) (range_passed p g m s (refused ShortStream _ h))) (refusal_number-positive ShortStream)
+          (passed WrongLength _ (lengths_sized l) (range_passed p g m s (refused ShortStream _ h)))
+          (refusal_number-positive ShortStream)

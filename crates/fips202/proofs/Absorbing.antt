@@ -34,12 +34,12 @@ pub absorbing_start : {rate : ℕ} {m : List ℕ} {size : ℕ} {left : List ℕ}
     → Absorbing rate m size left (replicate 25 0)
 unfolding iterate
 absorbing_start {rate} s e = record {
-      turns = 0;
-      sized = s;
-      within = rw (zero-mul rate) (omega arith);
-      after = rw (zero-mul rate) e;
-      reached = refl;
-    }
+  turns = 0;
+  sized = s;
+  within = rw (zero-mul rate) (omega arith);
+  after = rw (zero-mul rate) e;
+  reached = refl;
+}
 
 module _ {rate : ℕ} {m : List ℕ} {size : ℕ} {left t : List ℕ} (i : Absorbing rate m size left t) where
   length_left : i.turns * rate + length left ≡ length m

@@ -127,7 +127,8 @@ module _ (rank limit : ℕ) (before : List Call) (typed : AllTyped before) (e : 
   -- ---- the two runs
 
   -- told another number than a rank, no run is carried out
-  by_rank_full : (f : Answer) (b : Bool) → (f ≡ Done → b ≡ true) → cond (is_rank rank) f (Err NoSuchRank) ≡ Done → b ≡ true
+  by_rank_full : (f : Answer) (b : Bool) → (f ≡ Done → b ≡ true) → cond (is_rank rank) f (Err NoSuchRank) ≡ Done
+      → b ≡ true
   by_rank_full f b h = go (is_rank rank)
     where
       go : (t : Bool) → cond t f (Err NoSuchRank) ≡ Done → b ≡ true

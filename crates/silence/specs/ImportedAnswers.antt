@@ -72,7 +72,8 @@ module _ (e : Edition) {p : Parameters} {dk c : List ℕ} (key : Key p dk) (ct :
       → trace_answer e p g t ≡ cond (full p dk) (cond (ltb t (steps e p)) Done (Err NoSuchStep)) (Err ShortStream)
   imported_trace t =
       trace_rows_lem e p g t all_long (below-reduced cs h.coeffs_below) shares_reduced
-      ∙ ap (λ (b : Bool). cond b (cond (ltb t (steps e p)) Done (Err NoSuchStep)) (Err ShortStream)) (full-split key a w)
+      ∙ ap (λ (b : Bool). cond b (cond (ltb t (steps e p)) Done (Err NoSuchStep)) (Err ShortStream))
+      (full-split key a w)
 
   pub imported_decaps_answer : (limit count : ℕ) (k0 k1 : List ℕ)
       → decaps_answer e p g limit count k0 k1

@@ -24,7 +24,7 @@ abbrev pub invariant-loop-i : goal.invariant-loop-i
 invariant-loop-i l =
     let a = l.initial.o in
     Rounds l.constants l.ws (shared_state a.value.s0 a.value.s1) a.rec l.i
-        (shared_state l.o.value.s0 l.o.value.s1) l.o.rec
+    (shared_state l.o.value.s0 l.o.value.s1) l.o.rec
 
 abbrev pub decreases-loop-i : goal.decreases-loop-i
 decreases-loop-i l = 24 - l.i

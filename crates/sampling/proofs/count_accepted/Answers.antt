@@ -18,7 +18,8 @@ loop-b-init c =
 
 pub overflow_add-n : goal.overflow_add-n
 overflow_add-n c =
-    let r = c.loop-b.invariant in record { fits = omega (arith, r.so_far.0, r.within, c.requires, c.accepts-n.ensures.most) }
+    let r = c.loop-b.invariant in
+    record { fits = omega (arith, r.so_far.0, r.within, c.requires, c.accepts-n.ensures.most) }
 
 pub overflow_add-n-in-loop-b : goal.overflow_add-n-in-loop-b
 overflow_add-n-in-loop-b c =

@@ -5,7 +5,8 @@ use Rattle.decapsulation.proofs.decapsulation.decaps.Goals as goal
 
 pub returns-in_err-try_from : goal.returns-in_err-try_from
 returns-in_err-try_from c =
-    by_rank_err _ c.try_from.ensures c.in_err-try_from.was c.from_residual.result c.from_residual.ensures.1 (refl, refl, refl)
+    by_rank_err _ c.try_from.ensures c.in_err-try_from.was c.from_residual.result c.from_residual.ensures.1
+    (refl, refl, refl)
 
 pub decaps_at-requires : goal.decaps_at-requires
 decaps_at-requires c = fits-set c.args.rank c.try_from.ensures c.in_ok-try_from.was

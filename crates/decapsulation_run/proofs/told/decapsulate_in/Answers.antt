@@ -44,6 +44,11 @@ returns c =
     let a = c.args in
     told-ran
     (sym c.range_rows.ensures.answer ∙ c.in_ok-range_rows.was)
-    (omega
-    (arith, c.if-left-steps.false, sheet-steps a.e a.p (input_of a.input.now) c.requires.0.input, c.steps.ensures.value))
+    (omega (
+      arith,
+      c.if-left-steps.false,
+      sheet-steps a.e a.p
+          (input_of a.input.now) c.requires.0.input,
+      c.steps.ensures.value,
+    ))
     c.run-last.ensures

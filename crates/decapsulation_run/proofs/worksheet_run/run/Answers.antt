@@ -58,7 +58,8 @@ returns c =
     let rest = drop (encrypt_coeffs c.args.p) c.args.input.now.coeffs.now in
     rw (words_of c.args.e c.args.p)
     (bind _ (c.compared-b.ensures.ran _)
-    (part_from c.args.input.now.words.now c.compared_words-w.ensures.value (ending_words c.args.e c.args.p) (c.ending.ensures rest)))
+    (part_from c.args.input.now.words.now c.compared_words-w.ensures.value (ending_words c.args.e c.args.p)
+    (c.ending.ensures rest)))
 
 pub slice_bounds-ending-end : goal.slice_bounds-ending-end
 slice_bounds-ending-end c = omega (arith, c.compared-b.auto.g0)

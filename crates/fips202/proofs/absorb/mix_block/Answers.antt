@@ -7,8 +7,11 @@ use Rattle.fips202.proofs.absorb.mix_block.Goals as goal
 pub loop-j-init : goal.loop-j-init
 loop-j-init c =
     let chunks = c.chunks_exact.ensures in
-    rw (c.into_iter-j-iterator.ensures.into_iter_gives, c.enumerate-j-items.ensures.source,
-        c.enumerate-j-items.ensures.count)
+    rw (
+      c.into_iter-j-iterator.ensures.into_iter_gives,
+      c.enumerate-j-items.ensures.source,
+      c.enumerate-j-items.ensures.count,
+    )
     (mixing_start chunks.size chunks.rest (search rules))
 
 pub loop-j-preserved : goal.loop-j-preserved

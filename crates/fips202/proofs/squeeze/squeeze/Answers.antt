@@ -51,6 +51,6 @@ returns c =
     output_end
     (output_part (k / rate) (rw i at c.loop-i.invariant.0) refl (rw i at c.loop-i.invariant.1)
     (omega (arith, blocks_within k rate)) (omega arith)
-        (last_block (length c.loop-i.out) rate c.requires.0 (omega arith))
+    (last_block (length c.loop-i.out) rate c.requires.0 (omega arith))
     c.extract-2.ensures)
     (omega arith)

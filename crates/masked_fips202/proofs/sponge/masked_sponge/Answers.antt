@@ -18,4 +18,4 @@ returns g c cs =
     let e : k + m ≡ hash_mask_words (blocks + further) = omega arith in
     rw (← e)
     (bind _ (c.masked_absorb-o.ensures cs)
-        (part_words a.ws.now k m (rw c.block.ensures.0 at (c.masked_squeeze.ensures cs))))
+    (part_words a.ws.now k m (rw c.block.ensures.0 at (c.masked_squeeze.ensures cs))))

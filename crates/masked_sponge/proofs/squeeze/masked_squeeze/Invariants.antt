@@ -11,7 +11,7 @@ abbrev pub invariant-loop-i : goal.invariant-loop-i
 invariant-loop-i g l =
     Squeezing g.T.Output.read l.per (length l.initial.out0)
     (shared_state l.initial.o.value.s0 l.initial.o.value.s1) l.initial.o.rec l.ws l.i
-        (shared_state l.o.value.s0 l.o.value.s1) l.o.rec l.out0 l.out1
+    (shared_state l.o.value.s0 l.o.value.s1) l.o.rec l.out0 l.out1
 
 abbrev pub decreases-loop-i : goal.decreases-loop-i
 decreases-loop-i g l = l.m - l.i
