@@ -1,6 +1,6 @@
 -- Rows 5 to 7 are tested by a function, row 8 by the count; where none refuses, the run leaves the shares and the
 -- recorder's value.
-use mathlib.Core.Path.{◌≡◌, sym, ◌∙◌}
+use mathlib.Core.Path.{sym, ◌∙◌}
 use native.Mathlib.Omega.{arith}
 use Rattle.refusals.specs.declared.Refusal.TheVariants.{MaskRange}
 use Rattle.refusals.specs.RefusalLaws.{handed_on, done_passed}
