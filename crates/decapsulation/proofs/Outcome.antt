@@ -3,14 +3,13 @@ use mathlib.Core.Path.{◌≡◌, refl, sym, ap, ◌∙◌}
 use mathlib.Core.Bool.{Bool, true, false, ◌&&◌}
 use mathlib.Core.List.{List, [], ◌∷◌, ◌++◌}
 use Prim.Native.Nat.{ℕ, ◌+◌, ◌*◌, ◌<◌, ◌≤◌}
-use native.Mathlib.Omega.{arith}
 use borrow.Author.Tests.{lt-ltb, le-ltb}
 use lib.ListN.{length}
 use Rattle.worksheet.specs.SharedList.{shared_list}
 use Rattle.std.specs.Prelude.{Err}
 use Rattle.refusals.specs.declared.Refusal.{Refusal}
 use Rattle.refusals.specs.declared.Refusal.TheVariants.{WrongLength, LimitReached}
-use Rattle.refusals.specs.Refusals.{refusal_number, number, answer, after, Lent, lent, sized}
+use Rattle.refusals.specs.Refusals.{Answer, refusal_number, number, answer, after, Lent, lent, sized}
 use Rattle.refusals.specs.SameLaws.{and_left, and_right}
 use Rattle.refusals.specs.RefusalLaws.{refusal_number-positive, refused, passed, after_kept, wants, sized-exact}
 use Rattle.refusals.specs.RefusalLaws.{sized_both}
@@ -94,6 +93,10 @@ module _ (e : Edition) (p : Parameters) (g : Input) (limit count : ℕ) (k0 k1 :
           share0 = d.share0;
           share1 = d.share1;
         }
+
+-- a refused call isn't counted
+pub refused_kept : {x : Answer} {r : Refusal} → x ≡ Err r → (count : ℕ) → count ≡ after (number x) (count + 1) count
+refused_kept {r = r} h count = rw h (after_kept (Err r) (count + 1) count (refusal_number-positive r))
 
 -- ---- trace
 

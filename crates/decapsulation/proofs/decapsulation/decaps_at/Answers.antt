@@ -2,10 +2,10 @@
 -- count is below the limit, so that one more is a number of 32 bits, and it is raised where none of them refuses.
 use mathlib.Core.Path.{refl}
 use native.Mathlib.Omega.{arith}
-use Rattle.std.specs.Prelude.{Err}
-use Rattle.refusals.specs.RefusalLaws.{refusal_number-positive, handed_on, after_kept}
+use Rattle.std.specs.Prelude.{◌+◌}
+use Rattle.refusals.specs.RefusalLaws.{handed_on}
 use Rattle.decapsulation_run.specs.Lent.{input_of}
-use Rattle.decapsulation.proofs.Outcome.{wrong_length, limit_reached, decaps_sized, told-decapsulated}
+use Rattle.decapsulation.proofs.Outcome.{wrong_length, limit_reached, decaps_sized, told-decapsulated, refused_kept}
 use Rattle.decapsulation.proofs.decapsulation.decaps_at.Goals as goal
 
 pub returns-then-not-exact-exact_shares : goal.returns-then-not-exact-exact_shares
@@ -34,8 +34,8 @@ returns-in_err-decapsulate c =
     (rw c.in_err-decapsulate.was at
     (told-decapsulated a.e a.p (input_of a.input.now) a.limit a.count.now a.k0.now a.k1.now
     c.exact_input-exact.ensures (c.exact_shares.ensures a.k0.now a.k1.now refl refl)
-    c.if-not-exact-exact_shares.false c.if-used-limit.false c.decapsulate.ensures
-    (rw c.in_err-decapsulate.was (after_kept (Err _) _ _ (refusal_number-positive _)))))
+    c.if-not-exact-exact_shares.false {count' = a.count.now} c.if-used-limit.false c.decapsulate.ensures
+    (refused_kept c.in_err-decapsulate.was a.count.now)))
 
 pub returns : goal.returns
 returns c =
@@ -43,7 +43,8 @@ returns c =
     rw c.in_ok-decapsulate.was at
     (told-decapsulated a.e a.p (input_of a.input.now) a.limit a.count.now a.k0.now a.k1.now
     c.exact_input-exact.ensures (c.exact_shares.ensures a.k0.now a.k1.now refl refl)
-    c.if-not-exact-exact_shares.false c.if-used-limit.false c.decapsulate.ensures (rw c.in_ok-decapsulate.was refl))
+    c.if-not-exact-exact_shares.false {count' = a.count.now + 1} c.if-used-limit.false c.decapsulate.ensures
+    (rw c.in_ok-decapsulate.was refl))
 
 pub overflow_add-count : goal.overflow_add-count
 overflow_add-count c =
