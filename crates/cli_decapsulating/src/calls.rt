@@ -5,6 +5,7 @@ use cli_support::messages::Told;
 use cli_support::split_file::SplitKey;
 use cli_support::strip_file::Strip;
 use decapsulation::Input;
+use refusals::Answer;
 
 // The shares of K.
 #[derive(Clone, Copy)]
@@ -28,6 +29,24 @@ fn input<'a>(key: &'a SplitKey, ct: &'a [u8], strip: &'a Strip) -> Input<'a> {
     }
 }
 
+fn decapsulate(
+    key: &SplitKey,
+    ct: &[u8],
+    strip: &Strip,
+    count: &mut u32,
+    shares: &mut Shares,
+) -> Answer {
+    decapsulation::decaps(
+        key.set.edition,
+        key.set.rank(),
+        &input(key, ct, strip),
+        key.limit,
+        count,
+        &mut shares.k0,
+        &mut shares.k1,
+    )
+}
+
 // The key's count is raised.
 pub fn decaps(
     desk: &impl Desk,
@@ -35,21 +54,14 @@ pub fn decaps(
     ct: &[u8],
     strip: &Strip,
 ) -> Result<Shares, Told> {
-    let mut k0 = [0u64; 4];
-    let mut k1 = [0u64; 4];
+    let mut shares = Shares {
+        k0: [0; 4],
+        k1: [0; 4],
+    };
     let mut count = key.count;
-    let answer = decapsulation::decaps(
-        key.set.edition,
-        key.set.rank(),
-        &input(key, ct, strip),
-        key.limit,
-        &mut count,
-        &mut k0,
-        &mut k1,
-    );
-    told(desk, answer)?;
+    told(desk, decapsulate(key, ct, strip, &mut count, &mut shares))?;
     key.count = count;
-    Ok(Shares { k0, k1 })
+    Ok(shares)
 }
 
 // The value of a step.
