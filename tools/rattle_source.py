@@ -1,9 +1,13 @@
 """The functions of the crates' .rt files: parameters, bodies as trees, and what each calls.
 
 A tree is a tuple: ("num", text), ("name", n), ("path", text), ("call", path, args), ("method", object, name, args), ("field", object, name),
-("index", object, index), ("range", from, to), ("un", operator, x), ("bin", operator, x, y), ("cast", x, type), ("array", items),
-("struct", path, values) of ("value", field, x), ("let", name, x), ("set", place, x), ("for", name, range, block), ("while", condition, block),
-("if", condition, block, block), ("match", x, arms), ("return", x), ("block", items), which a `loop` is too. What isn't read by these forms is an error.
+("index", object, index), ("range", from, to), ("un", operator, x), ("bin", operator, x, y), ("cast", x, type), ("array", items), which a tuple is too,
+("closure", names, x), ("try", x), ("struct", path, values) of ("value", field or .., x), ("let", names, x), ("set", place, x), ("for", names, range or
+iterator, block), ("while", condition, block), ("if", condition, block, block), ("match", x, arms), ("return", x), ("block", items), which a `loop` is too.
+The names are those of a pattern, in a list. What isn't read by these forms is an error.
+
+A method, and an operator on a struct, is followed by the type of what it is called on, as far as parameters, fields and results tell it; a function of a
+type parameter's trait is each of the trait's types'.
 """
 import re
 
@@ -12,6 +16,11 @@ CONTRACT = re.compile(r"\b(?:requires|ensures)(?:\s+\w+)?\s*\{")
 STRING = re.compile(r'"(?:[^"\\\n]|\\.)*"')
 # what the program asks of the runtime: files, streams and arguments
 OUTSIDE = re.compile(r"^pub trait \w+[^{;]*\{|^impl \w+ for HostRuntime \{", re.M)
+# methods of std that neither decide nor index by what the elements are
+LENGTHS, COPIES = {"len", "is_empty"}, {"copy_from_slice", "fill", "split_at", "split_at_mut", "map"}
+ITEMS = {"iter", "iter_mut", "enumerate", "zip", "rev", "take", "skip", "step_by", "chunks", "chunks_exact", "copied"}
+FOLLOWED = LENGTHS | COPIES | ITEMS | {"unwrap", "remainder", "rotate_left", "saturating_sub", "to_le_bytes"}
+NUMBERS = {"u8", "u16", "u32", "u64", "usize"}  # types whose functions are std's
 LEVELS = [["||"], ["&&"], ["==", "!=", "<", ">", "<=", ">="], ["|"], ["^"], ["&"], ["<<", ">>"], ["+", "-"], ["*", "/", "%"]]
 
 
@@ -33,10 +42,29 @@ def imported(text):
         yield from [f"{path}::{name}" if name != "self" else path for name in re.findall(r"\w+", group)] or [path]
 
 
+def last(kind):
+    """A type's own name, of its path."""
+    return re.sub(r"^&|'\w+|mut |<.*", "", kind).split("::")[-1].strip()
+
+
+def arguments(kind):
+    """The types that a type is made of, in its angle brackets."""
+    inner = re.search(r"<(.*)>", kind)
+    depth, parts = 0, [""]
+    for c in inner.group(1) if inner else "":
+        depth += {"<": 1, "[": 1, ">": -1, "]": -1}.get(c, 0)
+        if c == "," and not depth:
+            parts.append("")
+        else:
+            parts[-1] += c
+    return [p.strip() for p in parts if p.strip() and not p.strip().startswith("'")]
+
+
 class Function:
-    def __init__(self, crate, module, name, params, result):
+    def __init__(self, crate, module, owner, name, params, result, bounds):
         self.crate, self.module, self.name, self.params, self.result = crate, module, name, params, result
-        self.path = "::".join([crate] + module + [name])
+        self.owner, self.bounds = owner, bounds  # the type of a method; a type parameter -> its trait
+        self.path = "::".join([crate] + module + ([owner] if owner else []) + [name])
         self.start, self.body, self.calls = None, None, []  # calls: (path, arguments)
 
 
@@ -71,6 +99,21 @@ class Parser:
             out.append(token)
         return "".join(out).replace("mut", "mut ")
 
+    def typed(self, *ends):
+        """A type or what else stands up to one of `ends`, angle brackets whole too."""
+        out, depth = [], 0
+        while depth or self.next() not in ends:
+            if not self.next():
+                raise SystemExit(f"{self.where}: {' or '.join(ends)} expected before the end")
+            token = self.take()
+            depth += {"(": 1, "[": 1, "<": 1, ")": -1, "]": -1, ">": -1, ">>": -2}.get(token, 0)
+            out.append(token)
+        return "".join(out).replace("mut", "mut ")
+
+    def pattern(self, *ends):
+        """The names that a pattern binds, in order."""
+        return [t for t in re.findall(r"[a-z_]\w*", self.typed(*ends).replace("mut ", " ")) if t not in ("ref", "mut")]
+
     def listed(self, end, item):
         items = []
         while not self.skip(end):
@@ -82,7 +125,11 @@ class Parser:
     def path(self):
         parts = [self.take()]
         while self.skip("::"):
-            parts.append(self.take())
+            if self.skip("<"):
+                self.typed(">")
+                self.take(">")
+            else:
+                parts.append(self.take())
         return "::".join(parts)
 
     # statements
@@ -105,20 +152,19 @@ class Parser:
         return self.assignment()
 
     def binding(self):
-        self.skip("mut")
-        name = self.take()
+        names = self.pattern(":", "=")
         if self.skip(":"):
             self.until("=")
         self.take("=")
         x = self.expression()
         self.take(";")
-        return ("let", name, x)
+        return ("let", names, x)
 
     def counted(self):
-        name = self.take()
+        names = self.pattern("in")
         self.take("in")
         bounds = self.expression(struct=False)
-        return ("for", name, bounds, self.block())
+        return ("for", names, bounds, self.block())
 
     def repeated(self):
         condition = self.expression(struct=False)
@@ -189,9 +235,9 @@ class Parser:
         return x
 
     def unary(self, struct):
-        if self.next() in ("!", "-", "*"):
+        if self.next() in ("!", "-"):
             return ("un", self.take(), self.unary(struct))
-        if self.skip("&"):
+        if self.skip("&") or self.skip("*"):
             self.skip("mut")
             return self.unary(struct)  # a loan is what it lends
         return self.postfix(struct)
@@ -205,16 +251,27 @@ class Parser:
             elif self.skip("["):
                 x = ("index", x, self.expression())
                 self.take("]")
+            elif self.skip("?"):
+                x = ("try", x)
             else:
                 return x
+
+    def closure(self):
+        names = [] if self.skip("||") else None
+        if names is None:
+            self.take("|")
+            names = self.pattern("|")
+            self.take("|")
+        return ("closure", names, self.block() if self.next() == "{" else self.expression())
 
     def primary(self, struct):
         token = self.next()
         if token == "(":
             self.take()
-            x = self.expression()
-            self.take(")")
-            return x
+            items = self.listed(")", self.expression)
+            return items[0] if len(items) == 1 else ("array", items)
+        if token in ("|", "||"):
+            return self.closure()
         if token == "[":
             self.take()
             if self.next() == "]":
@@ -242,6 +299,8 @@ class Parser:
         return ("path", path) if "::" in path else ("name", path)
 
     def value(self):
+        if self.skip(".."):
+            return ("value", "..", self.expression())
         name = self.take()
         return ("value", name, self.expression() if self.skip(":") else ("name", name))
 
@@ -251,6 +310,8 @@ class Source:
 
     def __init__(self, crates):
         self.functions, self.types = {}, set()
+        self.methods, self.fields, self.traits = {}, {}, {}  # of a type's name: its functions, its fields' types; of a trait's: its types
+        self.parameters, self.aliases = {}, {}  # of a type's name: its type parameters; what it stands for
         self.names, self.modules = {}, {}  # a module's path -> what its names stand for; -> the modules in it
         for root in sorted(crates.glob("*/src/lib.rt")):
             for file in sorted(root.parent.rglob("*.rt")):
@@ -269,32 +330,62 @@ class Source:
         for name in re.findall(r"^\s*(?:pub(?:\(crate\))? )?(?:struct|enum|type|const) (\w+)", text, flags=re.M):
             self.types.add("::".join(here + [name]))
             names[name] = "::".join(here + [name])
-        if re.search(r"^\s*impl\b", code(text), flags=re.M):
-            raise SystemExit(f"{file}: methods aren't followed yet")
+        for name, parameters, body in re.findall(r"\bstruct (\w+)(<[^{;(]*>)?[^{;(]*\{([^}]*)\}", code(text)):
+            self.fields[name] = {n: t.strip() for n, t in re.findall(r"(\w+): ([^,}]+)", body)}
+            self.parameters[name] = [a.split(":")[0].strip() for a in arguments(parameters)]
+        self.aliases.update(re.findall(r"\btype (\w+) = ([^;]+);", code(text)))
         parser = Parser(text, file)
         while parser.next():
-            if parser.take() == "fn":
-                self.function(crate, module, parser, names)
+            token = parser.take()
+            if token == "fn":
+                self.function(crate, module, "", parser, names)
+            elif token in ("impl", "trait"):
+                self.methods_of(token, crate, module, parser, names)
 
-    def function(self, crate, module, parser, names):
-        name = parser.take()
-        if parser.next() == "<":
-            parser.until("(")
+    def methods_of(self, token, crate, module, parser, names):
+        """What stands in an impl or a trait; a trait's own functions are its impls'."""
+        if parser.skip("<"):
+            parser.typed(">")
+            parser.take(">")
+        head = parser.typed("{").replace("for", " for ", 1) if token == "impl" else parser.typed("{")
+        trait, _, owner = head.rpartition(" for ")
+        if trait:
+            self.traits.setdefault(last(trait), set()).add(last(owner))
+        parser.take("{")
+        depth = 1
+        while depth:
+            inner = parser.take()
+            depth += (inner == "{") - (inner == "}")
+            if inner == "fn":
+                self.function(crate, module, last(owner) if token == "impl" else None, parser, names)
+
+    def function(self, crate, module, owner, parser, names):
+        name, bounds = parser.take(), {}
+        if parser.skip("<"):
+            bounds = {p: last(b) for p, b in re.findall(r"(\w+):(\w+)", parser.typed(">"))}
+            parser.take(">")
         parser.take("(")
         params = []
         while not parser.skip(")"):
-            parser.skip("mut")
+            while parser.next() in ("&", "mut"):
+                parser.take()
             param = parser.take()
-            parser.take(":")
-            params.append((param, parser.until(",", ")")))
+            params.append((param, parser.typed(",", ")") if parser.skip(":") else owner or "Self"))
             parser.skip(",")
-        result = parser.until("{") if parser.skip("->") else ""
-        f = Function(crate, module, name, params, result)
+        result = parser.until("{", ";") if parser.skip("->") else ""
+        if parser.skip(";"):
+            return
+        f = Function(crate, module, owner, name, params, owner if result == "Self" else result, bounds)
         f.start = parser, parser.at
-        self.functions[f.path] = f
-        names[name] = f.path
+        if owner is not None:
+            self.functions[f.path] = f
+        if owner:
+            self.methods.setdefault(owner, {})[name] = f.path
+        elif owner is not None:
+            names[name] = f.path
         parser.take("{")
         parser.until("}")
+        parser.take("}")
 
     def resolve(self, f, path):
         """The full path of what `path` names in f's module."""
@@ -313,20 +404,57 @@ class Source:
             full = to
         return full
 
+    def kind(self, f, x):
+        """The type of x, where a parameter, a field or a result tells it, else nothing."""
+        if x[0] == "name":
+            return f.kinds.get(x[1], "")
+        if x[0] == "field":
+            of = self.kind(f, x[1])
+            of = self.aliases.get(last(of), of)
+            kind = self.fields.get(last(of), {}).get(x[2], "")
+            return dict(zip(self.parameters.get(last(of), []), arguments(of))).get(kind, kind)
+        if x[0] == "struct":
+            return last(x[1])
+        if x[0] == "bin":
+            return self.kind(f, x[2])
+        if x[0] in ("call", "method"):
+            to = self.called(f, x)
+            return self.functions[to[0]].result if to else ""
+        return ""
+
+    def called(self, f, x):
+        """The functions that a call, a method or an operator may be."""
+        if x[0] == "call":
+            first, _, name = x[1].rpartition("::")
+            types = self.traits.get(f.bounds[first], ()) if first in f.bounds else [f.owner if first == "Self" else last(first)]
+            found = [self.methods[t][name] for t in sorted(types) if t and name in self.methods.get(t, {})]
+            to = self.resolve(f, x[1])
+            return found or [to] * (to in self.functions)
+        name = x[2] if x[0] == "method" else {"^": "bitxor"}.get(x[1]) if x[0] == "bin" else None
+        to = name and self.methods.get(last(self.kind(f, x[1] if x[0] == "method" else x[2])), {}).get(name)
+        return [to] if to else []
+
     def open(self, path):
         """The function with its body read and its calls followed."""
         f = self.functions[path]
         if f.body is None:
             parser, parser.at = f.start
             f.body = parser.block()
+            f.kinds = dict(f.params)
+            handed = set(f.kinds)  # a closure among them is followed where it is made
             for node in nodes(f.body):
-                if node[0] == "call":
+                if node[0] == "let" and len(node[1]) == 1:
+                    f.kinds[node[1][0]] = self.kind(f, node[2])
+                if node[0] not in ("call", "method", "bin") or node[0] == "call" and node[1] in handed:
+                    continue
+                found = self.called(f, node)
+                f.calls += [(to, node[2] if node[0] == "call" else [node[1]] + node[3] if node[0] == "method" else list(node[2:])) for to in found]
+                if node[0] == "call" and not found:
                     to = self.resolve(f, node[1])
-                    if to in self.functions:
-                        f.calls.append((to, node[2]))
-                    elif not to.startswith("std::") and to not in self.types and "::".join(to.split("::")[:-1]) not in self.types:
+                    of = "::".join(to.split("::")[:-1])
+                    if to not in ("Ok", "Err", "Some") and not to.startswith("std::") and of not in NUMBERS and to not in self.types and of not in self.types:
                         raise SystemExit(f"{path}: {node[1]} is called, and no crate has it")
-                if node[0] == "method" and node[2] != "len":
+                if node[0] == "method" and not found and node[2] not in FOLLOWED:
                     raise SystemExit(f"{path}: the method {node[2]} isn't followed")
         return f
 

@@ -8,7 +8,7 @@ ghost use Rattle.worksheet.specs.SharedList.{shared_list};
 ghost use Rattle.masked_keccak.specs.MaskedKeccak.{masked_keccak_p, keccak_p_words};
 
 use keccak::state::State;
-use worksheet::Recorder;
+use worksheet::{Recorder, Shared};
 
 pub mod gadget_calls;
 
@@ -39,14 +39,13 @@ pub extern "C" fn bench_masked_keccak_p(
     }
     let a = *s;
     let b = *t;
-    let o = masked_keccak::permute(
-        Recorder { left, value: 0 },
-        State { lanes: a },
-        State { lanes: b },
-        masks,
-    );
-    let c = o.s0.lanes;
-    let d = o.s1.lanes;
+    let shared = Shared {
+        s0: State { lanes: a },
+        s1: State { lanes: b },
+    };
+    let o = masked_keccak::permute(Recorder { left, value: 0 }, shared, masks);
+    let c = o.value.s0.lanes;
+    let d = o.value.s1.lanes;
     *s = c;
     *t = d;
     o.rec.value

@@ -1,13 +1,9 @@
--- Loops that read numbers of n bytes each: turn i reads the n bytes from n * i on.
-use mathlib.Core.Path.{◌≡◌, ap, ◌∙◌}
-use mathlib.Core.List.{List}
-use Prim.Native.Nat.{ℕ, ◌+◌, ◌-◌, ◌*◌, ◌<◌}
-use lib.ListN.{take, drop, set}
-use Rattle.words.specs.Fill.{Filled, filled_turn}
+-- Numbers of n bytes each, which are lent as the part from n * i to n * i + n.
+use Rattle.std.proofs.Common.{◌≡◌, ℕ, ◌+◌, ◌-◌, ◌*◌, List, take, drop, ap, ◌∙◌}
 use Rattle.words.specs.Numeral.{value}
 use Rattle.words.specs.Part.{part_span}
 use Rattle.buffers.specs.LittleEndian.{number_at}
 
-pub read_turn : {m : ℕ} (n : ℕ) (b : List ℕ) {i v : ℕ} {out : List ℕ} → Filled m (number_at n b) i out → i < m
-    → v ≡ value 256 (take (n * i + n - n * i) (drop (n * i) b)) → Filled m (number_at n b) (i + 1) (set out i v)
-read_turn n b {i} a h e = filled_turn a h (e ∙ ap (value 256) (part_span (n * i) n b))
+pub read_at : (n : ℕ) (b : List ℕ) (i : ℕ) {v : ℕ} → v ≡ value 256 (take (n * i + n - n * i) (drop (n * i) b))
+    → v ≡ number_at n b i
+read_at n b i e = e ∙ ap (value 256) (part_span (n * i) n b)

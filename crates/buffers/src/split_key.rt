@@ -4,7 +4,6 @@ ghost use Rattle.words.specs.LittleEndian.{words_to_bytes};
 ghost use Rattle.buffers.specs.Split.{Sized, RestSized, split_length, split_bytes, Unpacked};
 
 use crate::little_endian::{get_coefficients, get_words, put_coefficients, put_words};
-use slices::copy_bytes;
 
 // Its length.
 pub fn split_bytes(k: usize) -> usize
@@ -37,7 +36,7 @@ fn pack_rest(z0: &[u64], z1: &[u64], public: &[u8], out: &mut [u8])
         ≡ (words_to_bytes 8 z0.now ++ words_to_bytes 8 z1.now) ++ public.now }
 {
     pack_words(z0, z1, &mut out[0..64]);
-    copy_bytes(public, &mut out[64..]);
+    out[64..].copy_from_slice(public);
 }
 
 // The shares of the secret, those of z, the public key and its hash.
@@ -72,5 +71,5 @@ pub fn unpack(
     get_coefficients(&b[half..words], s1);
     get_words(&b[words..second], z0);
     get_words(&b[second..rest], z1);
-    copy_bytes(&b[rest..], public);
+    public.copy_from_slice(&b[rest..]);
 }

@@ -3,17 +3,13 @@ ghost use Rattle.std.specs.Prelude.{map, ◌≡◌, ◌%◌, length, get_or};
 ghost use Rattle.words.specs.Tab.{tab};
 ghost use Rattle.words.specs.Word.{xor};
 
-fn remainder(x: u16) -> u16
-    ensures { result ≡ x % 3329 }
-{
-    x % 3329
-}
+use slices::tabulate;
 
 pub fn reduce(f: &mut [u16])
     ensures { f.new ≡ map (λ x. x % 3329) f.old }
 {
-    for i in 0..f.len() {
-        f[i] = remainder(f[i]);
+    for x in f.iter_mut() {
+        *x %= 3329;
     }
 }
 
@@ -23,7 +19,5 @@ pub fn xor_words(a: &[u64], b: &[u64], out: &mut [u64])
     ensures { out.new
         ≡ tab (length out.old) (λ i. xor (get_or a.now i 0) (get_or b.now i 0)) }
 {
-    for i in 0..out.len() {
-        out[i] = a[i] ^ b[i];
-    }
+    tabulate(out, |i| a[i] ^ b[i]);
 }

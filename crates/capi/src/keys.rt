@@ -9,6 +9,7 @@ ghost use Rattle.worksheet.specs.SharedList.{shared_list};
 
 use crate::refusal;
 use parameters::Edition;
+use split_key::{KeyStateMut, SharesMut};
 
 // SampleNTT (FIPS 203, algorithm 7).
 #[unsafe(no_mangle)]
@@ -123,20 +124,16 @@ pub extern "C" fn tifo_import(
         (split_key s0.new s1.new z0.new z1.new public.new)
         limit_out.new count_out.new) }
 {
-    refusal(split_key_import::import(
-        rank,
-        dk,
-        mask_coeffs,
-        mask_words,
-        limit,
+    let mut state = KeyStateMut {
         s0,
         s1,
         z0,
         z1,
         public,
-        limit_out,
-        count_out,
-    ))
+        limit: limit_out,
+        count: count_out,
+    };
+    refusal(split_key_import::import(rank, dk, mask_coeffs, mask_words, limit, &mut state))
 }
 
 // Fresh shares of the same key, and the count 0.
@@ -157,5 +154,6 @@ pub extern "C" fn tifo_refresh(
         (shared_list s0.new s1.new) (shared_list z0.new z1.new)
         count.new }
 {
-    refusal(split_key_refresh::refresh(rank, mask_coeffs, mask_words, s0, s1, z0, z1, count))
+    let mut shares = SharesMut { s0, s1, z0, z1 };
+    refusal(split_key_refresh::refresh(rank, mask_coeffs, mask_words, &mut shares, count))
 }

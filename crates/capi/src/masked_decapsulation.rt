@@ -4,6 +4,7 @@ ghost use Rattle.decapsulation_run.specs.Input.{input};
 ghost use Rattle.decapsulation.specs.Calls.{DecapsulatedBy, TracedBy};
 
 use crate::refusal;
+use decapsulation::{Input, SplitKey, decaps, trace};
 use parameters::Edition;
 
 #[unsafe(no_mangle)]
@@ -28,22 +29,19 @@ pub extern "C" fn tifo_decaps(
         limit count.old k0.old k1.old result
         count.new k0.new k1.new }
 {
-    refusal(decapsulation::decaps(
-        Edition::MlKem,
-        rank,
-        s0,
-        s1,
-        z0,
-        z1,
-        public,
-        limit,
-        count,
+    let input = Input {
+        key: SplitKey {
+            s0,
+            s1,
+            z0,
+            z1,
+            public,
+        },
         ct,
         words,
         coeffs,
-        k0,
-        k1,
-    ))
+    };
+    refusal(decaps(Edition::MlKem, rank, &input, limit, count, k0, k1))
 }
 
 #[unsafe(no_mangle)]
@@ -65,20 +63,19 @@ pub extern "C" fn tifo_trace(
         ct.now words.now coeffs.now)
         step value.old result value.new }
 {
-    refusal(decapsulation::trace(
-        Edition::MlKem,
-        rank,
-        s0,
-        s1,
-        z0,
-        z1,
-        public,
+    let input = Input {
+        key: SplitKey {
+            s0,
+            s1,
+            z0,
+            z1,
+            public,
+        },
         ct,
         words,
         coeffs,
-        step,
-        value,
-    ))
+    };
+    refusal(trace(Edition::MlKem, rank, &input, step, value))
 }
 
 #[unsafe(no_mangle)]
@@ -103,22 +100,19 @@ pub extern "C" fn tifo_kyber_decaps(
         limit count.old k0.old k1.old result
         count.new k0.new k1.new }
 {
-    refusal(decapsulation::decaps(
-        Edition::Kyber,
-        rank,
-        s0,
-        s1,
-        z0,
-        z1,
-        public,
-        limit,
-        count,
+    let input = Input {
+        key: SplitKey {
+            s0,
+            s1,
+            z0,
+            z1,
+            public,
+        },
         ct,
         words,
         coeffs,
-        k0,
-        k1,
-    ))
+    };
+    refusal(decaps(Edition::Kyber, rank, &input, limit, count, k0, k1))
 }
 
 #[unsafe(no_mangle)]
@@ -140,18 +134,17 @@ pub extern "C" fn tifo_kyber_trace(
         ct.now words.now coeffs.now)
         step value.old result value.new }
 {
-    refusal(decapsulation::trace(
-        Edition::Kyber,
-        rank,
-        s0,
-        s1,
-        z0,
-        z1,
-        public,
+    let input = Input {
+        key: SplitKey {
+            s0,
+            s1,
+            z0,
+            z1,
+            public,
+        },
         ct,
         words,
         coeffs,
-        step,
-        value,
-    ))
+    };
+    refusal(trace(Edition::Kyber, rank, &input, step, value))
 }

@@ -1,179 +1,67 @@
 // Masked decapsulation and its trace on files, commands of the program mlkem.
 #![tactic(auto)]
 
-ghost use Rattle.std.specs.Prelude.{◌≤◌, length};
-ghost use Rattle.buffers.specs.Split.{Sized};
-ghost use Rattle.cli_support.specs.Bounded.{Bounded};
-
-use crate::answering::{print_step, write_shares};
-use cli_support::arguments::Natural;
+use crate::reading::Inputs;
+use buffers::split_key::pack_words;
+use cli_support::arguments;
+use cli_support::arguments::{Path, path_at};
 use cli_support::desk::Desk;
-use cli_support::inputs::read_exact;
+use cli_support::messages::{Told, failed};
+use cli_support::outputs::{differ_at, give_up, open_secret, put};
 use cli_support::sets::Sizes;
-use cli_support::split_file::read_split;
-use cli_support::strip_file::read_strip;
-use cli_support::{arguments, outputs, strip_file};
-use parameters::Edition;
+use cli_support::split_file::SplitKey;
+use cli_support::strip_file::Strip;
 
-mod answering; // the shares of K, and the value of a step
+pub mod calls; // the calls, on a split key
+mod reading; // what they are given, from files
 
-// What is asked for: the shares of K, or the value of a step.
-#[derive(Clone, Copy)]
-enum Asked {
-    Shares,
-    Step(u64),
-}
-
-// With the file of argument 5, a strip.
-fn run_strip(
+// The shares of K as bytes. The split key is replaced by one with the raised count.
+fn counted_shares(
     desk: &impl Desk,
-    e: Edition,
-    k: usize,
-    asked: Asked,
-    s0: &[u16],
-    s1: &[u16],
-    z0: &[u64],
-    z1: &[u64],
-    public: &[u8],
-    limit: u32,
-    count: u32,
+    key: &mut SplitKey,
     ct: &[u8],
-    words: &mut [u64],
-    coeffs: &mut [u16],
-)
-    requires { Sized k s0.now s1.now z0.now z1.now public.now × (k ≤ 4)
-        × (length words.old ≤ 15192) × (length coeffs.old ≤ 9472) }
-{
-    if !read_strip(desk, 5, words, coeffs) {
-        return;
-    }
-    match asked {
-        Asked::Shares => write_shares(
-            desk, e, k, s0, s1, z0, z1, public, limit, count, ct, words, coeffs,
-        ),
-        Asked::Step(step) => print_step(
-            desk, e, k as u32, s0, s1, z0, z1, public, ct, words, coeffs, step,
-        ),
-    }
+    strip: &Strip,
+) -> Result<[u8; 64], Told> {
+    let shares = calls::decaps(desk, key, ct, strip)?;
+    key.replace(desk, 3)?;
+    let mut bytes = [0u8; 64];
+    pack_words(&shares.k0, &shares.k1, &mut bytes);
+    Ok(bytes)
 }
 
-// With the file of argument 4, a ciphertext.
-fn run_ciphertext(
+// The file of the shares is opened first and written last: a split key is used only where they can be handed out, and
+// they are handed out only where its use is counted.
+fn write_shares(
     desk: &impl Desk,
-    set: Sizes,
-    asked: Asked,
-    s0: &[u16],
-    s1: &[u16],
-    z0: &[u64],
-    z1: &[u64],
-    public: &[u8],
-    limit: u32,
-    count: u32,
-    ct: &mut [u8],
-)
-    requires { Bounded set × Sized set.k s0.now s1.now z0.now z1.now public.now }
-{
-    if !read_exact(desk, 4, ct) {
-        return;
+    path: &Path,
+    key: &mut SplitKey,
+    ct: &[u8],
+    strip: &Strip,
+) -> Result<(), Told> {
+    let output = open_secret(desk, path)?;
+    match counted_shares(desk, key, ct, strip) {
+        Ok(shares) => put(desk, output, &shares),
+        Err(told) => {
+            give_up(desk, output);
+            Err(told)
+        }
     }
-    let e = set.edition;
-    let mut words = strip_file::words();
-    let mut coeffs = strip_file::coefficients();
-    let m = set.words;
-    let n = set.coeffs;
-    run_strip(
-        desk,
-        e,
-        set.k,
-        asked,
-        s0,
-        s1,
-        z0,
-        z1,
-        public,
-        limit,
-        count,
-        ct,
-        &mut words[0..m],
-        &mut coeffs[0..n],
-    );
-}
-
-// With the file of argument 3, a split key.
-fn run_split(
-    desk: &impl Desk,
-    set: Sizes,
-    asked: Asked,
-    s0: &mut [u16],
-    s1: &mut [u16],
-    z0: &mut [u64],
-    z1: &mut [u64],
-    public: &mut [u8],
-)
-    requires { Bounded set × Sized set.k s0.old s1.old z0.old z1.old public.old }
-{
-    let mut limit: u32 = 0;
-    let mut count: u32 = 0;
-    if !read_split(
-        desk, 3, set.k, s0, s1, z0, z1, public, &mut limit, &mut count,
-    ) {
-        return;
-    }
-    let mut ct = [0u8; 1568];
-    let n = set.ct;
-    run_ciphertext(
-        desk,
-        set,
-        asked,
-        s0,
-        s1,
-        z0,
-        z1,
-        public,
-        limit,
-        count,
-        &mut ct[0..n],
-    );
-}
-
-fn run(desk: &impl Desk, set: Sizes, asked: Asked)
-    requires { Bounded set }
-{
-    let mut s0 = [0u16; 1024];
-    let mut s1 = [0u16; 1024];
-    let mut z0 = [0u64; 4];
-    let mut z1 = [0u64; 4];
-    let mut public = [0u8; 1600];
-    let m = set.coefficients;
-    let n = set.public;
-    run_split(
-        desk,
-        set,
-        asked,
-        &mut s0[0..m],
-        &mut s1[0..m],
-        &mut z0,
-        &mut z1,
-        &mut public[0..n],
-    );
 }
 
 // mlkem decaps SET SPLIT CT STRIP SHARES
-pub fn decaps(desk: &impl Desk, set: Sizes)
-    requires { Bounded set }
-{
-    if outputs::are_same_at(desk, 3, 6) {
-        return;
-    }
-    run(desk, set, Asked::Shares);
+pub fn decaps(desk: &impl Desk, set: Sizes) -> Result<(), Told> {
+    differ_at(desk, 3, 6)?;
+    let Inputs { mut key, ct, strip } = Inputs::read(desk, set)?;
+    let path = path_at(desk, 6)?;
+    write_shares(desk, &path, &mut key, &ct[..set.ct], &strip)
 }
 
 // mlkem trace SET SPLIT CT STRIP STEP
-pub fn trace(desk: &impl Desk, set: Sizes)
-    requires { Bounded set }
-{
-    let Natural::Is(step) = arguments::number(desk, 6, 0xffff_ffff_ffff_ffff) else {
-        return;
-    };
-    run(desk, set, Asked::Step(step));
+pub fn trace(desk: &impl Desk, set: Sizes) -> Result<(), Told> {
+    let step = arguments::number(desk, 6, u64::MAX)?;
+    let Inputs { key, ct, strip } = Inputs::read(desk, set)?;
+    let value = calls::trace(desk, &key, &ct[..set.ct], &strip, step)?;
+    let _ = desk.print(value);
+    desk.write_all(b"\n")
+        .map_err(|e| failed(desk, b"standard output", e))
 }

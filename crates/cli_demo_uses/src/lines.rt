@@ -1,7 +1,7 @@
-// Lines of the demonstration.
+// Lines of the demonstration. What standard output doesn't take is left out.
 ghost use Rattle.std.specs.Prelude.{◌≤◌, length};
 
-use text::{print, print_decimal, print_hex};
+use text::{print, print_hex};
 
 pub fn print_bytes(rt: &impl Print, name: &[u8], b: &[u8]) {
     print(rt, name);
@@ -9,29 +9,18 @@ pub fn print_bytes(rt: &impl Print, name: &[u8], b: &[u8]) {
 }
 
 // Its length and its first 16 bytes.
-pub fn print_start(rt: &impl Print, name: &[u8], b: &[u8])
+pub fn print_start(rt: &impl Print, name: &str, b: &[u8])
     requires { 16 ≤ length b.now }
 {
-    print(rt, name);
-    print(rt, b", ");
-    print_decimal(rt, b.len() as u64);
-    print(rt, b" bytes, begins ");
-    let _ = print_hex(rt, &b[0..16]);
+    let _ = print!(rt; "{name}, {} bytes, begins ", b.len());
+    let _ = print_hex(rt, &b[..16]);
 }
 
 pub fn print_step(rt: &impl Print, step: u64, value: u64) {
-    print(rt, b"  step ");
-    print_decimal(rt, step);
-    print(rt, b": ");
-    print_decimal(rt, value);
-    print(rt, b"\n");
+    let _ = println!(rt; "  step {step}: {value}");
 }
 
 // How often the split key has been used, of how often it may be.
 pub fn print_uses(rt: &impl Print, count: u32, limit: u32) {
-    print(rt, b"uses of the split key: ");
-    print_decimal(rt, count as u64);
-    print(rt, b" of ");
-    print_decimal(rt, limit as u64);
-    print(rt, b"\n");
+    let _ = println!(rt; "uses of the split key: {count} of {limit}");
 }

@@ -1,30 +1,30 @@
-// Calls on a split key: decapsulation of a ciphertext and of a damaged one, and traces. They answer whether every call
-// was carried out.
-ghost use Rattle.std.specs.Prelude.{◌≡◌, ◌<◌, length};
+// Calls on a split key: decapsulation of a ciphertext and of a damaged one, and traces. A call is made though one
+// before it was refused.
+ghost use Rattle.std.specs.Prelude.{◌<◌, length};
 
 use crate::lines::{print_bytes, print_step};
 use buffers::little_endian::put_words;
 use buffers::values::xor_words;
-use cli_support::answers::is_refused;
-use cli_support::arguments::same;
+use cli_decapsulating::calls;
+use cli_decapsulating::calls::Shares;
 use cli_support::desk::Desk;
-use parameters::Edition;
+use cli_support::messages::Told;
+use cli_support::split_file::SplitKey;
+use cli_support::strip_file::Strip;
 use text::print;
 
 // The shares of K, what they join to, and whether that is the secret of encapsulation.
-fn print_secret(desk: &impl Desk, k0: &[u64], k1: &[u64], secret: &[u8])
-    requires { (length k0.now ≡ 4) × (length k1.now ≡ 4) }
-{
+fn print_secret(desk: &impl Desk, shares: &Shares, secret: &[u8]) {
     let mut k = [0u64; 4];
     let mut bytes = [0u8; 32];
-    put_words(k0, &mut bytes);
+    put_words(&shares.k0, &mut bytes);
     print_bytes(desk, b"  share 0 of K: ", &bytes);
-    put_words(k1, &mut bytes);
+    put_words(&shares.k1, &mut bytes);
     print_bytes(desk, b"  share 1 of K: ", &bytes);
-    xor_words(k0, k1, &mut k);
+    xor_words(&shares.k0, &shares.k1, &mut k);
     put_words(&k, &mut bytes);
     print_bytes(desk, b"  their xor:    ", &bytes);
-    if same(&bytes, secret) {
+    if bytes.as_slice() == secret {
         print(desk, b"  equal to encapsulation's K\n");
     } else {
         print(desk, b"  not equal to encapsulation's K\n");
@@ -33,165 +33,81 @@ fn print_secret(desk: &impl Desk, k0: &[u64], k1: &[u64], secret: &[u8])
 
 pub fn decapsulate(
     desk: &impl Desk,
-    e: Edition,
-    rank: u32,
-    s0: &[u16],
-    s1: &[u16],
-    z0: &[u64],
-    z1: &[u64],
-    public: &[u8],
-    limit: u32,
-    count: &mut u32,
+    key: &mut SplitKey,
     ct: &[u8],
-    words: &[u64],
-    coeffs: &[u16],
+    strip: &Strip,
     secret: &[u8],
-) -> bool {
-    let mut k0 = [0u64; 4];
-    let mut k1 = [0u64; 4];
-    let answer = decapsulation::decaps(
-        e, rank, s0, s1, z0, z1, public, limit, count, ct, words, coeffs, &mut k0, &mut k1,
-    );
-    if is_refused(desk, answer) {
-        return false;
-    }
-    print_secret(desk, &k0, &k1, secret);
-    true
+) -> Result<(), Told> {
+    let shares = calls::decaps(desk, key, ct, strip)?;
+    print_secret(desk, &shares, secret);
+    Ok(())
 }
 
 // The ciphertext's first bit is changed, and changed back.
 fn decapsulate_damaged(
     desk: &impl Desk,
-    e: Edition,
-    rank: u32,
-    s0: &[u16],
-    s1: &[u16],
-    z0: &[u64],
-    z1: &[u64],
-    public: &[u8],
-    limit: u32,
-    count: &mut u32,
+    key: &mut SplitKey,
     ct: &mut [u8],
-    words: &[u64],
-    coeffs: &[u16],
+    strip: &Strip,
     secret: &[u8],
-) -> bool
+) -> Result<(), Told>
     requires { 0 < length ct.old }
 {
-    ct[0] = ct[0] ^ 1;
-    let done = decapsulate(
-        desk, e, rank, s0, s1, z0, z1, public, limit, count, ct, words, coeffs, secret,
-    );
-    ct[0] = ct[0] ^ 1;
+    ct[0] ^= 1;
+    let done = decapsulate(desk, key, ct, strip, secret);
+    ct[0] ^= 1;
     done
 }
 
 fn trace(
     desk: &impl Desk,
-    e: Edition,
-    rank: u32,
-    s0: &[u16],
-    s1: &[u16],
-    z0: &[u64],
-    z1: &[u64],
-    public: &[u8],
+    key: &SplitKey,
     ct: &[u8],
-    words: &[u64],
-    coeffs: &[u16],
+    strip: &Strip,
     step: u64,
-) -> bool {
-    let mut value: u64 = 0;
-    let answer = decapsulation::trace(
-        e, rank, s0, s1, z0, z1, public, ct, words, coeffs, step, &mut value,
-    );
-    if is_refused(desk, answer) {
-        return false;
-    }
+) -> Result<(), Told> {
+    let value = calls::trace(desk, key, ct, strip, step)?;
     print_step(desk, step, value);
-    true
+    Ok(())
 }
 
 // Three steps of the decapsulation of the ciphertext.
-fn run_traces(
-    desk: &impl Desk,
-    e: Edition,
-    rank: u32,
-    last_step: u64,
-    s0: &[u16],
-    s1: &[u16],
-    z0: &[u64],
-    z1: &[u64],
-    public: &[u8],
-    ct: &[u8],
-    words: &[u64],
-    coeffs: &[u16],
-) -> bool {
+fn run_traces(desk: &impl Desk, key: &SplitKey, ct: &[u8], strip: &Strip) -> Result<(), Told> {
     print(desk, b"trace of the first decapsulation\n");
-    let first = trace(desk, e, rank, s0, s1, z0, z1, public, ct, words, coeffs, 0);
-    let second = trace(
-        desk, e, rank, s0, s1, z0, z1, public, ct, words, coeffs, 256,
-    );
-    let last = trace(
-        desk, e, rank, s0, s1, z0, z1, public, ct, words, coeffs, last_step,
-    );
-    first & second & last
+    let first = trace(desk, key, ct, strip, 0);
+    let second = trace(desk, key, ct, strip, 256);
+    let last = trace(desk, key, ct, strip, key.set.steps - 1);
+    first.and(second).and(last)
 }
 
 // The ciphertext and a damaged one.
 fn decapsulate_both(
     desk: &impl Desk,
-    e: Edition,
-    rank: u32,
-    s0: &[u16],
-    s1: &[u16],
-    z0: &[u64],
-    z1: &[u64],
-    public: &[u8],
-    limit: u32,
-    count: &mut u32,
+    key: &mut SplitKey,
     ct: &mut [u8],
-    words: &[u64],
-    coeffs: &[u16],
+    strip: &Strip,
     secret: &[u8],
-) -> bool
+) -> Result<(), Told>
     requires { 0 < length ct.old }
 {
     print(desk, b"decapsulation\n");
-    let own = decapsulate(
-        desk, e, rank, s0, s1, z0, z1, public, limit, count, ct, words, coeffs, secret,
-    );
+    let own = decapsulate(desk, key, ct, strip, secret);
     print(desk, b"decapsulation, the ciphertext's first bit changed\n");
-    let other = decapsulate_damaged(
-        desk, e, rank, s0, s1, z0, z1, public, limit, count, ct, words, coeffs, secret,
-    );
-    own & other
+    let other = decapsulate_damaged(desk, key, ct, strip, secret);
+    own.and(other)
 }
 
 // Both, and steps of the first.
 pub fn run_ciphertexts(
     desk: &impl Desk,
-    e: Edition,
-    rank: u32,
-    last_step: u64,
-    s0: &[u16],
-    s1: &[u16],
-    z0: &[u64],
-    z1: &[u64],
-    public: &[u8],
-    limit: u32,
-    count: &mut u32,
+    key: &mut SplitKey,
     ct: &mut [u8],
-    words: &[u64],
-    coeffs: &[u16],
+    strip: &Strip,
     secret: &[u8],
-) -> bool
+) -> Result<(), Told>
     requires { 0 < length ct.old }
 {
-    let both = decapsulate_both(
-        desk, e, rank, s0, s1, z0, z1, public, limit, count, ct, words, coeffs, secret,
-    );
-    let traced = run_traces(
-        desk, e, rank, last_step, s0, s1, z0, z1, public, ct, words, coeffs,
-    );
-    both & traced
+    let both = decapsulate_both(desk, key, ct, strip, secret);
+    let traced = run_traces(desk, key, ct, strip);
+    both.and(traced)
 }

@@ -1,13 +1,12 @@
 -- A parameter set's lengths and an edition's counts lie between the smallest and the largest of the three sets and of
 -- both editions.
-use Rattle.std.specs.Prelude.{◌≡◌, ℕ, ◌+◌, ◌*◌}
+use Rattle.std.specs.Prelude.{ℕ}
 use Rattle.parameters.specs.declared.Edition.{Edition}
 use Rattle.parameters.specs.declared.Parameters.{Parameters}
 use Rattle.parameters.specs.Lengths.{ek_bytes, dk_bytes, ct_bytes}
 use Rattle.parameters.specs.Fits.{Within}
 use Rattle.stages.specs.Counts.{strip_words, strip_coeffs}
 use Rattle.stages.specs.EntryCounts.{steps}
-use Rattle.cli_support.specs.declared.sets.Sizes.{Sizes}
 
 pub record Between (k ek₀ dk₀ ct₀ words₀ coeffs₀ steps₀ : ℕ) : Type 0 where
   pub rank : Within 2 4 k
@@ -17,12 +16,6 @@ pub record Between (k ek₀ dk₀ ct₀ words₀ coeffs₀ steps₀ : ℕ) : Typ
   pub words : Within 6588 15192 words₀
   pub coeffs : Within 6400 9472 coeffs₀
   pub steps : Within 116638 242052 steps₀
-
--- so do these; the coefficients of a share and the bytes of the public key with h are what the rank says
-pub record Bounded (s : Sizes) : Type 0 where
-  pub between : Between s.k s.ek s.dk s.ct s.words s.coeffs s.steps
-  pub coefficients : s.coefficients ≡ 256 * s.k
-  pub public : s.public ≡ 384 * s.k + 64
 
 -- the bounds of the set, whose sizes these are in an edition
 abbrev pub SetBounded : Edition → Parameters → Type 0

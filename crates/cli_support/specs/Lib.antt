@@ -1,4 +1,2 @@
-pub mod Counts
-pub mod Numbers
 pub mod StripFile
 pub mod Bounded

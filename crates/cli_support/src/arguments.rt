@@ -1,35 +1,48 @@
 // The words of the command line.
-ghost use Rattle.std.specs.Prelude.{◌≡◌, length};
-ghost use Rattle.refusals.specs.Same.{same as same_of};
-ghost use Rattle.cli_support.specs.Counts.{IsPrefixLen};
-ghost use Rattle.cli_support.specs.Numbers.{AtMost};
+ghost use Rattle.std.specs.Prelude.{◌≤◌, IfSome, IfOk, length};
 
 use crate::desk::Desk;
 use crate::messages;
+use crate::messages::Told;
 use std::env::FillError;
 
-#[derive(Clone, Copy)]
-pub enum Natural {
-    Is(u64),
-    None,
+// A word, in room for N bytes.
+#[derive(Drop)]
+pub struct Word<const N: usize> {
+    room: [u8; N],
+    count: usize,
+    ghost within: { count ≤ N },
 }
 
-// Room for a word that is a path.
-pub fn buffer() -> [u8; 4096]
-    ensures { 4096 ≡ length result }
-{
-    [0; 4096]
+impl<const N: usize> Word<N> {
+    // Argument i; empty where it is missing or longer.
+    pub fn at(desk: &impl Desk, i: usize) -> Self {
+        let mut room = [0; N];
+        let count = desk.arg(i, &mut room).unwrap_or(0);
+        Word { room, count }
+    }
+
+    pub fn bytes(&self) -> &[u8]
+        ensures { length result.now ≤ N }
+    {
+        &self.room[..self.count]
+    }
 }
 
-// Argument i at the start of out, and its length; 0 where it is missing or longer than out.
-pub fn arg(desk: &impl Desk, i: usize, out: &mut [u8]) -> usize
-    ensures { IsPrefixLen result out.new }
-{
-    desk.arg(i, out).unwrap_or(0)
+// A word that is a path.
+pub type Path = Word<4096>;
+
+pub fn path_at(desk: &impl Desk, i: usize) -> Result<Path, Told> {
+    let path = Path::at(desk, i);
+    if path.bytes().is_empty() {
+        return Err(messages::bad_argument(desk, i));
+    }
+    Ok(path)
 }
 
-// How many words the command line has, the program's name among them.
-pub fn arg_count(desk: &impl Desk) -> usize {
+// How many words the command line has, the program's name among them. They are asked for one by one: an iterator over
+// them would take memory from the heap.
+pub fn count(desk: &impl Desk) -> usize {
     let mut room = [0u8; 1];
     for i in 0..usize::MAX {
         if let Err(FillError::NotPresent) = desk.arg(i, &mut room) {
@@ -39,62 +52,36 @@ pub fn arg_count(desk: &impl Desk) -> usize {
     usize::MAX
 }
 
-// Two strings are equal.
-pub fn same(a: &[u8], b: &[u8]) -> bool
-    ensures { result ≡ same_of a.now b.now }
-{
-    if a.len() != b.len() {
-        return false;
-    }
-    refusals::conditions::same(a, b)
-}
-
 // The number n with one more digit, where b is one and the number is at most most.
-fn appended(n: u64, b: u8, most: u64) -> Natural
-    ensures { AtMost most result }
+fn appended(n: u64, b: u8, most: u64) -> Option<u64>
+    ensures { IfSome result (λ m. m ≤ most) }
 {
-    if b < 48 {
-        return Natural::None;
-    }
-    if b > 57 {
-        return Natural::None;
-    }
-    if n > most / 10 {
-        return Natural::None;
-    }
-    let d = (b - 48) as u64;
-    if d > most - 10 * n {
-        return Natural::None;
-    }
-    Natural::Is(10 * n + d)
+    let digit = (b as char).to_digit(10)?;
+    let number = n.checked_mul(10)?.checked_add(digit as u64)?;
+    if number <= most { Some(number) } else { None }
 }
 
-// The number from 0 to most that a word spells in decimal.
-fn decimal(word: &[u8], most: u64) -> Natural
-    ensures { AtMost most result }
+// The number from 0 to most that a word spells in decimal. It isn't u64's parse, which takes a sign too.
+fn decimal(word: &[u8], most: u64) -> Option<u64>
+    ensures { IfSome result (λ m. m ≤ most) }
 {
-    if word.len() == 0 {
-        return Natural::None;
+    if word.is_empty() {
+        return None;
     }
     let mut n: u64 = 0;
-    for i in 0..word.len() {
-        let Natural::Is(m) = appended(n, word[i], most) else {
-            return Natural::None;
-        };
-        n = m;
+    for b in word {
+        n = appended(n, *b, most)?;
     }
-    Natural::Is(n)
+    Some(n)
 }
 
-// Argument i as a number from 0 to most; a line says where it is none.
-pub fn number(desk: &impl Desk, i: usize, most: u64) -> Natural
-    ensures { AtMost most result }
+// Argument i as a number from 0 to most.
+pub fn number(desk: &impl Desk, i: usize, most: u64) -> Result<u64, Told>
+    ensures { IfOk result (λ m. m ≤ most) }
 {
-    let mut word = [0u8; 32];
-    let n = arg(desk, i, &mut word);
-    let Natural::Is(m) = decimal(&word[..n], most) else {
-        messages::no_number(desk, &word[..n], most);
-        return Natural::None;
-    };
-    Natural::Is(m)
+    let word = Word::<32>::at(desk, i);
+    match decimal(word.bytes(), most) {
+        Some(number) => Ok(number),
+        None => Err(messages::no_number(desk, word.bytes(), most)),
+    }
 }

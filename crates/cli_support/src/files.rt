@@ -9,10 +9,7 @@ use std::{fs, io, str};
 const ILLEGAL_BYTES: i32 = 84;
 
 fn text_of(path: &[u8]) -> io::Result<&str> {
-    match str::from_utf8(path) {
-        Ok(text) => Ok(text),
-        Err(_) => Err(io::Error::from_raw_os_error(ILLEGAL_BYTES)),
-    }
+    str::from_utf8(path).map_err(|_| io::Error::from_raw_os_error(ILLEGAL_BYTES))
 }
 
 pub fn open_read<D: Desk>(desk: &D, path: &[u8]) -> io::Result<D::File> {
@@ -64,12 +61,6 @@ fn draw_letters(desk: &impl Desk, ending: &mut [u8]) -> io::Result<()> {
     Ok(())
 }
 
-fn put_marks(ending: &mut [u8]) {
-    for letter in ending.iter_mut() {
-        *letter = b'X';
-    }
-}
-
 fn open_drawn<D: Desk>(desk: &D, name: &mut [u8]) -> io::Result<D::File> {
     let Some(start) = name.len().checked_sub(6) else {
         return Err(io::Error::from(ErrorKind::InvalidInput));
@@ -89,7 +80,7 @@ pub fn create_temp<D: Desk>(desk: &D, name: &mut [u8]) -> io::Result<D::File> {
     let opened = open_drawn(desk, name);
     if opened.is_err() {
         let start = name.len().saturating_sub(6);
-        put_marks(&mut name[start..]);
+        name[start..].fill(b'X');
     }
     opened
 }

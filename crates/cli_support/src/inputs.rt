@@ -1,22 +1,16 @@
 // Files, read whole. A file is named by the number of its argument. Where reading fails a line says why.
-ghost use Rattle.cli_support.specs.Counts.{IsPrefixLen};
+ghost use Rattle.std.specs.Prelude.{◌≤◌, IfOk, length};
 
-use crate::arguments::{arg, buffer};
+use crate::arguments::path_at;
 use crate::desk::Desk;
 use crate::files::open_read;
 use crate::messages;
+use crate::messages::Told;
 use std::io::Read;
 
-// How many bytes were read, and whether they are the whole file.
-#[derive(Clone, Copy)]
-pub struct Got {
-    pub count: usize,
-    pub whole: bool,
-}
-
-// Until out is full, the file ends or reading fails.
+// Until out is full, the file ends or reading fails. How many bytes were read: a read gives as many as it likes.
 fn read_full(file: &mut impl Read, out: &mut [u8]) -> usize
-    ensures { IsPrefixLen result out.new }
+    ensures { result ≤ length out.new }
 {
     let mut done: usize = 0;
     while done < out.len() {
@@ -29,84 +23,33 @@ fn read_full(file: &mut impl Read, out: &mut [u8]) -> usize
     done
 }
 
-// From an open file, into the start of out.
-fn read_open<D: Desk>(desk: &D, mut file: D::File, path: &[u8], out: &mut [u8]) -> Got
-    ensures { IsPrefixLen result.count out.new }
+fn read_path(desk: &impl Desk, path: &[u8], out: &mut [u8]) -> Result<usize, Told>
+    ensures { IfOk result (λ n. n ≤ length out.new) }
 {
-    let n = read_full(&mut file, out);
+    let mut file = open_read(desk, path).map_err(|e| messages::failed(desk, path, e))?;
+    let count = read_full(&mut file, out);
     let mut next = [0u8; 1];
     match file.read(&mut next) {
-        Err(e) => {
-            messages::failed(desk, path, e);
-            Got {
-                count: n,
-                whole: false,
-            }
-        }
-        Ok(0) => Got {
-            count: n,
-            whole: true,
-        },
-        Ok(_) => {
-            messages::longer(desk, path, out.len());
-            Got {
-                count: n,
-                whole: false,
-            }
-        }
+        Ok(0) => Ok(count),
+        Ok(_) => Err(messages::longer(desk, path, out.len())),
+        Err(e) => Err(messages::failed(desk, path, e)),
     }
 }
 
-fn read_path(desk: &impl Desk, path: &[u8], out: &mut [u8]) -> Got
-    ensures { IsPrefixLen result.count out.new }
+// A file of at most out's length, into its start. How many bytes it has.
+pub fn read_up_to(desk: &impl Desk, i: usize, out: &mut [u8]) -> Result<usize, Told>
+    ensures { IfOk result (λ n. n ≤ length out.new) }
 {
-    match open_read(desk, path) {
-        Ok(file) => read_open(desk, file, path, out),
-        Err(e) => {
-            messages::failed(desk, path, e);
-            Got {
-                count: 0,
-                whole: false,
-            }
-        }
-    }
+    let path = path_at(desk, i)?;
+    read_path(desk, path.bytes(), out)
 }
 
-// A file of at most out's length, into its start.
-pub fn read_up_to(desk: &impl Desk, i: usize, out: &mut [u8]) -> Got
-    ensures { IsPrefixLen result.count out.new }
-{
-    let mut path = buffer();
-    let n = arg(desk, i, &mut path);
-    if n == 0 {
-        messages::bad_argument(desk, i);
-        return Got {
-            count: 0,
-            whole: false,
-        };
+// A file of exactly out's length.
+pub fn read_exact(desk: &impl Desk, i: usize, out: &mut [u8]) -> Result<(), Told> {
+    let path = path_at(desk, i)?;
+    let count = read_path(desk, path.bytes(), out)?;
+    if count != out.len() {
+        return Err(messages::shorter(desk, path.bytes(), count, out.len()));
     }
-    read_path(desk, &path[..n], out)
-}
-
-fn read_sized(desk: &impl Desk, path: &[u8], out: &mut [u8]) -> bool {
-    let got = read_path(desk, path, out);
-    if !got.whole {
-        return false;
-    }
-    if got.count != out.len() {
-        messages::shorter(desk, path, got.count, out.len());
-        return false;
-    }
-    true
-}
-
-// A file of exactly out's length; false where it isn't one.
-pub fn read_exact(desk: &impl Desk, i: usize, out: &mut [u8]) -> bool {
-    let mut path = buffer();
-    let n = arg(desk, i, &mut path);
-    if n == 0 {
-        messages::bad_argument(desk, i);
-        return false;
-    }
-    read_sized(desk, &path[..n], out)
+    Ok(())
 }

@@ -1,43 +1,57 @@
 // The file of masks for import and refreshing: 256 coefficients for each of the rank's polynomials, then 4 words.
-ghost use Rattle.std.specs.Prelude.{◌≡◌, ◌+◌, ◌*◌, ◌≤◌, length};
+ghost use Rattle.std.specs.Prelude.{◌≡◌, ◌+◌, ◌*◌, length};
 
 use crate::desk::Desk;
 use crate::inputs::read_exact;
+use crate::messages::Told;
+use crate::sets::Sizes;
 use buffers::little_endian::{get_coefficients, get_words};
+use buffers::values;
 
-pub fn unpack(b: &[u8], mask_coeffs: &mut [u16], mask_words: &mut [u64])
-    requires { (length b.now ≡ 2 * length mask_coeffs.old + 32) × (length mask_words.old ≡ 4) }
-{
-    let n = 2 * mask_coeffs.len();
-    get_coefficients(&b[0..n], mask_coeffs);
-    get_words(&b[n..], mask_words);
+// Of a set's size, in room for the largest.
+#[derive(Drop)]
+pub struct Masks {
+    set: Sizes,
+    coeffs: [u16; 1024],
+    pub words: [u64; 4],
 }
 
-fn read_packed(
-    desk: &impl Desk,
-    i: usize,
-    b: &mut [u8],
-    mask_coeffs: &mut [u16],
-    mask_words: &mut [u64],
-) -> bool
-    requires { (length b.old ≡ 2 * length mask_coeffs.old + 32) × (length mask_words.old ≡ 4) }
-{
-    if !read_exact(desk, i, b) {
-        return false;
+impl Masks {
+    pub fn zeros(set: Sizes) -> Self
+        ensures { result.set ≡ set }
+    {
+        Masks {
+            set,
+            coeffs: [0; 1024],
+            words: [0; 4],
+        }
     }
-    unpack(b, mask_coeffs, mask_words);
-    true
-}
 
-pub fn read_masks(
-    desk: &impl Desk,
-    i: usize,
-    mask_coeffs: &mut [u16],
-    mask_words: &mut [u64],
-) -> bool
-    requires { (length mask_coeffs.old ≤ 1024) × (length mask_words.old ≡ 4) }
-{
-    let mut b = [0u8; 2080];
-    let n = 2 * mask_coeffs.len() + 32;
-    read_packed(desk, i, &mut b[0..n], mask_coeffs, mask_words)
+    // From the file's bytes.
+    pub fn unpack(&mut self, b: &[u8])
+        requires { length b.now ≡ 512 * self.old.set.k + 32 }
+    {
+        let m = self.set.coefficients;
+        get_coefficients(&b[..2 * m], &mut self.coeffs[..m]);
+        get_words(&b[2 * m..], &mut self.words);
+    }
+
+    pub fn read(&mut self, desk: &impl Desk, i: usize) -> Result<(), Told> {
+        let mut b = [0u8; 2080];
+        let n = 2 * self.set.coefficients + 32;
+        let file: &mut [u8] = &mut b[..n];
+        read_exact(desk, i, file)?;
+        self.unpack(file);
+        Ok(())
+    }
+
+    // The coefficients modulo q.
+    pub fn reduce(&mut self) {
+        let m = self.set.coefficients;
+        values::reduce(&mut self.coeffs[..m]);
+    }
+
+    pub fn coeffs(&self) -> &[u16] {
+        &self.coeffs[..self.set.coefficients]
+    }
 }

@@ -2,207 +2,145 @@
 //
 // Both of two outputs are opened before one is emptied: where one can't be opened the other stays as it was.
 // A new file of secrets is its owner's alone.
-use crate::arguments::{arg, buffer, same};
+use crate::arguments::{Path, path_at};
 use crate::desk::Desk;
 use crate::files::{open_append, open_overwrite, unlink};
 use crate::messages;
+use crate::messages::Told;
 use std::fs::{OpenFile, Permissions};
 use std::io;
 use std::io::{ErrorKind, Write};
 use std::os::unix::fs::PermissionsExt;
 
-// A file, or why it can't be opened, and whether it was made.
+// A file that is open, and whether it was made.
 #[derive(Drop)]
-pub struct Output<F> {
-    file: io::Result<F>,
+pub struct Output<'a, F> {
+    path: &'a [u8],
+    file: F,
     made: bool,
 }
 
-fn open<D: Desk>(desk: &D, path: &[u8]) -> Output<D::File> {
+fn open_or_make<'a, D: Desk>(desk: &D, path: &'a [u8]) -> io::Result<Output<'a, D::File>> {
     match open_append(desk, path) {
-        Err(e) if e.kind() == ErrorKind::NotFound => {
-            let new = open_overwrite(desk, path);
-            let made = new.is_ok();
-            Output { file: new, made }
-        }
-        file => Output { file, made: false },
+        Ok(file) => Ok(Output {
+            path,
+            file,
+            made: false,
+        }),
+        Err(e) if e.kind() == ErrorKind::NotFound => Ok(Output {
+            path,
+            file: open_overwrite(desk, path)?,
+            made: true,
+        }),
+        Err(e) => Err(e),
     }
 }
 
-fn open_secret<D: Desk>(desk: &D, path: &[u8]) -> Output<D::File> {
-    let output = open(desk, path);
+fn open<'a, D: Desk>(desk: &D, path: &'a [u8]) -> Result<Output<'a, D::File>, Told> {
+    open_or_make(desk, path).map_err(|e| messages::failed(desk, path, e))
+}
+
+// A file of secrets. It may be opened before it is known whether it will be written.
+pub fn open_secret<'a, D: Desk>(desk: &D, path: &'a Path) -> Result<Output<'a, D::File>, Told> {
+    let output = open(desk, path.bytes())?;
     if output.made {
-        if let Ok(file) = &output.file {
-            let _ = file.set_permissions(Permissions::from_mode(0o600));
-        }
+        let _ = output.file.set_permissions(Permissions::from_mode(0o600));
     }
-    output
+    Ok(output)
 }
 
 // Closes what nothing was written to; a file that was made is removed.
-fn give_up<D: Desk>(desk: &D, output: Output<D::File>, path: &[u8]) {
-    let made = output.made;
-    drop(output);
+pub fn give_up<D: Desk>(desk: &D, output: Output<'_, D::File>) {
+    let Output { path, file, made } = output;
+    drop(file);
     if made {
         let _ = unlink(desk, path);
     }
 }
 
 // Only a regular file can be emptied; of any other the call answers that its input is invalid.
-fn is_emptied<D: Desk>(desk: &D, file: &D::File, path: &[u8]) -> bool {
+fn empty(file: &impl OpenFile) -> io::Result<()> {
     match file.set_len(0) {
-        Ok(()) => true,
-        Err(e) if e.kind() == ErrorKind::InvalidInput => true,
-        Err(e) => {
-            messages::failed(desk, path, e);
-            false
-        }
+        Err(e) if e.kind() == ErrorKind::InvalidInput => Ok(()),
+        emptied => emptied,
     }
 }
 
 // A file is closed where it is let go, which says nothing of what fails then: so it is brought onto the device before.
 // What can't be, such as a pipe, answers that its input is invalid or that it can't be written.
-fn is_closed<D: Desk>(desk: &D, file: D::File, path: &[u8]) -> bool {
+fn sync(file: &impl OpenFile) -> io::Result<()> {
     match file.sync_all() {
-        Ok(()) => true,
-        Err(e) if e.kind() == ErrorKind::InvalidInput => true,
-        Err(e) if e.kind() == ErrorKind::ReadOnlyFilesystem => true,
-        Err(e) => {
-            messages::failed(desk, path, e);
-            false
+        Err(e) if e.kind() == ErrorKind::InvalidInput => Ok(()),
+        Err(e) if e.kind() == ErrorKind::ReadOnlyFilesystem => Ok(()),
+        synced => synced,
+    }
+}
+
+fn fill(mut file: impl Write + OpenFile + Drop, bytes: &[u8]) -> io::Result<()> {
+    empty(&file)?;
+    file.write_all(bytes)?;
+    sync(&file)
+}
+
+pub fn put<D: Desk>(desk: &D, output: Output<'_, D::File>, bytes: &[u8]) -> Result<(), Told> {
+    let path = output.path;
+    fill(output.file, bytes).map_err(|e| messages::failed(desk, path, e))
+}
+
+pub fn write_public(desk: &impl Desk, i: usize, bytes: &[u8]) -> Result<(), Told> {
+    let path = path_at(desk, i)?;
+    put(desk, open(desk, path.bytes())?, bytes)
+}
+
+pub fn write_secret(desk: &impl Desk, i: usize, bytes: &[u8]) -> Result<(), Told> {
+    let path = path_at(desk, i)?;
+    put(desk, open_secret(desk, &path)?, bytes)
+}
+
+// Two outputs don't have one name.
+fn differ(desk: &impl Desk, p: &Path, q: &Path) -> Result<(), Told> {
+    if p.bytes() == q.bytes() {
+        return Err(messages::same_name(desk, p.bytes()));
+    }
+    Ok(())
+}
+
+// Nor do those that arguments i and j name.
+pub fn differ_at(desk: &impl Desk, i: usize, j: usize) -> Result<(), Told> {
+    differ(desk, &Path::at(desk, i), &Path::at(desk, j))
+}
+
+fn write_paths(
+    desk: &impl Desk,
+    p: &Path,
+    public: &[u8],
+    q: &Path,
+    secret: &[u8],
+) -> Result<(), Told> {
+    differ(desk, p, q)?;
+    let first = open(desk, p.bytes())?;
+    let second = match open_secret(desk, q) {
+        Ok(output) => output,
+        Err(told) => {
+            give_up(desk, first);
+            return Err(told);
         }
+    };
+    if let Err(told) = put(desk, first, public) {
+        give_up(desk, second);
+        return Err(told);
     }
+    put(desk, second, secret)
 }
 
-fn put_open<D: Desk>(desk: &D, mut file: D::File, path: &[u8], bytes: &[u8]) -> bool {
-    if !is_emptied(desk, &file, path) {
-        return false;
-    }
-    if let Err(e) = file.write_all(bytes) {
-        messages::failed(desk, path, e);
-        return false;
-    }
-    is_closed(desk, file, path)
-}
-
-// False where something failed.
-fn put<D: Desk>(desk: &D, output: Output<D::File>, path: &[u8], bytes: &[u8]) -> bool {
-    match output.file {
-        Ok(file) => put_open(desk, file, path, bytes),
-        Err(e) => {
-            messages::failed(desk, path, e);
-            false
-        }
-    }
-}
-
-fn put_opened<D: Desk>(desk: &D, output: Output<D::File>, path: &[u8], bytes: &[u8]) {
-    put(desk, output, path, bytes);
-}
-
-pub fn write_public(desk: &impl Desk, i: usize, bytes: &[u8]) {
-    let mut path = buffer();
-    let n = arg(desk, i, &mut path);
-    if n == 0 {
-        messages::bad_argument(desk, i);
-        return;
-    }
-    put_opened(desk, open(desk, &path[..n]), &path[..n], bytes);
-}
-
-// A file of secrets, opened before it is known whether it will be written.
-pub fn open_secret_at<D: Desk>(desk: &D, i: usize) -> Output<D::File> {
-    let mut path = buffer();
-    let n = arg(desk, i, &mut path);
-    if n == 0 {
-        messages::bad_argument(desk, i);
-        return Output {
-            file: Err(io::Error::from(ErrorKind::InvalidFilename)),
-            made: false,
-        };
-    }
-    let output = open_secret(desk, &path[..n]);
-    if let Err(e) = &output.file {
-        messages::failed(desk, &path[..n], *e);
-    }
-    output
-}
-
-pub fn is_open<F>(output: &Output<F>) -> bool {
-    output.file.is_ok()
-}
-
-pub fn put_at<D: Desk>(desk: &D, i: usize, output: Output<D::File>, bytes: &[u8]) {
-    let mut path = buffer();
-    let n = arg(desk, i, &mut path);
-    put(desk, output, &path[..n], bytes);
-}
-
-pub fn give_up_at<D: Desk>(desk: &D, i: usize, output: Output<D::File>) {
-    let mut path = buffer();
-    let n = arg(desk, i, &mut path);
-    give_up(desk, output, &path[..n]);
-}
-
-pub fn write_secret(desk: &impl Desk, i: usize, bytes: &[u8]) {
-    let output = open_secret_at(desk, i);
-    if is_open(&output) {
-        put_at(desk, i, output, bytes);
-    }
-}
-
-// Whether two outputs have one name; a line then says so.
-fn are_same(desk: &impl Desk, p: &[u8], q: &[u8]) -> bool {
-    if !same(p, q) {
-        return false;
-    }
-    messages::same_name(desk, p);
-    true
-}
-
-// Of those that arguments i and j name.
-pub fn are_same_at(desk: &impl Desk, i: usize, j: usize) -> bool {
-    let mut p = buffer();
-    let m = arg(desk, i, &mut p);
-    let mut q = buffer();
-    let n = arg(desk, j, &mut q);
-    are_same(desk, &p[..m], &q[..n])
-}
-
-fn write_paths(desk: &impl Desk, p: &[u8], public: &[u8], q: &[u8], secret: &[u8]) {
-    if are_same(desk, p, q) {
-        return;
-    }
-    let first = open(desk, p);
-    if let Err(e) = &first.file {
-        messages::failed(desk, p, *e);
-        return;
-    }
-    let second = open_secret(desk, q);
-    if let Err(e) = &second.file {
-        messages::failed(desk, q, *e);
-        give_up(desk, first, p);
-        return;
-    }
-    if !put(desk, first, p, public) {
-        give_up(desk, second, q);
-        return;
-    }
-    put(desk, second, q, secret);
-}
-
-pub fn write_pair(desk: &impl Desk, i: usize, public: &[u8], j: usize, secret: &[u8]) {
-    let mut p = buffer();
-    let m = arg(desk, i, &mut p);
-    if m == 0 {
-        messages::bad_argument(desk, i);
-        return;
-    }
-    let mut q = buffer();
-    let n = arg(desk, j, &mut q);
-    if n == 0 {
-        messages::bad_argument(desk, j);
-        return;
-    }
-    write_paths(desk, &p[..m], public, &q[..n], secret);
+pub fn write_pair(
+    desk: &impl Desk,
+    i: usize,
+    public: &[u8],
+    j: usize,
+    secret: &[u8],
+) -> Result<(), Told> {
+    let p = path_at(desk, i)?;
+    let q = path_at(desk, j)?;
+    write_paths(desk, &p, public, &q, secret)
 }

@@ -3,11 +3,11 @@
 // is replaced itself, and what it names stays.
 ghost use Rattle.std.specs.Prelude.{◌≡◌, ◌+◌, length};
 
-use crate::arguments::{arg, buffer};
+use crate::arguments::path_at;
 use crate::desk::Desk;
 use crate::files::{create_temp, rename, unlink};
 use crate::messages;
-use slices::copy_bytes;
+use crate::messages::Told;
 use std::fs::OpenFile;
 use std::io;
 use std::io::Write;
@@ -16,66 +16,44 @@ use std::io::Write;
 fn name_beside(path: &[u8], name: &mut [u8])
     requires { length name.old ≡ length path.now + 7 }
 {
-    let n = path.len();
-    copy_bytes(path, &mut name[0..n]);
-    copy_bytes(b".XXXXXX", &mut name[n..]);
+    let (start, ending) = name.split_at_mut(path.len());
+    start.copy_from_slice(path);
+    ending.copy_from_slice(b".XXXXXX");
 }
 
-// On the device, not only on the way to it.
-fn store<F: Write + OpenFile>(file: &mut F, bytes: &[u8]) -> io::Result<()> {
+// On the device, not only on the way to it. What is stored is closed with no error.
+fn store(mut file: impl Write + OpenFile + Drop, bytes: &[u8]) -> io::Result<()> {
     file.write_all(bytes)?;
     file.sync_all()
 }
 
-fn is_stored<D: Desk>(desk: &D, file: &mut D::File, name: &[u8], bytes: &[u8]) -> bool {
-    match store(file, bytes) {
-        Ok(()) => true,
-        Err(e) => {
-            messages::failed(desk, name, e);
-            false
-        }
-    }
+fn replace_by<D: Desk>(
+    desk: &D,
+    file: D::File,
+    path: &[u8],
+    name: &[u8],
+    bytes: &[u8],
+) -> Result<(), Told> {
+    store(file, bytes).map_err(|e| messages::failed(desk, name, e))?;
+    rename(desk, name, path).map_err(|e| messages::failed(desk, path, e))
 }
 
-// False where something failed. What is stored is closed with no error.
-fn fill<D: Desk>(desk: &D, mut file: D::File, name: &[u8], bytes: &[u8]) -> bool {
-    is_stored(desk, &mut file, name, bytes)
-}
-
-fn replace_by<D: Desk>(desk: &D, file: D::File, path: &[u8], name: &[u8], bytes: &[u8]) -> bool {
-    if !fill(desk, file, name, bytes) {
+fn replace(desk: &impl Desk, path: &[u8], name: &mut [u8], bytes: &[u8]) -> Result<(), Told> {
+    let file = create_temp(desk, name).map_err(|e| messages::failed(desk, name, e))?;
+    let replaced = replace_by(desk, file, path, name, bytes);
+    if replaced.is_err() {
         let _ = unlink(desk, name);
-        return false;
     }
-    if let Err(e) = rename(desk, name, path) {
-        messages::failed(desk, path, e);
-        let _ = unlink(desk, name);
-        return false;
-    }
-    true
+    replaced
 }
 
-fn replace(desk: &impl Desk, path: &[u8], name: &mut [u8], bytes: &[u8]) -> bool {
-    match create_temp(desk, name) {
-        Ok(file) => replace_by(desk, file, path, name, bytes),
-        Err(e) => {
-            messages::failed(desk, name, e);
-            false
-        }
-    }
-}
-
-// The file that argument i names; false where it isn't replaced.
-pub fn replace_secret(desk: &impl Desk, i: usize, bytes: &[u8]) -> bool {
-    let mut path = buffer();
-    let n = arg(desk, i, &mut path);
-    if n == 0 {
-        messages::bad_argument(desk, i);
-        return false;
-    }
+// The file that argument i names.
+pub fn replace_secret(desk: &impl Desk, i: usize, bytes: &[u8]) -> Result<(), Told> {
+    let path = path_at(desk, i)?;
+    let path = path.bytes();
     let mut room = [0u8; 4103];
-    let m = n + 7;
-    let name: &mut [u8] = &mut room[0..m];
-    name_beside(&path[..n], name);
-    replace(desk, &path[..n], name, bytes)
+    let n = path.len() + 7;
+    let name: &mut [u8] = &mut room[..n];
+    name_beside(path, name);
+    replace(desk, path, name, bytes)
 }

@@ -1,49 +1,13 @@
 // The parameter sets of each edition: their names on the command line, and the sizes of what their calls are lent.
+ghost use Rattle.std.specs.Prelude.{◌≡◌, ◌+◌, ◌*◌};
 ghost use Rattle.parameters.specs.Fits.{Fits};
-ghost use Rattle.cli_support.specs.Bounded.{Bounded, SetBounded};
+ghost use Rattle.cli_support.specs.Bounded.{Between, SetBounded};
 
-use crate::arguments::{arg, same};
+use crate::arguments::Word;
 use crate::desk::Desk;
 use parameters::{Edition, Parameters, ct_bytes, dk_bytes, ek_bytes, of_rank};
 use stages::entry_counts::steps;
 use stages::mask_counts::{strip_coeffs, strip_words};
-
-// An edition, and the rank of its set.
-#[derive(Clone, Copy)]
-pub enum Set {
-    Is(Edition, u32),
-    None,
-}
-
-// The set that a word names.
-fn set_named(word: &[u8]) -> Set {
-    if same(word, b"ml-kem-512") {
-        return Set::Is(Edition::MlKem, 2);
-    }
-    if same(word, b"ml-kem-768") {
-        return Set::Is(Edition::MlKem, 3);
-    }
-    if same(word, b"ml-kem-1024") {
-        return Set::Is(Edition::MlKem, 4);
-    }
-    if same(word, b"kyber512") {
-        return Set::Is(Edition::Kyber, 2);
-    }
-    if same(word, b"kyber768") {
-        return Set::Is(Edition::Kyber, 3);
-    }
-    if same(word, b"kyber1024") {
-        return Set::Is(Edition::Kyber, 4);
-    }
-    Set::None
-}
-
-// The set that argument i names.
-pub fn set_at(desk: &impl Desk, i: usize) -> Set {
-    let mut word = [0u8; 16];
-    let n = arg(desk, i, &mut word);
-    set_named(&word[..n])
-}
 
 #[derive(Clone, Copy)]
 pub struct Sizes {
@@ -57,11 +21,19 @@ pub struct Sizes {
     pub words: usize, // masks of a strip
     pub coeffs: usize,
     pub steps: u64,
+    pub ghost between: { Between k ek dk ct words coeffs steps },
+    pub ghost share: { coefficients ≡ 256 * k },
+    pub ghost public_key: { public ≡ 384 * k + 64 },
+}
+
+impl Sizes {
+    pub fn rank(self) -> u32 {
+        self.k as u32
+    }
 }
 
 fn measured(e: Edition, p: Parameters) -> Sizes
     requires { Fits p × SetBounded e p }
-    ensures { Bounded result }
 {
     Sizes {
         edition: e,
@@ -77,8 +49,24 @@ fn measured(e: Edition, p: Parameters) -> Sizes
     }
 }
 
-pub fn sizes_of(e: Edition, rank: u32) -> Sizes
-    ensures { Bounded result }
-{
+fn sizes_of(e: Edition, rank: u32) -> Sizes {
     measured(e, of_rank(rank))
+}
+
+// Of the set that a word names.
+fn sizes_named(word: &[u8]) -> Option<Sizes> {
+    match word {
+        b"ml-kem-512" => Some(sizes_of(Edition::MlKem, 2)),
+        b"ml-kem-768" => Some(sizes_of(Edition::MlKem, 3)),
+        b"ml-kem-1024" => Some(sizes_of(Edition::MlKem, 4)),
+        b"kyber512" => Some(sizes_of(Edition::Kyber, 2)),
+        b"kyber768" => Some(sizes_of(Edition::Kyber, 3)),
+        b"kyber1024" => Some(sizes_of(Edition::Kyber, 4)),
+        _ => None,
+    }
+}
+
+// Of the set that argument i names.
+pub fn sizes_at(desk: &impl Desk, i: usize) -> Option<Sizes> {
+    sizes_named(Word::<16>::at(desk, i).bytes())
 }

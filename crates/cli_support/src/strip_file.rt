@@ -1,61 +1,73 @@
 // The file of a strip: its words, then its coefficients.
-ghost use Rattle.std.specs.Prelude.{◌≡◌, ◌+◌, ◌*◌, ◌≤◌, length};
+ghost use Rattle.std.specs.Prelude.{◌≡◌, ◌+◌, ◌*◌, length, take};
 ghost use Rattle.cli_support.specs.StripFile.{StripUnpacked};
 
 use crate::desk::Desk;
 use crate::inputs::read_exact;
+use crate::messages::Told;
+use crate::sets::Sizes;
 use buffers::little_endian::{get_coefficients, get_words};
+use buffers::values;
 
-pub fn unpack(b: &[u8], words: &mut [u64], coeffs: &mut [u16])
-    requires { length b.now ≡ 8 * length words.old + 2 * length coeffs.old }
-    ensures { StripUnpacked (length words.old) (length coeffs.old)
-        b.now words.new coeffs.new }
-{
-    let n = 8 * words.len();
-    get_words(&b[0..n], words);
-    get_coefficients(&b[n..], coeffs);
-}
-
-fn read_packed(
-    desk: &impl Desk,
-    i: usize,
-    b: &mut [u8],
-    words: &mut [u64],
-    coeffs: &mut [u16],
-) -> bool
-    requires { length b.old ≡ 8 * length words.old + 2 * length coeffs.old }
-{
-    if !read_exact(desk, i, b) {
-        return false;
-    }
-    unpack(b, words, coeffs);
-    true
-}
-
-// Of the largest set.
+// A file of the largest set.
 fn zeros() -> [u8; 140480]
     ensures { 140480 ≡ length result }
 {
     [0; 140480]
 }
 
-pub fn read_strip(desk: &impl Desk, i: usize, words: &mut [u64], coeffs: &mut [u16]) -> bool
-    requires { (length words.old ≤ 15192) × (length coeffs.old ≤ 9472) }
-{
-    let mut b = zeros();
-    let n = 8 * words.len() + 2 * coeffs.len();
-    read_packed(desk, i, &mut b[0..n], words, coeffs)
+// Of a set's size, in room for the largest.
+#[derive(Drop)]
+pub struct Strip {
+    set: Sizes,
+    words: [u64; 15192],
+    coeffs: [u16; 9472],
 }
 
-// Room for the largest set's.
-pub fn words() -> [u64; 15192]
-    ensures { 15192 ≡ length result }
-{
-    [0; 15192]
-}
+impl Strip {
+    pub fn zeros(set: Sizes) -> Self
+        ensures { result.set ≡ set }
+    {
+        Strip {
+            set,
+            words: [0; 15192],
+            coeffs: [0; 9472],
+        }
+    }
 
-pub fn coefficients() -> [u16; 9472]
-    ensures { 9472 ≡ length result }
-{
-    [0; 9472]
+    // From the file's bytes.
+    pub fn unpack(&mut self, b: &[u8])
+        requires { length b.now ≡ 8 * self.old.set.words + 2 * self.old.set.coeffs }
+        ensures sizes { self.new.set ≡ self.old.set }
+        ensures unpacked { StripUnpacked self.old.set.words self.old.set.coeffs b.now
+            (take self.old.set.words self.new.words) (take self.old.set.coeffs self.new.coeffs) }
+    {
+        let m = self.set.words;
+        let n = self.set.coeffs;
+        get_words(&b[..8 * m], &mut self.words[..m]);
+        get_coefficients(&b[8 * m..], &mut self.coeffs[..n]);
+    }
+
+    pub fn read(&mut self, desk: &impl Desk, i: usize) -> Result<(), Told> {
+        let mut b = zeros();
+        let n = 8 * self.set.words + 2 * self.set.coeffs;
+        let file: &mut [u8] = &mut b[..n];
+        read_exact(desk, i, file)?;
+        self.unpack(file);
+        Ok(())
+    }
+
+    // The coefficients modulo q.
+    pub fn reduce(&mut self) {
+        let n = self.set.coeffs;
+        values::reduce(&mut self.coeffs[..n]);
+    }
+
+    pub fn words(&self) -> &[u64] {
+        &self.words[..self.set.words]
+    }
+
+    pub fn coeffs(&self) -> &[u16] {
+        &self.coeffs[..self.set.coeffs]
+    }
 }

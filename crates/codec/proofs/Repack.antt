@@ -27,6 +27,13 @@ pub record Repacked (a b : ℕ) (s t : List ℕ) (i k n acc : ℕ) : Type 0 wher
   pub below : Below (2 ^ b) (take k t)
   pub same : bits_of a (take i s) ≡ bits_of b (take k t) ++ digits 2 n acc
 
+-- whatever is stored: what was so with i₀ loaded and n₀ bits in acc₀ is so with i loaded and n bits in acc
+pub record Loaded (a b : ℕ) (s : List ℕ) (i₀ n₀ acc₀ i n acc : ℕ) : Type 0 where
+  pub keeps : (t : List ℕ) (k : ℕ) → Repacked a b s t i₀ k n₀ acc₀ → Repacked a b s t i k n acc
+
+pub loaded_start : {a b i n acc : ℕ} {s : List ℕ} → Loaded a b s i n acc i n acc
+loaded_start = record { keeps = λ t k r. r }
+
 pub repacked_start : (a b : ℕ) (s t : List ℕ) → Repacked a b s t 0 0 0 0
 unfolding bits_of digits
 repacked_start a b s t = record { room = omega arith; count = omega arith; below = below_nil (pow_pos b); same = refl }
@@ -46,6 +53,11 @@ repacked_load {a} {b} {i} {k} {n} {acc} {s} {t} r h l =
           ∙ append_assoc (bits_of b (take k t)) (digits 2 n acc) (digits 2 a x)
           ∙ ap (λ (l : List ℕ). bits_of b (take k t) ++ l) (sym (digits_append 2 n a acc x (omega arith) r.room)));
     }
+
+pub loaded_turn : {a b i₀ n₀ acc₀ i n acc : ℕ} {s : List ℕ} → Loaded a b s i₀ n₀ acc₀ i n acc → i < length s
+    → get_or s i 0 < 2 ^ a
+    → Loaded a b s i₀ n₀ acc₀ (i + 1) (n + a) (acc + get_or s i 0 * 2 ^ n)
+loaded_turn h g l = record { keeps = λ t k r. repacked_load (h.keeps t k r) g l }
 
 pub repacked_store : {a b i k n acc : ℕ} {s t : List ℕ} → Repacked a b s t i k n acc → b ≤ n → k < length t
     → Repacked a b s (set t k (acc % 2 ^ b)) i (k + 1) (n - b) (acc / 2 ^ b)
@@ -69,8 +81,7 @@ repacked_store {a} {b} {i} {k} {n} {acc} {s} {t} r h l =
     }
 
 module _ {a b i k n acc : ℕ} {s t : List ℕ} (r : Repacked a b s t i k n acc) (whole : b * length t ≡ a * length s) where
-  -- where a store has to wait, there is one more to load
-  pub repacked_more : n < b → k < length t → i < length s
+  repacked_more : n < b → k < length t → i < length s
   repacked_more h l = lt_of_mul-lt-mul_left a (omega (arith, r.count, mul-le-mul_left b l))
 
   pub repacked_end : 0 < a → i ≤ length s → k ≡ length t → t ≡ numbers_of b (length t) (bits_of a s)
@@ -85,3 +96,9 @@ module _ {a b i k n acc : ℕ} {s t : List ℕ} (r : Repacked a b s t i k n acc)
       (ap (bits_of a) (sym (take_all i s (le_of_eq (sym all)))) ∙ r.same
       ∙ ap₂ (λ (l m : List ℕ). bits_of b l ++ m) t-all (ap (λ (m : ℕ). digits 2 m acc) none) ∙ append-nil (bits_of b t))
       ∙ numbers_of-bits_of b t (rw t-all at r.below))
+
+-- where a store has to wait, there is one more to load
+pub loaded_more : {a b i₀ n₀ acc₀ i n acc k : ℕ} {s t : List ℕ} → Loaded a b s i₀ n₀ acc₀ i n acc
+    → Repacked a b s t i₀ k n₀ acc₀ → b * length t ≡ a * length s → n < b → k < length t
+    → i < length s
+loaded_more h r whole = repacked_more (h.keeps _ _ r) whole

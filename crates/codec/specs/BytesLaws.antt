@@ -1,6 +1,8 @@
 -- Encoding and decoding undo each other.
-use Rattle.std.specs.Prelude.{◌≡◌, refl, List, [], ◌∷◌, ◌++◌, map, ℕ, zero, suc, ◌+◌, ◌*◌, ◌%◌, ◌^◌, ◌<◌, length, get_or, take, drop}
-use Rattle.std.proofs.Common.{sym, ap, ap₂, ◌∙◌, append_assoc, mod-eq_of_lt, arith, pow_pos, length-append, length-take, length-drop, take-append-drop, take_at, drop_at, drop-drop}
+use Rattle.std.specs.Prelude.{◌≡◌, refl, List, [], ◌∷◌, ◌++◌, map, ℕ, zero, suc, ◌+◌, ◌*◌, ◌%◌, ◌^◌, ◌<◌, length}
+use Rattle.std.specs.Prelude.{get_or, take, drop}
+use Rattle.std.proofs.Common.{sym, ap, ap₂, ◌∙◌, append_assoc, mod-eq_of_lt, arith, pow_pos, length-append, length-take}
+use Rattle.std.proofs.Common.{length-drop, take-append-drop, take_at, drop_at, drop-drop}
 use Rattle.std.proofs.lemmas.List.{length-map}
 use Rattle.words.specs.Residue.{q}
 use Rattle.words.specs.Bounded.{Below}

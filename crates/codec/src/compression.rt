@@ -5,7 +5,7 @@ ghost use Rattle.codec.specs.Compress.{compress, decompress};
 ghost use Rattle.codec.specs.Lent.{DecompressInput};
 
 use crate::bits::{high, low, shifted, wide16};
-use ring::quotient;
+use ring::{map_coefficients, quotient};
 
 // Compress_d, (4.7): (2 a + q) / (2 q) is (a + 1664) / q.
 pub fn compress(x: u16, d: u32) -> u16
@@ -28,9 +28,7 @@ pub fn compress_all(f: &mut [u16], d: u32)
     requires { d ≤ 11 }
     ensures { f.new ≡ map (compress d) f.old }
 {
-    for i in 0..f.len() {
-        f[i] = compress(f[i], d);
-    }
+    map_coefficients(f, |x| compress(x, d));
 }
 
 // Decompress_d of every coefficient
@@ -38,7 +36,5 @@ pub fn decompress_all(f: &mut [u16], d: u32)
     requires { (d ≤ 11) × Below (2 ^ d) f.old }
     ensures { f.new ≡ map (decompress d) f.old }
 {
-    for i in 0..f.len() {
-        f[i] = decompress(f[i], d);
-    }
+    map_coefficients(f, |y| decompress(y, d));
 }

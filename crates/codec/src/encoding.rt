@@ -5,9 +5,9 @@ ghost use Rattle.codec.specs.Bytes.{byte_encode, byte_decode, byte_decode12};
 ghost use Rattle.codec.specs.Lent.{EncodeInput, DecodeInput};
 
 use crate::bits::{high, low, low_byte, put_above, wide8, wide16};
-use ring::reduce;
+use ring::{map_coefficients, remainder};
 
-// Algorithm 5, ByteEncode_d: each turn loads a coefficient or stores a byte.
+// Algorithm 5, ByteEncode_d: coefficients are loaded until their bits fill the next byte.
 pub fn byte_encode(f: &[u16], d: u32, out: &mut [u8])
     requires { EncodeInput f.now d out.old }
     ensures { out.new ≡ byte_encode d f.now }
@@ -15,22 +15,19 @@ pub fn byte_encode(f: &[u16], d: u32, out: &mut [u8])
     let mut acc: u32 = 0;
     let mut n: u32 = 0;
     let mut i = 0;
-    let mut k = 0;
-    while k < out.len() {
-        if n < 8 {
+    for byte in out.iter_mut() {
+        while n < 8 {
             acc = put_above(acc, wide16(f[i]), n);
             n += d;
             i += 1;
-        } else {
-            out[k] = low_byte(acc);
-            acc = high(acc, 8);
-            n -= 8;
-            k += 1;
         }
+        *byte = low_byte(acc);
+        acc = high(acc, 8);
+        n -= 8;
     }
 }
 
-// Algorithm 6, ByteDecode_d, its numbers not yet reduced at d = 12: each turn loads a byte or stores a coefficient.
+// Algorithm 6, ByteDecode_d, its numbers not yet reduced at d = 12: bytes are loaded until they hold the next number.
 pub fn byte_decode(b: &[u8], d: u32, f: &mut [u16])
     requires { DecodeInput b.now d f.old }
     ensures { f.new ≡ byte_decode d b.now }
@@ -38,27 +35,15 @@ pub fn byte_decode(b: &[u8], d: u32, f: &mut [u16])
     let mut acc: u32 = 0;
     let mut n: u32 = 0;
     let mut i = 0;
-    let mut k = 0;
-    while k < f.len() {
-        if n < d {
+    for x in f.iter_mut() {
+        while n < d {
             acc = put_above(acc, wide8(b[i]), n);
             n += 8;
             i += 1;
-        } else {
-            f[k] = low(acc, d);
-            acc = high(acc, d);
-            n -= d;
-            k += 1;
         }
-    }
-}
-
-// every number modulo q
-fn reduce_all(f: &mut [u16])
-    ensures { f.new ≡ map (λ x. x % q) f.old }
-{
-    for i in 0..f.len() {
-        f[i] = reduce(wide16(f[i]));
+        *x = low(acc, d);
+        acc = high(acc, d);
+        n -= d;
     }
 }
 
@@ -68,5 +53,5 @@ pub fn byte_decode12(b: &[u8], f: &mut [u16])
     ensures { f.new ≡ byte_decode12 b.now }
 {
     byte_decode(b, 12, f);
-    reduce_all(f);
+    map_coefficients(f, |x| remainder(x));
 }

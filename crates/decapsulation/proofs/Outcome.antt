@@ -3,15 +3,16 @@ use mathlib.Core.Path.{◌≡◌, refl, sym, ap, ◌∙◌}
 use mathlib.Core.Bool.{Bool, true, false, ◌&&◌}
 use mathlib.Core.List.{List, [], ◌∷◌, ◌++◌}
 use Prim.Native.Nat.{ℕ, ◌+◌, ◌*◌, ◌<◌, ◌≤◌}
-use native.Mathlib.Omega.{arith}
 use borrow.Author.Tests.{lt-ltb, le-ltb}
 use lib.ListN.{length}
 use Rattle.worksheet.specs.SharedList.{shared_list}
-use Rattle.refusals.specs.declared.Answer.{Answer}
-use Rattle.refusals.specs.declared.Answer.TheVariants.{WrongLength, LimitReached}
-use Rattle.refusals.specs.Refusals.{number, answer, after, Lent, lent, sized}
+use Rattle.std.specs.Prelude.{Err}
+use Rattle.refusals.specs.declared.Refusal.{Refusal}
+use Rattle.refusals.specs.declared.Refusal.TheVariants.{WrongLength, LimitReached}
+use Rattle.refusals.specs.Refusals.{Answer, refusal_number, number, answer, after, Lent, lent, sized}
 use Rattle.refusals.specs.SameLaws.{and_left, and_right}
-use Rattle.refusals.specs.RefusalLaws.{refused, passed, after_kept, wants, sized-exact, sized_both}
+use Rattle.refusals.specs.RefusalLaws.{refusal_number-positive, refused, passed, after_kept, wants, sized-exact}
+use Rattle.refusals.specs.RefusalLaws.{sized_both}
 use Rattle.tracing.specs.Told.{told_answer, told_value, left_of}
 use Rattle.tracing.specs.Trace.{step_answer, step_value}
 use Rattle.tracing.proofs.ToldLaws.{told_none, left_answer, left_value}
@@ -23,7 +24,7 @@ use Rattle.stages.specs.EntryCounts.{steps}
 use Rattle.stages.specs.Counts.{strip_words, strip_coeffs}
 use Rattle.stages.specs.Lent.{Long}
 use Rattle.decapsulation_run.specs.Input.{Input, range_rows, sheet}
-use Rattle.decapsulation_run.specs.InputLaws.{range_refusing, sheet-steps}
+use Rattle.decapsulation_run.specs.InputLaws.{sheet-steps}
 use Rattle.decapsulation_run.specs.Sized.{CallSized}
 use Rattle.decapsulation_run.specs.Told.{Told}
 use Rattle.decapsulation.specs.Calls.{lengths, trace_rows, decaps_answer, decaps_shares, Decapsulated}
@@ -47,25 +48,26 @@ module _ (e : Edition) (p : Parameters) (g : Input) (limit count : ℕ) (k0 k1 :
   tested : (a && b) ≡ sized (lengths e p g ++ shares k0 k1)
   tested = rw (i, o) (sym (sized_both (lengths e p g) (shares k0 k1)))
 
-  decaps_refused : (r : Answer) → 0 < number r → decaps_answer e p g limit count k0 k1 ≡ r
-      → Decapsulated e p g limit count k0 k1 (number r) count k0 k1
-  decaps_refused r h f =
+  decaps_refused : (r : Refusal) → decaps_answer e p g limit count k0 k1 ≡ Err r
+      → Decapsulated e p g limit count k0 k1 (refusal_number r) count k0 k1
+  decaps_refused r f =
+      let h = refusal_number-positive r in
       record {
         answer = ap number (sym f);
-        count = after_kept r (count + 1) count h;
-        share0 = after_kept r _ k0 h;
-        share1 = after_kept r _ k1 h;
+        count = after_kept (Err r) (count + 1) count h;
+        share0 = after_kept (Err r) _ k0 h;
+        share1 = after_kept (Err r) _ k1 h;
       }
 
-  pub wrong_length : (a && b) ≡ false → Decapsulated e p g limit count k0 k1 (number WrongLength) count k0 k1
+  pub wrong_length : (a && b) ≡ false → Decapsulated e p g limit count k0 k1 (refusal_number WrongLength) count k0 k1
   unfolding decaps_answer
-  wrong_length f = decaps_refused WrongLength (omega arith) (refused WrongLength _ (sym tested ∙ f))
+  wrong_length f = decaps_refused WrongLength (refused WrongLength _ (sym tested ∙ f))
 
   module _ (t : (a && b) ≡ true) where
-    pub limit_reached : limit ≤ count → Decapsulated e p g limit count k0 k1 (number LimitReached) count k0 k1
+    pub limit_reached : limit ≤ count → Decapsulated e p g limit count k0 k1 (refusal_number LimitReached) count k0 k1
     unfolding decaps_answer
     limit_reached h =
-        decaps_refused LimitReached (omega arith)
+        decaps_refused LimitReached
         (passed WrongLength _ (sym tested ∙ t) (refused LimitReached _ (le-ltb count limit h)))
 
     pub decaps_sized : Fits p → CallSized e p g (shared_list k0 k1)
@@ -92,15 +94,20 @@ module _ (e : Edition) (p : Parameters) (g : Input) (limit count : ℕ) (k0 k1 :
           share1 = d.share1;
         }
 
+-- a refused call isn't counted
+pub refused_kept : {x : Answer} {r : Refusal} → x ≡ Err r → (count : ℕ) → count ≡ after (number x) (count + 1) count
+refused_kept {r = r} h count = rw h (after_kept (Err r) (count + 1) count (refusal_number-positive r))
+
 -- ---- trace
 
 module _ (e : Edition) (p : Parameters) (g : Input) (t v : ℕ) {a : Bool} (i : a ≡ sized (lengths e p g)) where
-  pub trace_refused : a ≡ false → Traced e p g t v (number WrongLength) v
+  pub trace_refused : a ≡ false → Traced e p g t v (refusal_number WrongLength) v
   unfolding trace_answer trace_value step_answer
   trace_refused f =
       record {
         answer = ap number (sym (refused WrongLength _ (sym i ∙ f)));
-        value = after_kept WrongLength (step_value (sheet e p g).entries t) v (omega arith);
+        value = after_kept (Err WrongLength) (step_value (sheet e p g).entries t) v
+            (refusal_number-positive WrongLength);
       }
 
   module _ (h : a ≡ true) where
@@ -120,13 +127,13 @@ module _ (e : Edition) (p : Parameters) (g : Input) (t v : ℕ) {a : Bool} (i : 
         let x : n ≡ number (step_answer rs (length entries) t) =
         o.answer
         ∙ ap (λ (l : ℕ). number (told_answer rs (length entries) l)) f
-        ∙ ap number (left_answer rs (length entries) m t (range_refusing p g) (λ d. c)) in
+        ∙ ap number (left_answer rs (length entries) m t (λ d. c)) in
         record {
           answer = x ∙ ap number (sym r);
           value =
               o.value
               ∙ ap (λ (l : ℕ). after n (told_value l entries) v) f
               ∙ ap (λ (y : ℕ). after y (told_value (left_of t m) entries) v) x
-              ∙ left_value rs (length entries) m t (range_refusing p g) (λ d. c) entries v
+              ∙ left_value rs (length entries) m t (λ d. c) entries v
               ∙ sym (ap (λ (y : ℕ). after y (step_value entries t) v) x);
         }

@@ -1,17 +1,16 @@
 -- What the calls answer, by the outcomes of their tests.
-use Rattle.std.specs.Prelude.{◌≡◌, Bool, true, false, not, cond, ◌&&◌, ℕ, ◌+◌, ◌<◌, ltb, length}
+use Rattle.std.specs.Prelude.{◌≡◌, Bool, true, false, not, cond, ◌&&◌, ℕ, ◌+◌, ◌<◌, ltb, length, Err}
 use Rattle.std.proofs.Math.Path.{refl, ap}
-use Rattle.std.proofs.Common.{sym, ◌∙◌, arith}
+use Rattle.std.proofs.Common.{sym, ◌∙◌}
 use mathlib.Core.List.{List, [], ◌∷◌, ◌++◌}
 use borrow.Author.Tests.{ltb-true}
-use Rattle.refusals.specs.declared.Answer.TheVariants.{Done, WrongLength, MaskRange, ShortStream}
-use Rattle.refusals.specs.declared.Answer.TheVariants.{NoSuchStep, LimitReached}
-use Rattle.refusals.specs.Refusals.{Row, row, answer, lent, sized}
+use Rattle.refusals.specs.declared.Refusal.TheVariants.{WrongLength, MaskRange, ShortStream}
+use Rattle.refusals.specs.declared.Refusal.TheVariants.{NoSuchStep, LimitReached}
+use Rattle.refusals.specs.Refusals.{Done, Row, row, answer, lent, sized}
 use Rattle.refusals.specs.SameLaws.{and_left}
-use Rattle.refusals.specs.RefusalLaws.{refused, passed, no_row, done_passed}
+use Rattle.refusals.specs.RefusalLaws.{refusal_number-positive, refused, passed, no_row, done_passed}
 use Rattle.refusals.specs.RefusalLaws.{sized-exact, exact-sized, sized_both}
 use Rattle.tracing.specs.Trace as trace
-use Rattle.tracing.specs.Refusing.{Refusing}
 use Rattle.tracing.proofs.ToldLaws.{told_refused, told_step, trace_passed}
 use Rattle.parameters.specs.declared.Edition.{Edition}
 use Rattle.parameters.specs.declared.Parameters.{Parameters}
@@ -21,7 +20,7 @@ use Rattle.mlkem.specs.Calls.{rho_of}
 use Rattle.split_key.specs.SplitKey.{ek_of}
 use Rattle.stages.specs.EntryCounts.{steps}
 use Rattle.decapsulation_run.specs.Input.{Input, sheet}
-use Rattle.decapsulation_run.specs.InputLaws.{range_refusing, range_passed, sheet-steps}
+use Rattle.decapsulation_run.specs.InputLaws.{range_passed, sheet-steps}
 use Rattle.decapsulation_run.specs.Sized.{Sized}
 use Rattle.decapsulation.specs.Calls.{lengths, length_row, decaps_answer, trace_rows, trace_answer}
 
@@ -59,9 +58,9 @@ module _ (e : Edition) (p : Parameters) (g : Input) where
   unfolding decaps_answer
   decaps_tested limit count k0 k1 d =
       let k = lent k0 4 ∷ lent k1 4 ∷ [] in
-      let r₁ = done_passed (sized (lengths e p g ++ k)) WrongLength _ (omega arith) d in
-      let r₁₁ = done_passed (ltb count limit) LimitReached _ (omega arith) r₁.1 in
-      let r₅ = done_passed (reduced g.coeffs) MaskRange _ (omega arith) r₁₁.1 in
+      let r₁ = done_passed (sized (lengths e p g ++ k)) WrongLength _ d in
+      let r₁₁ = done_passed (ltb count limit) LimitReached _ r₁.1 in
+      let r₅ = done_passed (reduced g.coeffs) MaskRange _ r₁₁.1 in
       record {
         long = sized_lengths (and_left _ (sized k) (sym (sized_both (lengths e p g) k) ∙ r₁.0));
         usable = ltb-true count limit r₁₁.0;
@@ -88,7 +87,8 @@ module _ (e : Edition) (p : Parameters) (g : Input) where
   pub trace_rows_lem : (t : ℕ) → Sized e p g → reduced g.coeffs ≡ true
       → (reduced g.key.s.s0 && reduced g.key.s.s1) ≡ true
       → trace_answer e p g t
-      ≡ cond (matrix_full p.k (rho_of p (ek_of p g.key))) (cond (ltb t (steps e p)) Done NoSuchStep) ShortStream
+      ≡ cond (matrix_full p.k (rho_of p (ek_of p g.key))) (cond (ltb t (steps e p)) Done (Err NoSuchStep))
+      (Err ShortStream)
   unfolding trace_answer
   trace_rows_lem t l m s = go (matrix_full p.k (rho_of p (ek_of p g.key))) refl
     where
@@ -98,16 +98,14 @@ module _ (e : Edition) (p : Parameters) (g : Input) where
       n : ℕ
       n = length (sheet e p g).entries
 
-      refusing : Refusing rs
-      refusing = (omega arith, range_refusing p g)
-
       go : (b : Bool) → matrix_full p.k (rho_of p (ek_of p g.key)) ≡ b
-          → trace.step_answer rs n t ≡ cond b (cond (ltb t (steps e p)) Done NoSuchStep) ShortStream
+          → trace.step_answer rs n t ≡ cond b (cond (ltb t (steps e p)) Done (Err NoSuchStep)) (Err ShortStream)
       go true h =
-          trace_passed rs n refusing
+          trace_passed rs n
           (passed WrongLength _ (lengths_sized l) (range_passed p g m s (passed ShortStream _ h no_row))) t
-          ∙ ap (λ (k : ℕ). cond (ltb t k) Done NoSuchStep) (sheet-steps e p g l)
+          ∙ ap (λ (k : ℕ). cond (ltb t k) Done (Err NoSuchStep)) (sheet-steps e p g l)
       go false h =
           sym (told_step rs n t)
           ∙ told_refused rs n (t + 1)
-          (passed WrongLength _ (lengths_sized l) (range_passed p g m s (refused ShortStream _ h))) (omega arith)
+          (passed WrongLength _ (lengths_sized l) (range_passed p g m s (refused ShortStream _ h)))
+          (refusal_number-positive ShortStream)

@@ -2,9 +2,8 @@
 use Rattle.std.specs.Prelude.{◌≡◌, Bool, not, List, [], ◌∷◌, ◌++◌, ℕ, ◌+◌, ◌^◌, ltb, length}
 use Rattle.words.specs.Bounded.{Below}
 use Rattle.worksheet.specs.SharedList.{SharedList}
-use Rattle.refusals.specs.declared.Answer.{Answer}
-use Rattle.refusals.specs.declared.Answer.TheVariants.{WrongLength, LimitReached}
-use Rattle.refusals.specs.Refusals.{number, after, Row, row, answer, Lent, lent, sized}
+use Rattle.refusals.specs.declared.Refusal.TheVariants.{WrongLength, LimitReached}
+use Rattle.refusals.specs.Refusals.{Answer, number, after, Row, row, answer, Lent, lent, sized}
 use Rattle.tracing.specs.Trace as trace
 use Rattle.parameters.specs.declared.Edition.{Edition}
 use Rattle.parameters.specs.declared.Parameters.{Parameters}

@@ -1,13 +1,13 @@
 // The calls: row 1, row 11 where a split key is used, then one function, told a step number or none.
 ghost use Rattle.parameters.specs.Fits.{Fits};
 ghost use Rattle.refusals.specs.Refusals.{number};
-ghost use Rattle.decapsulation_run.specs.Input.{input};
+ghost use Rattle.decapsulation_run.specs.Lent.{input_of};
 ghost use Rattle.decapsulation.specs.Calls.{Decapsulated, Traced, DecapsulatedBy, TracedBy};
 
 use crate::lengths::{exact_input, exact_shares};
-use decapsulation_run::decapsulate;
-use parameters::{Edition, Parameters, is_rank, of_rank};
-use refusals::Answer;
+use decapsulation_run::{Input, decapsulate};
+use parameters::{Edition, Parameters};
+use refusals::{Answer, Refusal};
 use stages::entry_counts::steps;
 use tracing::left_of;
 
@@ -15,155 +15,63 @@ use tracing::left_of;
 fn decaps_at(
     e: Edition,
     p: Parameters,
-    s0: &[u16],
-    s1: &[u16],
-    z0: &[u64],
-    z1: &[u64],
-    public: &[u8],
+    input: &Input,
     limit: u32,
     count: &mut u32,
-    ct: &[u8],
-    words: &[u64],
-    coeffs: &[u16],
     k0: &mut [u64],
     k1: &mut [u64],
 ) -> Answer
     requires { Fits p }
-    ensures { Decapsulated e p
-        (input s0.now s1.now z0.now z1.now public.now
-        ct.now words.now coeffs.now)
-        limit count.old k0.old k1.old (number result)
+    ensures { Decapsulated e p (input_of input.now) limit count.old k0.old k1.old (number result)
         count.new k0.new k1.new }
 {
     let used = *count;
-    let exact = exact_input(e, p, s0, s1, z0, z1, public, ct, words, coeffs);
+    let exact = exact_input(e, p, input);
     if !(exact & exact_shares(k0.len(), k1.len())) {
-        return Answer::WrongLength;
+        return Err(Refusal::WrongLength);
     }
     if used >= limit {
-        return Answer::LimitReached;
+        return Err(Refusal::LimitReached);
     }
     let mut value: u64 = 0;
-    let answer = decapsulate(
-        0, e, p, s0, s1, z0, z1, public, ct, words, coeffs, k0, k1, &mut value,
-    );
-    if refusals::number(answer) == 0 {
-        *count = used + 1;
-    }
-    answer
+    decapsulate(0, e, p, input, k0, k1, &mut value)?;
+    *count = used + 1;
+    Ok(())
 }
 
 // Masked decapsulation for the parameter set of a rank.
 pub fn decaps(
     e: Edition,
     rank: u32,
-    s0: &[u16],
-    s1: &[u16],
-    z0: &[u64],
-    z1: &[u64],
-    public: &[u8],
+    input: &Input,
     limit: u32,
     count: &mut u32,
-    ct: &[u8],
-    words: &[u64],
-    coeffs: &[u16],
     k0: &mut [u64],
     k1: &mut [u64],
 ) -> Answer
-    ensures { DecapsulatedBy e rank
-        (input s0.now s1.now z0.now z1.now public.now
-        ct.now words.now coeffs.now)
-        limit count.old k0.old k1.old (number result)
+    ensures { DecapsulatedBy e rank (input_of input.now) limit count.old k0.old k1.old (number result)
         count.new k0.new k1.new }
 {
-    if !is_rank(rank) {
-        return Answer::NoSuchRank;
-    }
-    decaps_at(
-        e,
-        of_rank(rank),
-        s0,
-        s1,
-        z0,
-        z1,
-        public,
-        limit,
-        count,
-        ct,
-        words,
-        coeffs,
-        k0,
-        k1,
-    )
+    decaps_at(e, Parameters::try_from(rank)?, input, limit, count, k0, k1)
 }
 
 // Told a step.
-fn trace_at(
-    e: Edition,
-    p: Parameters,
-    s0: &[u16],
-    s1: &[u16],
-    z0: &[u64],
-    z1: &[u64],
-    public: &[u8],
-    ct: &[u8],
-    words: &[u64],
-    coeffs: &[u16],
-    step: u64,
-    value: &mut u64,
-) -> Answer
+fn trace_at(e: Edition, p: Parameters, input: &Input, step: u64, value: &mut u64) -> Answer
     requires { Fits p }
-    ensures { Traced e p
-        (input s0.now s1.now z0.now z1.now public.now
-        ct.now words.now coeffs.now)
-        step value.old (number result) value.new }
+    ensures { Traced e p (input_of input.now) step value.old (number result) value.new }
 {
-    if !exact_input(e, p, s0, s1, z0, z1, public, ct, words, coeffs) {
-        return Answer::WrongLength;
+    if !exact_input(e, p, input) {
+        return Err(Refusal::WrongLength);
     }
     let mut k0 = [0u64; 4];
     let mut k1 = [0u64; 4];
     let left = left_of(step, steps(e, p) as u64);
-    decapsulate(
-        left, e, p, s0, s1, z0, z1, public, ct, words, coeffs, &mut k0, &mut k1, value,
-    )
+    decapsulate(left, e, p, input, &mut k0, &mut k1, value)
 }
 
 // The trace of a step for the parameter set of a rank.
-pub fn trace(
-    e: Edition,
-    rank: u32,
-    s0: &[u16],
-    s1: &[u16],
-    z0: &[u64],
-    z1: &[u64],
-    public: &[u8],
-    ct: &[u8],
-    words: &[u64],
-    coeffs: &[u16],
-    step: u64,
-    value: &mut u64,
-) -> Answer
-    ensures { TracedBy e rank
-        (input s0.now s1.now z0.now z1.now public.now
-        ct.now words.now coeffs.now)
-        step value.old (number result) value.new }
+pub fn trace(e: Edition, rank: u32, input: &Input, step: u64, value: &mut u64) -> Answer
+    ensures { TracedBy e rank (input_of input.now) step value.old (number result) value.new }
 {
-    if !is_rank(rank) {
-        return Answer::NoSuchRank;
-    }
-    trace_at(
-        e,
-        of_rank(rank),
-        s0,
-        s1,
-        z0,
-        z1,
-        public,
-        ct,
-        words,
-        coeffs,
-        step,
-        value,
-    )
+    trace_at(e, Parameters::try_from(rank)?, input, step, value)
 }

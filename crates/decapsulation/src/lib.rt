@@ -5,3 +5,5 @@ mod decapsulation; // the calls
 mod lengths; // row 1
 
 pub use decapsulation::{decaps, trace};
+pub use decapsulation_run::Input;
+pub use split_key::SplitKey;

@@ -18,7 +18,7 @@ use masked_mlkem::comparison::stage8;
 use masked_mlkem::hashing::stage3;
 use parameters::{Parameters, ek_bytes};
 use stages::mask_counts::{encrypt_words, word_count};
-use worksheet::{EnteredShares, Recorder};
+use worksheet::{Entered, Recorder, Shares};
 
 // Stages 4 to 8, where planes0 and planes1 take stage 7's planes.
 fn reencryption_check_in(
@@ -35,7 +35,7 @@ fn reencryption_check_in(
     cs: &[u16],
     planes0: &mut [u64],
     planes1: &mut [u64],
-) -> EnteredShares
+) -> Entered<Shares>
     requires { ReencryptionCheckInput p ek.now a.now c.now (shared_list m0.now m1.now) (shared_list g0.now g1.now)
         ws.now cs.now
         × Long (word_count p) (shared_list planes0.old planes1.old) }
@@ -79,7 +79,7 @@ fn reencryption_check(
     g1: &[u64],
     ws: &[u64],
     cs: &[u16],
-) -> EnteredShares
+) -> Entered<Shares>
     requires { ReencryptionCheckInput p ek.now a.now c.now (shared_list m0.now m1.now) (shared_list g0.now g1.now)
         ws.now cs.now }
     ensures { GivesBit
@@ -124,7 +124,7 @@ pub fn compared(
     cs: &[u16],
     g0: &mut [u64],
     g1: &mut [u64],
-) -> EnteredShares
+) -> Entered<Shares>
     requires { CompareInput p (shared_list s0.now s1.now) public.now a.now c.now ws.now cs.now
         (shared_list g0.old g1.old) }
     ensures { GivesBit

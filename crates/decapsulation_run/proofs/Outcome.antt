@@ -2,47 +2,45 @@
 use mathlib.Core.Path.{◌≡◌, sym, ap}
 use mathlib.Core.List.{List}
 use Prim.Native.Nat.{ℕ, ◌<◌, ◌≤◌}
-use native.Mathlib.Omega.{arith}
 use lib.ListN.{length}
 use Rattle.worksheet.specs.declared.Recorder.{Recorder}
 use Rattle.worksheet.specs.Ran.{Ran}
 use Rattle.worksheet.specs.SharedList.{SharedList, shared_list}
-use Rattle.refusals.specs.declared.Answer.{Answer}
-use Rattle.refusals.specs.declared.Answer.TheVariants.{Done, NoSuchStep}
-use Rattle.refusals.specs.Refusals.{number, answer}
-use Rattle.refusals.specs.RefusalLaws.{after_kept}
+use Rattle.std.specs.Prelude.{Err}
+use Rattle.refusals.specs.declared.Refusal.{Refusal}
+use Rattle.refusals.specs.declared.Refusal.TheVariants.{NoSuchStep}
+use Rattle.refusals.specs.Refusals.{Done, refusal_number, number, answer}
+use Rattle.refusals.specs.RefusalLaws.{refusal_number-positive, after_kept}
 use Rattle.tracing.specs.Told.{told_answer}
 use Rattle.tracing.proofs.ToldLaws.{told_refused, told_over, told_done, ran-value}
 use Rattle.parameters.specs.declared.Edition.{Edition}
 use Rattle.parameters.specs.declared.Parameters.{Parameters}
 use Rattle.stages.specs.Worksheet.{worksheet}
 use Rattle.decapsulation_run.specs.Input.{Input, range_rows, sheet}
-use Rattle.decapsulation_run.specs.InputLaws.{range_refusing}
 use Rattle.decapsulation_run.specs.Told.{Told}
 
 module _ {e : Edition} {p : Parameters} {left : ℕ} {g : Input} {k0 k1 : List ℕ} {v : ℕ} where
   -- a refusal leaves everything
-  kept : (a : Answer) → 0 < number a → told_answer (range_rows p g) (length (sheet e p g).entries) left ≡ a
-      → Told e p left g k0 k1 v (number a) k0 k1 v
-  kept a h f =
+  kept : (r : Refusal) → told_answer (range_rows p g) (length (sheet e p g).entries) left ≡ Err r
+      → Told e p left g k0 k1 v (refusal_number r) k0 k1 v
+  kept r f =
+      let h = refusal_number-positive r in
       record {
         answer = ap number (sym f);
-        share0 = after_kept a _ k0 h;
-        share1 = after_kept a _ k1 h;
-        value = after_kept a _ v h;
+        share0 = after_kept (Err r) _ k0 h;
+        share1 = after_kept (Err r) _ k1 h;
+        value = after_kept (Err r) _ v h;
       }
 
   -- by a row
-  pub told_row : (a : Answer) → 0 < number a → answer (range_rows p g) ≡ a
-      → Told e p left g k0 k1 v (number a) k0 k1 v
-  told_row a h f = kept a h (told_refused (range_rows p g) (length (sheet e p g).entries) left f h)
+  pub told_row : (r : Refusal) → answer (range_rows p g) ≡ Err r → Told e p left g k0 k1 v (refusal_number r) k0 k1 v
+  told_row r f =
+      kept r (told_refused (range_rows p g) (length (sheet e p g).entries) left f (refusal_number-positive r))
 
   -- no row refuses, and the step is past the end
   pub told_past : answer (range_rows p g) ≡ Done → length (sheet e p g).entries < left
-      → Told e p left g k0 k1 v (number NoSuchStep) k0 k1 v
-  told_past d h =
-      kept NoSuchStep (omega arith)
-      (told_over (range_rows p g) (length (sheet e p g).entries) (range_refusing p g) d left h)
+      → Told e p left g k0 k1 v (refusal_number NoSuchStep) k0 k1 v
+  told_past d h = kept NoSuchStep (told_over (range_rows p g) (length (sheet e p g).entries) d left h)
 
   -- or not
   pub told-ran : {x y ws cs : List ℕ} {rec : Recorder} → answer (range_rows p g) ≡ Done
@@ -54,7 +52,7 @@ module _ {e : Edition} {p : Parameters} {left : ℕ} {g : Input} {k0 k1 : List �
       record {
         answer =
             ap number
-            (sym (told_done (range_rows p g) (length (sheet e p g).entries) (range_refusing p g) d left h));
+            (sym (told_done (range_rows p g) (length (sheet e p g).entries) d left h));
         share0 = sym (ap (λ (z : SharedList). z.s0) r.value);
         share1 = sym (ap (λ (z : SharedList). z.s1) r.value);
         value = ran-value r;

@@ -1,6 +1,6 @@
 -- Rho, as a part of the stored public key, and the matrix that the code expands from it.
 use mathlib.Core.Path.{◌≡◌, sym, ◌∙◌, subst}
-use mathlib.Core.Bool.{Bool, true}
+use mathlib.Core.Bool.{true}
 use mathlib.Core.List.{List}
 use Prim.Native.Nat.{ℕ, ◌+◌, ◌-◌}
 use native.Mathlib.Omega.{arith}
@@ -20,10 +20,10 @@ module _ {r n : ℕ} (l : List ℕ) (e : r ≡ n) (g : length l ≡ n + 32 + 32)
       (sym (part_take n 32 (n + 32) l (omega arith))
       ∙ take_all 32 (drop n (take (n + 32) l)) (omega (arith, length-drop n (take (n + 32) l), length-take (n + 32) l)))
 
-  pub expanded_public : (k : ℕ) (a : List ℕ) (b : Bool) → b ≡ matrix_full k (take (r + 32 - r) (drop r l)) → b ≡ true
-      → (b ≡ true → a ≡ concat k (λ i. concat k (matrix (take (r + 32 - r) (drop r l)) i)))
+  pub expanded_public : (k : ℕ) (a : List ℕ) → matrix_full k (take (r + 32 - r) (drop r l)) ≡ true
+      → a ≡ concat k (λ i. concat k (matrix (take (r + 32 - r) (drop r l)) i))
       → Expanded k (drop n (take (n + 32) l)) a
-  expanded_public k a b f t h =
+  expanded_public k a t h =
       let rho = take (r + 32 - r) (drop r l) in
       subst (λ (s : List ℕ). Expanded k s a) rho_part
-      (subst (Expanded k rho) (sym (h t)) (expanded-concat k rho (sym f ∙ t)))
+      (subst (Expanded k rho) (sym h) (expanded-concat k rho t))

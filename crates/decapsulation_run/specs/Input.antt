@@ -3,7 +3,7 @@
 use Rattle.std.specs.Prelude.{not, ◌&&◌, List, [], ◌∷◌, ℕ}
 use Rattle.worksheet.specs.Run.{Run, run}
 use Rattle.worksheet.specs.SharedList.{SharedList}
-use Rattle.refusals.specs.declared.Answer.TheVariants.{MaskRange, ShareRange, ShortStream}
+use Rattle.refusals.specs.declared.Refusal.TheVariants.{MaskRange, ShareRange, ShortStream}
 use Rattle.refusals.specs.Refusals.{Row, row}
 use Rattle.refusals.specs.Reduced.{reduced}
 use Rattle.parameters.specs.declared.Edition.{Edition}

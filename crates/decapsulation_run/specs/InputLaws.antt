@@ -2,12 +2,10 @@
 use Rattle.std.specs.Prelude.{◌≡◌, true, not, ◌&&◌, [], ◌∷◌, length}
 use Rattle.std.proofs.Common.{◌∙◌, arith, length-drop}
 use Rattle.worksheet.specs.Uses.{length-entries}
-use Rattle.refusals.specs.declared.Answer.{Answer}
-use Rattle.refusals.specs.declared.Answer.TheVariants.{MaskRange, ShareRange, ShortStream}
-use Rattle.refusals.specs.Refusals.{row, answer}
+use Rattle.refusals.specs.declared.Refusal.TheVariants.{MaskRange, ShareRange, ShortStream}
+use Rattle.refusals.specs.Refusals.{Answer, row, answer}
 use Rattle.refusals.specs.RefusalLaws.{passed}
 use Rattle.refusals.specs.Reduced.{reduced}
-use Rattle.tracing.specs.Refusing.{Refusing}
 use Rattle.parameters.specs.declared.Edition.{Edition}
 use Rattle.parameters.specs.declared.Parameters.{Parameters}
 use Rattle.parameters.specs.Lengths.{ek_bytes}
@@ -20,9 +18,6 @@ use Rattle.decapsulation_run.specs.Input.{Input, range_rows, sheet}
 use Rattle.decapsulation_run.specs.Sized.{Sized}
 
 module _ (p : Parameters) (g : Input) where
-  pub range_refusing : Refusing (range_rows p g)
-  range_refusing = (omega arith, (omega arith, (omega arith, tt)))
-
   -- rows 5 and 6 passed
   pub range_passed : {x : Answer} → reduced g.coeffs ≡ true
       → (reduced g.key.s.s0 && reduced g.key.s.s1) ≡ true

@@ -1,4 +1,5 @@
 pub mod Input
+pub mod Lent
 pub mod InputLaws
 pub mod Sized
 pub mod Ranges

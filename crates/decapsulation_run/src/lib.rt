@@ -2,8 +2,10 @@
 // none.
 #![tactic(auto)]
 
+mod input; // what is lent to be read
 mod ranges; // rows 5 to 7
 mod told; // the rows, then the worksheet
 mod worksheet_run; // the whole worksheet
 
+pub use input::Input;
 pub use told::decapsulate;

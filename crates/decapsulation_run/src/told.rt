@@ -3,14 +3,15 @@
 ghost use Rattle.std.specs.Prelude.{◌≡◌, ◌*◌, length};
 ghost use Rattle.worksheet.specs.SharedList.{shared_list};
 ghost use Rattle.refusals.specs.Refusals.{number};
-ghost use Rattle.decapsulation_run.specs.Input.{input};
+ghost use Rattle.decapsulation_run.specs.Lent.{input_of};
 ghost use Rattle.decapsulation_run.specs.Told.{Told};
 ghost use Rattle.decapsulation_run.specs.Sized.{CallSized};
 
+use crate::input::Input;
 use crate::ranges::range_rows;
 use crate::worksheet_run::run;
 use parameters::{Edition, Parameters};
-use refusals::Answer;
+use refusals::{Answer, Refusal};
 use stages::entry_counts::steps;
 use worksheet::Recorder;
 
@@ -19,86 +20,41 @@ fn decapsulate_in(
     left: u64,
     e: Edition,
     p: Parameters,
-    s0: &[u16],
-    s1: &[u16],
-    z0: &[u64],
-    z1: &[u64],
-    public: &[u8],
-    ct: &[u8],
-    words: &[u64],
-    coeffs: &[u16],
+    input: &Input,
     a: &mut [u16],
     k0: &mut [u64],
     k1: &mut [u64],
     value: &mut u64,
 ) -> Answer
-    requires { CallSized e p
-        (input s0.now s1.now z0.now z1.now public.now ct.now words.now coeffs.now)
-        (shared_list k0.old k1.old)
+    requires { CallSized e p (input_of input.now) (shared_list k0.old k1.old)
         × (length a.old ≡ 256 * p.k * p.k) }
-    ensures { Told e p left
-        (input s0.now s1.now z0.now z1.now public.now
-        ct.now words.now coeffs.now)
-        k0.old k1.old value.old (number result)
+    ensures { Told e p left (input_of input.now) k0.old k1.old value.old (number result)
         k0.new k1.new value.new }
 {
-    let refusal = range_rows(p, s0, s1, public, coeffs, a);
-    if refusals::number(refusal) != 0 {
-        return refusal;
-    }
+    range_rows(p, input, a)?;
     if left > steps(e, p) as u64 {
-        return Answer::NoSuchStep;
+        return Err(Refusal::NoSuchStep);
     }
     let rec = Recorder { left, value: 0 };
-    let last = run(
-        rec, e, p, a, s0, s1, z0, z1, public, ct, words, coeffs, k0, k1,
-    );
+    let last = run(rec, e, p, a, input, k0, k1);
     *value = last.value;
-    Answer::Done
+    Ok(())
 }
 
 pub fn decapsulate(
     left: u64,
     e: Edition,
     p: Parameters,
-    s0: &[u16],
-    s1: &[u16],
-    z0: &[u64],
-    z1: &[u64],
-    public: &[u8],
-    ct: &[u8],
-    words: &[u64],
-    coeffs: &[u16],
+    input: &Input,
     k0: &mut [u64],
     k1: &mut [u64],
     value: &mut u64,
 ) -> Answer
-    requires { CallSized e p
-        (input s0.now s1.now z0.now z1.now public.now ct.now words.now coeffs.now)
-        (shared_list k0.old k1.old) }
-    ensures { Told e p left
-        (input s0.now s1.now z0.now z1.now public.now
-        ct.now words.now coeffs.now)
-        k0.old k1.old value.old (number result)
+    requires { CallSized e p (input_of input.now) (shared_list k0.old k1.old) }
+    ensures { Told e p left (input_of input.now) k0.old k1.old value.old (number result)
         k0.new k1.new value.new }
 {
     let mut a = [0u16; 4096]; // for the highest rank
     let n = 256 * p.k * p.k;
-    decapsulate_in(
-        left,
-        e,
-        p,
-        s0,
-        s1,
-        z0,
-        z1,
-        public,
-        ct,
-        words,
-        coeffs,
-        &mut a[0..n],
-        k0,
-        k1,
-        value,
-    )
+    decapsulate_in(left, e, p, input, &mut a[0..n], k0, k1, value)
 }

@@ -6,7 +6,7 @@ use Rattle.words.specs.Numeral.{value, digits}
 use Rattle.words.specs.Plane.{plane}
 use Rattle.words.specs.Residue.{q}
 use Rattle.words.specs.Tab.{tab}
-use Rattle.worksheet.specs.declared.Shares.{Shares}
+use Rattle.worksheet.specs.Shares.{Shares}
 use Rattle.worksheet.specs.Prog.{◌>>=◌, mask, mask_low, entry, loop, times, chain}
 use Rattle.worksheet.specs.Run.{run}
 use Rattle.worksheet.specs.Sharing.{shares, joined}

@@ -1,2 +1,3 @@
 pub mod Absorbing
 pub mod Output
+pub mod Mixing

@@ -1,8 +1,7 @@
 -- What the hash calls answer, and what the lent output then holds.
 use Rattle.std.specs.Prelude.{◌≡◌, not, List, [], ◌∷◌, ℕ, length}
-use Rattle.refusals.specs.declared.Answer.{Answer}
-use Rattle.refusals.specs.declared.Answer.TheVariants.{Done, WrongLength}
-use Rattle.refusals.specs.Refusals.{number, row, answer, after, lent, sized}
+use Rattle.refusals.specs.declared.Refusal.TheVariants.{WrongLength}
+use Rattle.refusals.specs.Refusals.{Answer, Done, number, row, answer, after, lent, sized}
 use Rattle.fips202.specs.Sponge.{sha3_256, sha3_512, shake128, shake256}
 
 -- a call that fills an output of n bytes and refuses any other

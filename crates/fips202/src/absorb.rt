@@ -6,18 +6,14 @@ ghost use Rattle.fips202.specs.Sponge.{padding, padded, mixed, absorbed};
 use crate::bytes;
 use keccak::state::State;
 
-// Step 6: the first rate bytes of p are added to the state.
-fn mix_block(s: State, p: &[u8], rate: usize) -> State
-    requires { (rate ≤ 200) × (rate % 8 ≡ 0) × (rate ≤ length p.now) }
-    ensures { result.lanes ≡ mixed (take rate p.now) s.lanes }
+// Step 6: a block is added to the state.
+fn mix_block(s: State, block: &[u8]) -> State
+    requires { (length block.now ≤ 200) × (length block.now % 8 ≡ 0) }
+    ensures { result.lanes ≡ mixed block.now s.lanes }
 {
     let mut t = s;
-    let mut j: usize = 0;
-    while j < rate / 8 {
-        let a = 8 * j;
-        let e = a + 8;
-        t.lanes[j] = t.lanes[j] ^ bytes::load(&p[a..e]);
-        j += 1;
+    for (j, lane) in block.chunks_exact(8).enumerate() {
+        t.lanes[j] ^= bytes::load(lane);
     }
     t
 }
@@ -28,11 +24,7 @@ pub fn zero_filled(p: &[u8]) -> [u8; 200]
     ensures { result ≡ p.now ++ replicate (200 - length p.now) 0 }
 {
     let mut b = [0u8; 200];
-    let mut i: usize = 0;
-    while i < p.len() {
-        b[i] = p[i];
-        i += 1;
-    }
+    b[..p.len()].copy_from_slice(p);
     b
 }
 
@@ -42,9 +34,8 @@ pub fn last_block(p: &[u8], rate: usize, suffix: u8) -> [u8; 200]
     ensures { take rate result ≡ p.now ++ padding suffix (rate - 1 - length p.now) }
 {
     let mut b = zero_filled(p);
-    let n = p.len();
-    b[n] = suffix;
-    b[rate - 1] = b[rate - 1] ^ 0x80;
+    b[p.len()] = suffix;
+    b[rate - 1] ^= 0x80;
     b
 }
 
@@ -53,13 +44,12 @@ pub(crate) fn absorb(m: &[u8], rate: usize, suffix: u8) -> State
     requires { SpongeFits rate suffix }
     ensures { result.lanes ≡ absorbed rate (padded rate suffix m.now) }
 {
-    let n = m.len();
-    let mut t = State { lanes: [0u64; 25] };
-    let mut a: usize = 0;
-    while rate <= n - a {
-        t = keccak::permute(mix_block(t, &m[a..], rate));
-        a += rate;
+    let mut t = State { lanes: [0; 25] };
+    let blocks = m.chunks_exact(rate);
+    let rest = blocks.remainder();
+    for block in blocks {
+        t = keccak::permute(mix_block(t, block));
     }
-    let b = last_block(&m[a..], rate, suffix);
-    keccak::permute(mix_block(t, &b, rate))
+    let last = last_block(rest, rate, suffix);
+    keccak::permute(mix_block(t, &last[..rate]))
 }

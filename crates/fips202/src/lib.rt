@@ -9,7 +9,7 @@ ghost use Rattle.fips202.specs.Sponge.{sponge as sponge_of, shake128 as shake128
 
 use crate::absorb::absorb;
 use crate::squeeze::squeeze;
-use refusals::Answer;
+use refusals::{Answer, Refusal};
 
 pub mod absorb; // a message taken in
 pub mod bytes; // a lane and its bytes
@@ -31,10 +31,10 @@ fn sha3(n: usize, m: &[u8], out: &mut [u8]) -> Answer
         out.old (number result) out.new }
 {
     if out.len() != n {
-        return Answer::WrongLength;
+        return Err(Refusal::WrongLength);
     }
     sponge(200 - 2 * n, 0x06, m, out);
-    Answer::Done
+    Ok(())
 }
 
 pub fn sha3_256(m: &[u8], out: &mut [u8]) -> Answer

@@ -6,39 +6,31 @@ ghost use Rattle.fips202.specs.Sponge.{byte_of, squeezed};
 use crate::bytes;
 use keccak::state::State;
 
-// The first bytes of the state, whole lanes first.
+// The first bytes of the state.
 pub fn extract(s: State, out: &mut [u8])
     requires { length out.old ≤ 200 }
     ensures { out.new ≡ tab (length out.old) (byte_of s.lanes) }
 {
-    let n = out.len();
-    let mut j: usize = 0;
-    while j < n / 8 {
+    let mut b = [0u8; 200];
+    for (j, lane) in s.lanes.iter().enumerate() {
         let a = 8 * j;
-        let e = a + 8;
-        bytes::store(s.lanes[j], &mut out[a..e]);
-        j += 1;
+        bytes::store(*lane, &mut b[a..a + 8]);
     }
-    let mut i = 8 * j;
-    while i < n {
-        out[i] = bytes::byte(s.lanes[i / 8], i % 8);
-        i += 1;
-    }
+    out.copy_from_slice(&b[..out.len()]);
 }
 
-// Steps 7 to 10: a block of output, and a permutation while more than a block is wanted.
+// Steps 7 to 10: a block of output, and a permutation while more than a block is wanted. By place: what is written
+// through `chunks_mut` isn't known to a proof in the end.
 pub(crate) fn squeeze(s: State, rate: usize, out: &mut [u8])
     requires { (0 < rate) × (rate ≤ 200) }
     ensures { out.new ≡ squeezed rate s.lanes (length out.old) }
 {
-    let n = out.len();
     let mut t = s;
-    let mut a: usize = 0;
-    while rate < n - a {
-        let e = a + rate;
-        extract(t, &mut out[a..e]);
+    let blocks = out.len().saturating_sub(1) / rate;
+    for i in 0..blocks {
+        let a = i * rate;
+        extract(t, &mut out[a..a + rate]);
         t = keccak::permute(t);
-        a = e;
     }
-    extract(t, &mut out[a..]);
+    extract(t, &mut out[blocks * rate..]);
 }

@@ -12,7 +12,7 @@ pub fn hash_h(s: &[u8], out: &mut [u8])
     requires { length out.old ≡ 32 }
     ensures { out.new ≡ sha3_256 s.now }
 {
-    fips202::sha3_256(s, out);
+    fips202::sha3_256(s, out).unwrap();
 }
 
 // G (4.5) of the seed d and the rank k, as algorithm 13 calls it on line 1.
@@ -23,7 +23,7 @@ pub fn hash_g_seed(d: &[u8], k: u8, out: &mut [u8])
     let mut t = [0u8; 33];
     let b = [k];
     concat_bytes(d, &b, &mut t);
-    fips202::sha3_512(&t, out);
+    fips202::sha3_512(&t, out).unwrap();
 }
 
 // G (4.5) of the seed d alone, as Kyber's algorithm 4 calls it on line 2.
@@ -31,7 +31,7 @@ pub fn hash_g_alone(d: &[u8], out: &mut [u8])
     requires { length out.old ≡ 64 }
     ensures { out.new ≡ sha3_512 d.now }
 {
-    fips202::sha3_512(d, out);
+    fips202::sha3_512(d, out).unwrap();
 }
 
 // G (4.5) of the message m and the hash h, as algorithm 17 calls it on line 1.
@@ -41,7 +41,7 @@ pub fn hash_g(m: &[u8], h: &[u8], out: &mut [u8])
 {
     let mut t = [0u8; 64];
     concat_bytes(m, h, &mut t);
-    fips202::sha3_512(&t, out);
+    fips202::sha3_512(&t, out).unwrap();
 }
 
 // Kyber's KDF, which is J (4.4), of k and H(c), as Kyber's algorithm 8 calls it on line 5.

@@ -1,7 +1,8 @@
 // A row, the five lanes of a state with one y, and what the steps do to rows.
-ghost use Rattle.std.specs.Prelude.{◌≡◌, ◌<◌};
-ghost use Rattle.words.specs.Word.{rotl as rotl_of};
+ghost use Rattle.std.specs.Prelude.{◌≡◌};
 ghost use Rattle.keccak.specs.Rows.{Offsets, xor_row, effect_row, rotl_row, chi_row};
+
+use std::ops::BitXor;
 
 // The lanes x = 0, 1, 2, 3, 4.
 #[derive(Clone, Copy)]
@@ -13,62 +14,60 @@ pub struct Row {
     pub e: u64,
 }
 
-// x rotated left by k places.
-fn rotl(x: u64, k: u32) -> u64
-    requires { k < 64 }
-    ensures { result ≡ rotl_of 64 x k }
-{
-    (x << k) | (x >> ((64 - k) % 64))
-}
+impl BitXor for Row {
+    type Output = Row;
 
-pub(crate) fn xor_row(p: Row, q: Row) -> Row
-    ensures { result ≡ xor_row p q }
-{
-    Row {
-        a: p.a ^ q.a,
-        b: p.b ^ q.b,
-        c: p.c ^ q.c,
-        d: p.d ^ q.d,
-        e: p.e ^ q.e,
+    ghost bitxor_gives = { λ p q r. r ≡ xor_row p q };
+
+    fn bitxor(self, q: Row) -> Row {
+        Row {
+            a: self.a ^ q.a,
+            b: self.b ^ q.b,
+            c: self.c ^ q.c,
+            d: self.d ^ q.d,
+            e: self.e ^ q.e,
+        }
     }
 }
 
-// Algorithm 1, step 2: D from C.
-pub(crate) fn effect_row(c: Row) -> Row
-    ensures { result ≡ effect_row c }
-{
-    Row {
-        a: c.e ^ rotl(c.b, 1),
-        b: c.a ^ rotl(c.c, 1),
-        c: c.b ^ rotl(c.d, 1),
-        d: c.c ^ rotl(c.e, 1),
-        e: c.d ^ rotl(c.a, 1),
+impl Row {
+    // Algorithm 1, step 2: D, where the row is C.
+    pub(crate) fn effect(self) -> Row
+        ensures { result ≡ effect_row self }
+    {
+        Row {
+            a: self.e ^ self.b.rotate_left(1),
+            b: self.a ^ self.c.rotate_left(1),
+            c: self.b ^ self.d.rotate_left(1),
+            d: self.c ^ self.e.rotate_left(1),
+            e: self.d ^ self.a.rotate_left(1),
+        }
     }
-}
 
-// Algorithm 2 on a row: each lane rotated by its offset.
-pub(crate) fn rotl_row(r: Row, a: u32, b: u32, c: u32, d: u32, e: u32) -> Row
-    requires { Offsets a b c d e }
-    ensures { result ≡ rotl_row r a b c d e }
-{
-    Row {
-        a: rotl(r.a, a),
-        b: rotl(r.b, b),
-        c: rotl(r.c, c),
-        d: rotl(r.d, d),
-        e: rotl(r.e, e),
+    // Algorithm 2 on a row: each lane rotated by its offset.
+    pub(crate) fn rotate_left(self, a: u32, b: u32, c: u32, d: u32, e: u32) -> Row
+        requires { Offsets a b c d e }
+        ensures { result ≡ rotl_row self a b c d e }
+    {
+        Row {
+            a: self.a.rotate_left(a),
+            b: self.b.rotate_left(b),
+            c: self.c.rotate_left(c),
+            d: self.d.rotate_left(d),
+            e: self.e.rotate_left(e),
+        }
     }
-}
 
-// Algorithm 4 on a row.
-pub(crate) fn chi_row(r: Row) -> Row
-    ensures { result ≡ chi_row r }
-{
-    Row {
-        a: r.a ^ (!r.b & r.c),
-        b: r.b ^ (!r.c & r.d),
-        c: r.c ^ (!r.d & r.e),
-        d: r.d ^ (!r.e & r.a),
-        e: r.e ^ (!r.a & r.b),
+    // Algorithm 4 on a row.
+    pub(crate) fn chi(self) -> Row
+        ensures { result ≡ chi_row self }
+    {
+        Row {
+            a: self.a ^ (!self.b & self.c),
+            b: self.b ^ (!self.c & self.d),
+            c: self.c ^ (!self.d & self.e),
+            d: self.d ^ (!self.e & self.a),
+            e: self.e ^ (!self.a & self.b),
+        }
     }
 }

@@ -27,7 +27,7 @@ fn first_part(a: &[u16], y: &[u16], r: &[u8], eta: u32, k: usize, i: usize, f: &
     add_to(f, &e1);
 }
 
-// Line 19, u.
+// Line 19, u. By part: what is written through `chunks_exact_mut` isn't known to a proof in the end.
 fn first_parts(a: &[u16], y: &[u16], r: &[u8], eta: u32, k: usize, u: &mut [u16])
     requires { RowInput a.now y.now r.now eta k × (length u.old ≡ 256 * k) }
     ensures { u.new

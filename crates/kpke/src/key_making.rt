@@ -11,7 +11,6 @@ ghost use Rattle.kpke.specs.Lent.{RowInput, EkInput};
 use crate::noise::{noise, transformed_noise};
 use parameters::Parameters;
 use ring::add_to;
-use slices::copy_bytes;
 use transform::ntt;
 use vectors::{dot, encode_all};
 
@@ -41,7 +40,7 @@ fn public_polynomial(
     add_to(f, &e);
 }
 
-// Line 18, t-hat.
+// Line 18, t-hat. By part: what is written through `chunks_exact_mut` isn't known to a proof in the end.
 fn public_vector(a: &[u16], s: &[u16], sigma: &[u8], eta: u32, k: usize, t: &mut [u16])
     requires { RowInput a.now s.now sigma.now eta k × (length t.old ≡ 256 * k) }
     ensures { t.new
@@ -67,7 +66,7 @@ fn write_ek(t: &[u16], rho: &[u8], k: usize, ek: &mut [u8])
 {
     let n = 384 * k;
     encode_all(t, 12, k, &mut ek[0..n]);
-    copy_bytes(rho, &mut ek[n..]);
+    ek[n..].copy_from_slice(rho);
 }
 
 // Lines 8 to 20, for the matrix A-hat in a and line 1's rho and sigma; s becomes s-hat, t t-hat.

@@ -10,10 +10,11 @@ ghost use Rattle.kpke.specs.KPke.{matrix, matrix_full};
 ghost use Rattle.kpke.specs.Lent.{ExpandInput};
 
 use hash_functions::xof;
+use refusals::Answer;
 use sampling::fill_ntt;
 
-// SampleNTT (algorithm 7) at place (i, j): whether its stream yields 256 coefficients, which f then holds.
-fn sample_place(rho: &[u8], i: u8, j: u8, f: &mut [u16]) -> bool
+// SampleNTT (algorithm 7) at place (i, j): f then holds its coefficients, unless its stream is too short.
+fn sample_place(rho: &[u8], i: u8, j: u8, f: &mut [u16]) -> Answer
     requires { (length rho.now ≡ 32) × (length f.old ≡ 256) }
     ensures { Sampling (full (XOF rho.now i j)) (matrix rho.now i j) result f.new }
 {
@@ -22,8 +23,8 @@ fn sample_place(rho: &[u8], i: u8, j: u8, f: &mut [u16]) -> bool
     fill_ntt(&s, f)
 }
 
-// Row i of A-hat.
-fn expand_row(rho: &[u8], k: usize, i: usize, a: &mut [u16]) -> bool
+// Row i of A-hat. By part: what is written through `chunks_exact_mut` isn't known to a proof in the end.
+fn expand_row(rho: &[u8], k: usize, i: usize, a: &mut [u16]) -> Answer
     requires { ExpandInput rho.now k (256 * k) a.old × (i < 256) }
     ensures { Sampling
         (every k (λ j. full (XOF rho.now i j)))
@@ -34,15 +35,13 @@ fn expand_row(rho: &[u8], k: usize, i: usize, a: &mut [u16]) -> bool
     for j in 0..k {
         let s = 256 * j;
         let e = s + 256;
-        if !sample_place(rho, i as u8, j as u8, &mut a[s..e]) {
-            return false;
-        }
+        sample_place(rho, i as u8, j as u8, &mut a[s..e])?;
     }
-    true
+    Ok(())
 }
 
-// A-hat: whether each stream yields 256 coefficients; a then holds the matrix.
-pub fn expand(rho: &[u8], k: usize, a: &mut [u16]) -> bool
+// A-hat: a then holds the matrix, unless a stream yields fewer than 256 coefficients. By part, as a row.
+pub fn expand(rho: &[u8], k: usize, a: &mut [u16]) -> Answer
     requires { ExpandInput rho.now k (256 * k * k) a.old }
     ensures { Sampling
         (matrix_full k rho.now)
@@ -54,9 +53,7 @@ pub fn expand(rho: &[u8], k: usize, a: &mut [u16]) -> bool
     for i in 0..k {
         let s = n * i;
         let e = s + n;
-        if !expand_row(rho, k, i, &mut a[s..e]) {
-            return false;
-        }
+        expand_row(rho, k, i, &mut a[s..e])?;
     }
-    true
+    Ok(())
 }

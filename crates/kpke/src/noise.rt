@@ -28,7 +28,8 @@ pub fn noise(seed: &[u8], eta: u32, n: usize, f: &mut [u16])
     noise_by(seed, eta, n, &mut b[0..e], f);
 }
 
-// Noise n, n + 1, .., n + k - 1: a vector.
+// Noise n, n + 1, .., n + k - 1: a vector. By part: what is written through `chunks_exact_mut` isn't known to a proof
+// in the end.
 pub fn noise_all(seed: &[u8], eta: u32, n: usize, k: usize, v: &mut [u16])
     requires { NoiseSeed seed.now eta × (n + k ≤ 256) × (length v.old ≡ 256 * k) }
     ensures { v.new ≡ concat k (λ i. noise_of eta seed.now (n + i)) }

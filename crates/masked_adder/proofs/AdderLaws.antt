@@ -6,7 +6,7 @@ use Rattle.words.specs.Bits.{Bits}
 use Rattle.words.specs.WordLaws.{xor-bits, xor-xor_cancel}
 use Rattle.words.specs.Plane.{plane}
 use Rattle.words.specs.PlaneLaws.{plane-bits}
-use Rattle.worksheet.specs.declared.Shares.{Shares}
+use Rattle.worksheet.specs.Shares.{Shares}
 use Rattle.worksheet.specs.Prog.{◌>>=◌, mask, entry}
 use Rattle.worksheet.specs.ProgLaws.{times_cong}
 use Rattle.worksheet.specs.Uses.{Uses, ret_u, word_u, enter_u, uses_bind, uses-times, uses-chain, uses_recount}

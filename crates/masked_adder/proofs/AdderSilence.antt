@@ -8,7 +8,7 @@ use Rattle.std.proofs.Math.Dec.{ltb}
 use Rattle.words.specs.Word.{xor}
 use Rattle.words.specs.Bits.{Bits}
 use Rattle.words.specs.WordLaws.{xor-bits, zero_bits, xor_zero, zero_xor, xor_cancel}
-use Rattle.worksheet.specs.declared.Shares.{Shares}
+use Rattle.worksheet.specs.Shares.{Shares}
 use Rattle.worksheet.specs.Prog.{◌>>=◌}
 use Rattle.worksheet.specs.Couple.{Coupled, Like, Silent, SameAt, coupled_bind, same_at_left, same_at_right}
 use Rattle.worksheet.specs.CoupleLoops.{coupled-times, like-times, same_at_times, silent-times}

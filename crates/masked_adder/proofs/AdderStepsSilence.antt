@@ -6,7 +6,7 @@ use Rattle.words.specs.Word.{xor, and}
 use Rattle.words.specs.Bits.{Bits}
 use Rattle.words.specs.WordLaws.{xor-bits, and-bits, zero_bits, xor_zero, xor-xor_cancel}
 use Rattle.words.specs.Formula.{boole, at, ◌⊕◌}
-use Rattle.worksheet.specs.declared.Shares.{Shares}
+use Rattle.worksheet.specs.Shares.{Shares}
 use Rattle.worksheet.specs.Prog.{◌>>=◌, mask, entry}
 use Rattle.worksheet.specs.Couple.{Coupled, ret_c, draw_c, enter_c, coupled_bind}
 use Rattle.worksheet.specs.Couple.{Like, Silent, SameAt, here, there, under}
@@ -15,7 +15,8 @@ use Rattle.worksheet.specs.Sharing.{shares}
 use Rattle.worksheet.specs.SharingLaws.{share, Sharing, Apart, apart-xor, xor_shares, sharing-xor_shares}
 use Rattle.worksheet.specs.MaskedAndSilence.{reads_left, reads_right, behind}
 use Rattle.worksheet.specs.Gates.{masked_xor}
-use Rattle.worksheet.specs.GatesSilence.{like-masked_xor, coupled-masked_xor, like-xor_and, coupled-xor_and, same_at_xor_and}
+use Rattle.worksheet.specs.GatesSilence.{like-masked_xor, coupled-masked_xor, like-xor_and, coupled-xor_and}
+use Rattle.worksheet.specs.GatesSilence.{same_at_xor_and}
 use Rattle.masked_adder.specs.Adder.{mask_plane, carry_step, sum_plane}
 use Rattle.masked_adder.specs.EntryCounts.{carry_entries}
 

@@ -1,7 +1,7 @@
 -- The adder on bit planes (document 01, The gadgets: Adder). A number is given by its planes, the lowest first.
 use Rattle.std.specs.Prelude.{List, ℕ, ◌-◌, ◌*◌, get_or}
 use Rattle.words.specs.Word.{xor}
-use Rattle.worksheet.specs.declared.Shares.{Shares}
+use Rattle.worksheet.specs.Shares.{Shares}
 use Rattle.worksheet.specs.Prog.{Prog, word, ret, ◌>>=◌, mask, entry, times, chain}
 use Rattle.worksheet.specs.Sharing.{shares, none}
 use Rattle.worksheet.specs.MaskedAnd.{masked_and}

@@ -11,21 +11,12 @@ ghost use Rattle.words.specs.Word.{xor};
 ghost use Rattle.worksheet.specs.Prog.{word, entry};
 ghost use Rattle.worksheet.specs.Ran.{Makes, MakesWithLow, Draws};
 
-use worksheet::{Entered, EnteredShares, Recorder, Shares};
+use worksheet::{Entered, Recorder, Shared, Shares};
 
-#[derive(Clone, Copy)]
-pub struct Planes {
-    pub s0: [u64; 24],
-    pub s1: [u64; 24],
-}
+// The planes of both shares.
+pub type Planes = Shared<[u64; 24]>;
 
-#[derive(Clone, Copy)]
-pub struct EnteredPlanes {
-    pub value: Planes,
-    pub rec: Recorder,
-}
-
-fn enter_xor3(rec: Recorder, x: u64, y: u64, z: u64) -> Entered
+fn enter_xor3(rec: Recorder, x: u64, y: u64, z: u64) -> Entered<u64>
     ensures { Makes (entry (xor (xor x y) z)) rec result.value result.rec }
 {
     let v = x ^ y ^ z;
@@ -36,7 +27,7 @@ fn enter_xor3(rec: Recorder, x: u64, y: u64, z: u64) -> Entered
 }
 
 // The n planes x take shares.
-fn mask_planes(rec: Recorder, n: usize, x: [u64; 24], ws: &[u64]) -> EnteredPlanes
+fn mask_planes(rec: Recorder, n: usize, x: [u64; 24], ws: &[u64]) -> Entered<Planes>
     requires { (n ≤ 24) × (n ≤ length ws.now) }
     ensures { Draws word n (mask_planes n (λ j. get_or x j 0)) rec ws.now
         (zip n (shared_list result.value.s0 result.value.s1)) result.rec }
@@ -44,6 +35,7 @@ fn mask_planes(rec: Recorder, n: usize, x: [u64; 24], ws: &[u64]) -> EnteredPlan
     let mut rec = rec;
     let mut s0 = [0u64; 24];
     let mut s1 = [0u64; 24];
+    // By place, as the definition's turns are: planes, masks and both shares are walked side by side.
     for i in 0..n {
         let r = ws[i];
         let e = worksheet::enter_xor(rec, x[i], r);
@@ -51,13 +43,13 @@ fn mask_planes(rec: Recorder, n: usize, x: [u64; 24], ws: &[u64]) -> EnteredPlan
         s1[i] = r;
         rec = e.rec;
     }
-    EnteredPlanes {
+    Entered {
         value: Planes { s0, s1 },
         rec,
     }
 }
 
-fn carry_step(rec: Recorder, a: Shares, b: Shares, c: Shares, r: u64) -> EnteredShares
+fn carry_step(rec: Recorder, a: Shares, b: Shares, c: Shares, r: u64) -> Entered<Shares>
     ensures { MakesWithLow 64 (carry_step a b c) r rec result.value result.rec }
 {
     let x = worksheet::masked_xor(rec, a, b);
@@ -67,7 +59,7 @@ fn carry_step(rec: Recorder, a: Shares, b: Shares, c: Shares, r: u64) -> Entered
 }
 
 // The carries into the n planes.
-fn carry_planes(rec: Recorder, n: usize, a: Planes, b: Planes, ws: &[u64]) -> EnteredPlanes
+fn carry_planes(rec: Recorder, n: usize, a: Planes, b: Planes, ws: &[u64]) -> Entered<Planes>
     requires { CarriesLent n ws.now }
     ensures { Draws word (n - 1)
         (carries n (zip n (shared_list a.s0 a.s1)) (zip n (shared_list b.s0 b.s1))) rec ws.now
@@ -76,6 +68,7 @@ fn carry_planes(rec: Recorder, n: usize, a: Planes, b: Planes, ws: &[u64]) -> En
     let mut rec = rec;
     let mut s0 = [0u64; 24];
     let mut s1 = [0u64; 24];
+    // By place, as the definition's turns are: each carry is made of the one before it, and of planes at its place.
     for i in 0..n - 1 {
         let x = Shares {
             s0: a.s0[i],
@@ -94,14 +87,14 @@ fn carry_planes(rec: Recorder, n: usize, a: Planes, b: Planes, ws: &[u64]) -> En
         s1[i + 1] = o.value.s1;
         rec = o.rec;
     }
-    EnteredPlanes {
+    Entered {
         value: Planes { s0, s1 },
         rec,
     }
 }
 
 // The n sum planes.
-fn sum_planes(rec: Recorder, n: usize, a: Planes, b: Planes, c: Planes) -> EnteredPlanes
+fn sum_planes(rec: Recorder, n: usize, a: Planes, b: Planes, c: Planes) -> Entered<Planes>
     requires { n ≤ 24 }
     ensures { Makes
         (sum_planes n (zip n (shared_list a.s0 a.s1)) (zip n (shared_list b.s0 b.s1))
@@ -111,6 +104,7 @@ fn sum_planes(rec: Recorder, n: usize, a: Planes, b: Planes, c: Planes) -> Enter
     let mut rec = rec;
     let mut s0 = [0u64; 24];
     let mut s1 = [0u64; 24];
+    // By place, as the definition's turns are: the shares of four lists of planes are walked side by side.
     for i in 0..n {
         let x = enter_xor3(rec, a.s0[i], b.s0[i], c.s0[i]);
         let y = enter_xor3(x.rec, a.s1[i], b.s1[i], c.s1[i]);
@@ -118,14 +112,14 @@ fn sum_planes(rec: Recorder, n: usize, a: Planes, b: Planes, c: Planes) -> Enter
         s1[i] = y.value;
         rec = y.rec;
     }
-    EnteredPlanes {
+    Entered {
         value: Planes { s0, s1 },
         rec,
     }
 }
 
 // The sum of the numbers whose n planes x and y hold.
-pub fn adder(rec: Recorder, n: usize, x: [u64; 24], y: [u64; 24], ws: &[u64]) -> EnteredPlanes
+pub fn adder(rec: Recorder, n: usize, x: [u64; 24], y: [u64; 24], ws: &[u64]) -> Entered<Planes>
     requires { AdderLent n ws.now }
     ensures { Draws word (adder_words n) (Adder.adder n (λ j. get_or x j 0) (λ j. get_or y j 0)) rec ws.now
         (zip n (shared_list result.value.s0 result.value.s1)) result.rec }

@@ -1,7 +1,7 @@
 -- Folding of words to one bit, and selection (document 01, stages 8 and 10).
 use Rattle.std.specs.Prelude.{List, ℕ, ◌+◌, ◌-◌, ◌*◌, ◌/◌, ◌^◌, get_or}
 use Rattle.words.specs.Word.{xor, low}
-use Rattle.worksheet.specs.declared.Shares.{Shares}
+use Rattle.worksheet.specs.Shares.{Shares}
 use Rattle.worksheet.specs.Prog.{Prog, ret, ◌>>=◌, entry, loop, times}
 use Rattle.worksheet.specs.Sharing.{shares, none}
 use Rattle.worksheet.specs.SharedList.{SharedList, shared_at, unzip}

@@ -1,5 +1,6 @@
 -- How much comparison and selection do, and what comparison joins to.
-use Rattle.std.specs.Prelude.{ℕ, zero, suc, ◌+◌, ◌-◌, ◌*◌, ◌/◌, ◌^◌, ◌<◌, ◌≡◌, refl, Bool, true, false, cond, ◌&&◌, [], ◌∷◌}
+use Rattle.std.specs.Prelude.{ℕ, zero, suc, ◌+◌, ◌-◌, ◌*◌, ◌/◌, ◌^◌, ◌<◌, ◌≡◌, refl, Bool, true, false, cond, ◌&&◌, []}
+use Rattle.std.specs.Prelude.{◌∷◌}
 use Rattle.std.proofs.Math.Path.{sym}
 use Rattle.std.proofs.Common.{ap, ap₂, ◌∙◌, subst, add-one, arith}
 use Rattle.std.proofs.Math.Nat.{sub_self, sub-zero, two-pow-succ, zero-mod, zero-div}
@@ -9,7 +10,7 @@ use Rattle.words.specs.Bits.{Bits, or}
 use Rattle.words.specs.WordLaws.{xor_same, and_comm, and-ones, low_bits, high_bits, low-xor, xor_shift}
 use Rattle.words.specs.Formula.{boole, at, ◌⊕◌, ◌⊗◌}
 use Rattle.words.specs.Table.{every}
-use Rattle.worksheet.specs.declared.Shares.{Shares}
+use Rattle.worksheet.specs.Shares.{Shares}
 use Rattle.worksheet.specs.Prog.{◌>>=◌, entry}
 use Rattle.worksheet.specs.Uses.{Uses, ret_u, enter_u, uses_bind, uses-loop, uses-times, uses_recount}
 use Rattle.worksheet.specs.Turns.{Each}

@@ -2,7 +2,7 @@
 use Rattle.std.specs.Prelude.{◌≡◌, ℕ, ◌+◌, ◌<◌}
 use Rattle.std.proofs.Common.{ap, ap₂, arith}
 use Rattle.words.specs.Word.{xor}
-use Rattle.worksheet.specs.declared.Shares.{Shares}
+use Rattle.worksheet.specs.Shares.{Shares}
 use Rattle.worksheet.specs.Prog.{ret, ◌>>=◌, entry}
 use Rattle.worksheet.specs.ProgLaws.{loop_cong, times_cong}
 use Rattle.worksheet.specs.Sharing.{shares}

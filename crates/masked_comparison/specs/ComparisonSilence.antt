@@ -5,7 +5,7 @@ use Rattle.std.proofs.Common.{ap, arith}
 use Rattle.words.specs.Word.{xor}
 use Rattle.words.specs.Bits.{Bits}
 use Rattle.words.specs.WordLaws.{xor-bits, complement-bits}
-use Rattle.worksheet.specs.declared.Shares.{Shares}
+use Rattle.worksheet.specs.Shares.{Shares}
 use Rattle.worksheet.specs.Prog.{Prog, ret, ◌>>=◌, entry}
 use Rattle.worksheet.specs.Couple.{ret_c, enter_c, Silent, here, same_at_recount}
 use Rattle.worksheet.specs.CoupleLoops.{coupled-times, like-times, silent-times}

@@ -2,7 +2,7 @@
 use Rattle.std.specs.Prelude.{ℕ, zero, suc, ◌+◌, ◌*◌, ◌<◌, ◌≤◌, ◌≡◌, refl, Bool, true}
 use Rattle.std.proofs.Common.{ap, suc-mul, add-one, arith}
 use Rattle.words.specs.WordLaws.{or-bits}
-use Rattle.worksheet.specs.declared.Shares.{Shares}
+use Rattle.worksheet.specs.Shares.{Shares}
 use Rattle.worksheet.specs.Prog.{loop}
 use Rattle.worksheet.specs.Couple.{Coupled, Like, SameAt, coupled_bind}
 use Rattle.worksheet.specs.CoupleLoops.{coupled-loop, like-loop, same_at_loop}
@@ -13,7 +13,8 @@ use Rattle.worksheet.specs.Choice.{Both, Kept, KeptWords, Way, keeping, coupled-
 use Rattle.worksheet.specs.MaskedAndSilence.{behind}
 use Rattle.worksheet.specs.Gates.{masked_or}
 use Rattle.worksheet.specs.EntryCounts.{or_entries}
-use Rattle.worksheet.specs.GatesSilence.{or_reads_left, or_reads_right, like-masked_or, coupled-masked_or, same_at_masked_or}
+use Rattle.worksheet.specs.GatesSilence.{or_reads_left, or_reads_right, like-masked_or, coupled-masked_or}
+use Rattle.worksheet.specs.GatesSilence.{same_at_masked_or}
 use Rattle.masked_comparison.specs.Comparison.{fold_or}
 
 -- ---- Or by choices

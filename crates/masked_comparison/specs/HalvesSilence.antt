@@ -7,7 +7,7 @@ use Rattle.std.proofs.Math.Arith.{digits_lt, digits_div, digits_mod}
 use Rattle.words.specs.Word.{low}
 use Rattle.words.specs.Bits.{Bits}
 use Rattle.words.specs.WordLaws.{low_bits, high_bits, low-xor, xor_shift}
-use Rattle.worksheet.specs.declared.Shares.{Shares}
+use Rattle.worksheet.specs.Shares.{Shares}
 use Rattle.worksheet.specs.Stage.{Stage, loop-stage}
 use Rattle.worksheet.specs.SharingLaws.{Apart, apart_cong, keep, keep-bits}
 use Rattle.worksheet.specs.Choice.{Kept, chosen, Way, keeping}

@@ -1,6 +1,6 @@
 -- What folding and selection ask of the bit and the buffers lent to them.
 use Rattle.std.specs.Prelude.{◌≡◌, List, ℕ, ◌<◌, ◌≤◌, length}
-use Rattle.worksheet.specs.declared.Shares.{Shares}
+use Rattle.worksheet.specs.Shares.{Shares}
 use Rattle.worksheet.specs.BitShares.{BitShares}
 use Rattle.worksheet.specs.SharedList.{SharedList}
 

@@ -5,7 +5,7 @@ use Rattle.words.specs.Word.{xor, and, ones}
 use Rattle.words.specs.Bits.{Bits}
 use Rattle.words.specs.WordLaws.{xor_same, xor_zero, zero_xor, xor-bits, and_comm, and-ones}
 use Rattle.words.specs.Formula.{boole, at, ◌⊕◌}
-use Rattle.worksheet.specs.declared.Shares.{Shares}
+use Rattle.worksheet.specs.Shares.{Shares}
 use Rattle.worksheet.specs.Gives.{Gives, gives_bind, gives_weaken}
 use Rattle.worksheet.specs.SharingLaws.{Sharing, sharing-bits}
 use Rattle.worksheet.specs.GatesSharing.{sharing-masked_xor, sharing-masked_and}

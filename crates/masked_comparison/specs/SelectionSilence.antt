@@ -5,7 +5,7 @@ use Rattle.std.specs.Prelude.{◌≡◌, Bool, true, false, List}
 use Rattle.std.proofs.Common.{ap, ap₂, arith}
 use Rattle.words.specs.Word.{xor}
 use Rattle.words.specs.WordLaws.{xor-bits, and-bits}
-use Rattle.worksheet.specs.declared.Shares.{Shares}
+use Rattle.worksheet.specs.Shares.{Shares}
 use Rattle.worksheet.specs.Prog.{Prog, ◌>>=◌, entry, times}
 use Rattle.worksheet.specs.Couple.{Coupled, enter_c, Like, SameAt, here, there, coupled_bind}
 use Rattle.worksheet.specs.CoupleLoops.{coupled-times, like-times, same_at_times}
@@ -15,7 +15,8 @@ use Rattle.worksheet.specs.SharingLaws.{share, sharing-bits, apart-xor, sharing-
 use Rattle.worksheet.specs.Choice.{Both, both_bits, Kept, KeptWords, KeptList, Way, keeping, coupled-way}
 use Rattle.worksheet.specs.MaskedAndSilence.{reads_left, reads_right, behind}
 use Rattle.worksheet.specs.Gates.{masked_xor}
-use Rattle.worksheet.specs.GatesSilence.{like-masked_xor, coupled-masked_xor, like-xor_and, coupled-xor_and, same_at_xor_and}
+use Rattle.worksheet.specs.GatesSilence.{like-masked_xor, coupled-masked_xor, like-xor_and, coupled-xor_and}
+use Rattle.worksheet.specs.GatesSilence.{same_at_xor_and}
 use Rattle.masked_comparison.specs.Comparison.{copies, select}
 use Rattle.masked_comparison.specs.EntryCounts.{select_entries}
 use Rattle.masked_comparison.specs.SelectionLaws.{copies_bits}

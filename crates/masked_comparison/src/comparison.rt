@@ -10,7 +10,7 @@ ghost use Rattle.words.specs.Word.{low};
 ghost use Rattle.worksheet.specs.Prog.{word};
 ghost use Rattle.worksheet.specs.Ran.{Makes, MakesWith, Draws};
 
-use worksheet::{EnteredShares, Recorder, Shares};
+use worksheet::{Entered, Recorder, Shares};
 
 // Public words go into share 0.
 pub fn add_public(rec: Recorder, c: &[u64], w0: &mut [u64]) -> Recorder
@@ -22,16 +22,16 @@ pub fn add_public(rec: Recorder, c: &[u64], w0: &mut [u64]) -> Recorder
         rec (zip (length c.now) (shared_list w0.new w1)) result }
 {
     let mut rec = rec;
-    for j in 0..c.len() {
-        let e = worksheet::enter_xor(rec, w0[j], c[j]);
-        w0[j] = e.value;
+    for (j, w) in w0.iter_mut().enumerate() {
+        let e = worksheet::enter_xor(rec, *w, c[j]);
+        *w = e.value;
         rec = e.rec;
     }
     rec
 }
 
 // All words are folded into the first by Or.
-fn fold_or(rec: Recorder, n: usize, w0: &[u64], w1: &[u64], ws: &[u64]) -> EnteredShares
+fn fold_or(rec: Recorder, n: usize, w0: &[u64], w1: &[u64], ws: &[u64]) -> Entered<Shares>
     requires { FoldLent n n w0.now w1.now ws.now }
     ensures { Draws word n (fold_or n (shared_at (shared_list w0.now w1.now))) rec ws.now
         result.value result.rec }
@@ -41,6 +41,7 @@ fn fold_or(rec: Recorder, n: usize, w0: &[u64], w1: &[u64], ws: &[u64]) -> Enter
         s0: w0[0],
         s1: w1[0],
     };
+    // By place, as the definition's turns are: both shares and the masks are walked side by side.
     for j in 0..n {
         let w = Shares {
             s0: w0[j + 1],
@@ -50,7 +51,7 @@ fn fold_or(rec: Recorder, n: usize, w0: &[u64], w1: &[u64], ws: &[u64]) -> Enter
         acc = o.value;
         rec = o.rec;
     }
-    EnteredShares { value: acc, rec }
+    Entered { value: acc, rec }
 }
 
 // The h lowest bits set.
@@ -69,7 +70,7 @@ fn low_bits(x: u64, h: usize) -> u64
 }
 
 // The low h bits Or the next h.
-fn halve(rec: Recorder, h: usize, w: Shares, r: u64) -> EnteredShares
+fn halve(rec: Recorder, h: usize, w: Shares, r: u64) -> Entered<Shares>
     requires { h ≤ 32 }
     ensures { MakesWith word (Comparison.halve h w) r rec result.value result.rec }
 {
@@ -92,22 +93,23 @@ fn half_width(j: usize) -> usize
     32 >> j
 }
 
-fn halves(rec: Recorder, w: Shares, ws: &[u64]) -> EnteredShares
+fn halves(rec: Recorder, w: Shares, ws: &[u64]) -> Entered<Shares>
     requires { 6 ≤ length ws.now }
     ensures { Draws word 6 (Comparison.halves 6 w) rec ws.now result.value result.rec }
 {
     let mut rec = rec;
     let mut acc = w;
+    // By place, as the definition's turns are: the width is made of the place.
     for j in 0..6 {
         let o = halve(rec, half_width(j), acc, ws[j]);
         acc = o.value;
         rec = o.rec;
     }
-    EnteredShares { value: acc, rec }
+    Entered { value: acc, rec }
 }
 
 // Of n + 1 words.
-pub fn all_zero(rec: Recorder, n: usize, w0: &[u64], w1: &[u64], ws: &[u64]) -> EnteredShares
+pub fn all_zero(rec: Recorder, n: usize, w0: &[u64], w1: &[u64], ws: &[u64]) -> Entered<Shares>
     requires { FoldLent n (all_zero_words n) w0.now w1.now ws.now }
     ensures { Draws word (all_zero_words n) (all_zero n (shared_at (shared_list w0.now w1.now)))
         rec ws.now result.value result.rec }

@@ -7,7 +7,7 @@ ghost use Rattle.worksheet.specs.Ran.{MakesWithLow, Draws};
 ghost use Rattle.worksheet.specs.SharedList.{shared_list};
 ghost use Rattle.worksheet.specs.BitShares.{BitShares};
 
-use worksheet::{EnteredShares, Recorder, Shares};
+use worksheet::{Entered, Recorder, Shares};
 
 // 64 copies of each share of a bit.
 fn copies(b: Shares) -> Shares
@@ -21,7 +21,7 @@ fn copies(b: Shares) -> Shares
 }
 
 // x where the bit is 1, else y.
-pub fn select(rec: Recorder, b: Shares, x: Shares, y: Shares, r: u64) -> EnteredShares
+pub fn select(rec: Recorder, b: Shares, x: Shares, y: Shares, r: u64) -> Entered<Shares>
     requires { BitShares b }
     ensures { MakesWithLow 64 (Comparison.select b x y) r rec result.value result.rec }
 {
@@ -51,6 +51,7 @@ pub fn select_all(
         rec ws.now (shared_list out0.new out1.new) result }
 {
     let mut rec = rec;
+    // By place, as the definition's turns are: seven lists are walked side by side.
     for j in 0..n {
         let x = Shares {
             s0: x0[j],

@@ -2,7 +2,7 @@
 use Rattle.std.specs.Prelude.{List, ℕ, ◌+◌, ◌*◌, ◌/◌, ◌%◌, ◌^◌, get_or, drop}
 use Rattle.words.specs.Plane.{plane}
 use Rattle.words.specs.Residue.{q}
-use Rattle.worksheet.specs.declared.Shares.{Shares}
+use Rattle.worksheet.specs.Shares.{Shares}
 use Rattle.worksheet.specs.Prog.{Prog, ret, ◌>>=◌, entry, times}
 use Rattle.masked_adder.specs.Adder.{adder, adder_words}
 

@@ -9,7 +9,7 @@ use Rattle.words.specs.PlaneLaws.{plane_cong}
 use Rattle.words.specs.Residue.{q}
 use Rattle.codec.specs.Compress.{compress}
 use Rattle.codec.specs.CompressLaws.{compress_shares}
-use Rattle.worksheet.specs.declared.Shares.{Shares}
+use Rattle.worksheet.specs.Shares.{Shares}
 use Rattle.worksheet.specs.Prog.{entry}
 use Rattle.worksheet.specs.Uses.{Uses, ret_u, enter_u, uses_bind, uses_map, uses-times, uses_recount}
 use Rattle.worksheet.specs.Turns.{Each, each-drop}

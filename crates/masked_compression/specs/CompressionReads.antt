@@ -1,7 +1,7 @@
 -- Compression reads 64 coefficients: where these are alike, so is what it does.
 use Rattle.std.specs.Prelude.{◌≡◌, ℕ, ◌<◌}
 use Rattle.std.proofs.Common.{ap}
-use Rattle.worksheet.specs.declared.Shares.{Shares}
+use Rattle.worksheet.specs.Shares.{Shares}
 use Rattle.worksheet.specs.Prog.{entry}
 use Rattle.worksheet.specs.ProgLaws.{times_cong}
 use Rattle.masked_compression.specs.Compression.{fixed_point, fixed_points, masked_compress}

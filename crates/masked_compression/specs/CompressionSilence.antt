@@ -7,7 +7,7 @@ use Rattle.std.proofs.Math.Bool.{true, false}
 use Rattle.words.specs.Bits.{Bits}
 use Rattle.words.specs.Plane.{plane}
 use Rattle.words.specs.PlaneLaws.{plane-bits}
-use Rattle.worksheet.specs.declared.Shares.{Shares}
+use Rattle.worksheet.specs.Shares.{Shares}
 use Rattle.worksheet.specs.Prog.{Prog, ret, ◌>>=◌, times}
 use Rattle.worksheet.specs.Couple.{Coupled, Like, SameAt, coupled_bind, coupled_map}
 use Rattle.worksheet.specs.Couple.{same_at_left, same_at_right, same_at_map}

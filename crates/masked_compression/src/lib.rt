@@ -10,15 +10,9 @@ ghost use Rattle.words.specs.Residue.{q};
 ghost use Rattle.worksheet.specs.Prog.{word, entry};
 ghost use Rattle.worksheet.specs.Ran.{Makes, Draws};
 
-use masked_adder::{EnteredPlanes, adder};
+use masked_adder::{Planes, adder};
 use planes::bit_planes;
 use worksheet::{Entered, Recorder};
-
-#[derive(Clone, Copy)]
-pub struct EnteredNumbers {
-    pub value: [u64; 64],
-    pub rec: Recorder,
-}
 
 // The fixed point of x, 2^(d+13) x / q, without a division: 84552411148 q is 2^48 + 1036.
 fn fixed_point(d: usize, x: u16) -> u64
@@ -36,7 +30,7 @@ fn scale(d: usize) -> u64
     1 << (d + 13)
 }
 
-fn enter_fixed_point(rec: Recorder, d: usize, h: u64, x: u16) -> Entered
+fn enter_fixed_point(rec: Recorder, d: usize, h: u64, x: u16) -> Entered<u64>
     requires { PointFits d h × (x < q) }
     ensures { Makes (entry (fixed_point d h x)) rec result.value result.rec }
 {
@@ -48,22 +42,28 @@ fn enter_fixed_point(rec: Recorder, d: usize, h: u64, x: u16) -> Entered
 }
 
 // The fixed point of one share of 64 coefficients.
-fn fixed_points(rec: Recorder, d: usize, h: u64, x: &[u16]) -> EnteredNumbers
+fn fixed_points(rec: Recorder, d: usize, h: u64, x: &[u16]) -> Entered<[u64; 64]>
     requires { PointsLent d h x.now }
     ensures { Makes (fixed_points d h (λ i. get_or x.now i 0)) rec result.value result.rec }
 {
     let mut rec = rec;
     let mut v = [0u64; 64];
-    for i in 0..64 {
+    for (i, n) in v.iter_mut().enumerate() {
         let e = enter_fixed_point(rec, d, h, x[i]);
-        v[i] = e.value;
+        *n = e.value;
         rec = e.rec;
     }
-    EnteredNumbers { value: v, rec }
+    Entered { value: v, rec }
 }
 
 // The result's d planes stand from place 13 on.
-pub fn masked_compress(rec: Recorder, d: usize, x0: &[u16], x1: &[u16], ws: &[u64]) -> EnteredPlanes
+pub fn masked_compress(
+    rec: Recorder,
+    d: usize,
+    x0: &[u16],
+    x1: &[u16],
+    ws: &[u64],
+) -> Entered<Planes>
     requires { CompressLent d x0.now x1.now ws.now }
     ensures { Draws word (compress_words d)
         (masked_compress d (shared_at (shared_list x0.now x1.now))) rec ws.now
@@ -72,9 +72,7 @@ pub fn masked_compress(rec: Recorder, d: usize, x0: &[u16], x1: &[u16], ws: &[u6
     let n = d + 13;
     let a = fixed_points(rec, d, 0, x0);
     let b = fixed_points(a.rec, d, 4096, x1);
-    let v = a.value;
-    let w = b.value;
-    let x = bit_planes(&v, n);
-    let y = bit_planes(&w, n);
+    let x = bit_planes(&a.value, n);
+    let y = bit_planes(&b.value, n);
     adder(b.rec, n, x, y, ws)
 }

@@ -42,6 +42,7 @@ fn decoded_all(b: &[u8], d: u32, k: usize, u: &mut [u16])
     ensures { u.new ≡ concat k (λ i. map (decompress d) (byte_decode d (parts (32 * d) b.now i))) }
 {
     let n = 32 * (d as usize);
+    // By place, as the definition's parts are: 32 d bytes here, 256 coefficients there.
     for i in 0..k {
         let a = 256 * i;
         let e = a + 256;

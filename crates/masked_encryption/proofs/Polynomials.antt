@@ -6,7 +6,7 @@ use native.Mathlib.Nat.{mul_comm, mul_left_comm}
 use native.Mathlib.Omega.{arith}
 use lib.ListN.{length, get_or, take, drop}
 use Rattle.worksheet.specs.declared.Recorder.{Recorder}
-use Rattle.worksheet.specs.declared.Shares.{Shares}
+use Rattle.worksheet.specs.Shares.{Shares}
 use Rattle.worksheet.specs.Prog.{Prog, ret, ◌>>=◌, times}
 use Rattle.worksheet.specs.ProgLaws.{times_cong}
 use Rattle.worksheet.specs.Ran.{Ran, bind, over}

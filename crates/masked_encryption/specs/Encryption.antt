@@ -1,7 +1,7 @@
 -- Parts of masked encryption.
 use mathlib.Core.List.{List, flatten}
 use Rattle.std.specs.Prelude.{ℕ}
-use Rattle.worksheet.specs.declared.Shares.{Shares}
+use Rattle.worksheet.specs.Shares.{Shares}
 use Rattle.worksheet.specs.Prog.{Prog, ret, ◌>>=◌, times}
 use Rattle.worksheet.specs.SharedList.{SharedList}
 use Rattle.parameters.specs.declared.Parameters.{Parameters}

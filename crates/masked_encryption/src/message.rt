@@ -22,14 +22,15 @@ pub fn stage4(
         rec cs.now (shared_list mu0.new mu1.new) result }
 {
     let mut rec = rec;
+    // By place, as the definition's turns are: bits, masks and both shares are walked side by side.
     for i in 0..256 {
         let w = Shares {
             s0: m0[i / 64],
             s1: m1[i / 64],
         };
         let o = bit_to_coeff(rec, 1665, bit_of(w, i % 64), cs[i]);
-        mu0[i] = o.s0;
-        mu1[i] = o.s1;
+        mu0[i] = o.value.s0;
+        mu1[i] = o.value.s1;
         rec = o.rec;
     }
     rec

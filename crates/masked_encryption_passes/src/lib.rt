@@ -23,6 +23,7 @@ fn u_pass(a: &[u16], y: &[u16], e1: &[u16], k: usize, i: usize, u: &mut [u16])
     add_to(u, e1);
 }
 
+// The rows. By part: what is written through `chunks_exact_mut` isn't known to a proof in the end.
 fn u_passes(a: &[u16], y: &[u16], e1: &[u16], k: usize, u: &mut [u16])
     requires { RowsInput k 0 k a.now y.now e1.now u.old }
     ensures { u.new

@@ -7,7 +7,7 @@ use native.Mathlib.Omega.{arith}
 use Rattle.worksheet.specs.declared.Recorder.{Recorder}
 use Rattle.worksheet.specs.Prog.{Prog, ◌>>=◌}
 use Rattle.worksheet.specs.ProgLaws.{bind_assoc}
-use Rattle.worksheet.specs.Ran.{Ran, bind}
+use Rattle.worksheet.specs.Ran.{Ran}
 use Rattle.worksheet.specs.Run.{run}
 use Rattle.worksheet.specs.SharedList.{SharedList}
 use Rattle.masked_sponge.specs.MaskedSponge.{masked_absorb, masked_sponge}
@@ -23,11 +23,8 @@ hash_is : (rate suffix : ℕ) (in0 in1 : List ℕ) (d : ℕ)
 unfolding masked_hash masked_sponge squeeze_bytes
 hash_is rate suffix in0 in1 d = bind_assoc _ _ _
 
-pub hash_value : (rate suffix : ℕ) (in0 in1 : List ℕ) (d : ℕ)
-    {s t : SharedList} {r r' r'' : Recorder} {ws ws' ws'' cs' cs'' : List ℕ}
-    → Ran (masked_absorb rate suffix in0 in1) r ws [] s r' ws' cs'
-    → Ran (squeeze_bytes (rate / 8) d s) r' ws' cs' t r'' ws'' cs''
+pub hash_value : (rate suffix : ℕ) (in0 in1 : List ℕ) (d : ℕ) {t : SharedList} {r r' : Recorder} {ws ws' cs' : List ℕ}
+    → Ran (masked_absorb rate suffix in0 in1 >>= squeeze_bytes (rate / 8) d) r ws [] t r' ws' cs'
     → t ≡ (run (masked_hash rate suffix in0 in1 d) ws []).value
-hash_value rate suffix in0 in1 d {t = t} {ws = ws} a b =
-    subst (λ (p : Prog SharedList). t ≡ (run p ws []).value) (sym (hash_is rate suffix in0 in1 d))
-    (sym (bind (squeeze_bytes (rate / 8) d) a b).value)
+hash_value rate suffix in0 in1 d {t = t} {ws = ws} a =
+    subst (λ (p : Prog SharedList). t ≡ (run p ws []).value) (sym (hash_is rate suffix in0 in1 d)) (sym a.value)

@@ -1,5 +1,6 @@
 pub mod MaskedWords
 pub mod EntryCounts
+pub mod SpongeOutput
 pub mod Lent
 pub mod MaskedWordsLaws
 pub mod MaskedSpongeUses

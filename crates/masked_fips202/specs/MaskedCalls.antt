@@ -3,9 +3,8 @@ use Rattle.std.specs.Prelude.{◌≡◌, not, List, [], ◌∷◌, ℕ, length}
 use Rattle.worksheet.specs.Prog.{Prog}
 use Rattle.worksheet.specs.Run.{run}
 use Rattle.worksheet.specs.SharedList.{SharedList}
-use Rattle.refusals.specs.declared.Answer.{Answer}
-use Rattle.refusals.specs.declared.Answer.TheVariants.{WrongLength}
-use Rattle.refusals.specs.Refusals.{number, row, answer, after, Lent, lent, sized}
+use Rattle.refusals.specs.declared.Refusal.TheVariants.{WrongLength}
+use Rattle.refusals.specs.Refusals.{Answer, number, row, answer, after, Lent, lent, sized}
 use Rattle.masked_sponge.specs.MaskedSponge.{permutations, hash_mask_words}
 use Rattle.masked_sponge.specs.MaskedBytes.{masked_hash}
 

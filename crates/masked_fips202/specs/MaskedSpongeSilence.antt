@@ -5,7 +5,7 @@ use mathlib.Core.List.{List}
 use Rattle.words.specs.Bounded.{Below}
 use Rattle.words.specs.BoundedLaws.{below-drop, below-take}
 use Rattle.words.specs.Bits.{Bits}
-use Rattle.worksheet.specs.declared.Shares.{Shares}
+use Rattle.worksheet.specs.Shares.{Shares}
 use Rattle.worksheet.specs.Prog.{Prog}
 use Rattle.worksheet.specs.Couple.{Any, coupled_map, same_at_map}
 use Rattle.worksheet.specs.CoupleLoops.{AllKeep, coupled-chain, like-chain, same_at_chain}

@@ -1,7 +1,7 @@
 -- The sponge on two shares makes as many entries and draws as many words as its counts say, whatever is drawn.
 use Rattle.std.specs.Prelude.{ℕ, ◌*◌, ◌/◌, refl, List, length}
 use Rattle.std.proofs.Common.{◌∙◌, zero-add, mul-zero, arith}
-use Rattle.worksheet.specs.declared.Shares.{Shares}
+use Rattle.worksheet.specs.Shares.{Shares}
 use Rattle.worksheet.specs.Prog.{mask}
 use Rattle.worksheet.specs.Uses.{Uses, ret_u, word_u, uses_recount, uses_bind, uses_map, uses-loop, uses-times}
 use Rattle.worksheet.specs.Uses.{uses-chain}

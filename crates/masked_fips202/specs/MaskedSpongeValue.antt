@@ -15,7 +15,7 @@ use Rattle.words.specs.BoundedLaws.{below_nil, below-take, below-drop}
 use Rattle.words.specs.TabLaws.{length-tab, get_or-tab, tab_of, tab_cong}
 use Rattle.words.specs.Iterate.{iterate}
 use Rattle.keccak.specs.KeccakP.{keccak_p}
-use Rattle.worksheet.specs.declared.Shares.{Shares}
+use Rattle.worksheet.specs.Shares.{Shares}
 use Rattle.worksheet.specs.Prog.{mask}
 use Rattle.worksheet.specs.Run.{run}
 use Rattle.worksheet.specs.Turns.{Each}

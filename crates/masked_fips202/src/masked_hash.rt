@@ -1,18 +1,15 @@
 // SHA3-512 and SHAKE256 on two shares.
 ghost use Rattle.std.specs.Prelude.{◌≡◌, ◌+◌, ◌*◌, ◌%◌, ◌<◌, ◌≤◌, [], eqb, length};
 ghost use Rattle.refusals.specs.Refusals.{number};
-ghost use Rattle.worksheet.specs.Run.{run};
-ghost use Rattle.worksheet.specs.SharedList.{shared_list};
 ghost use Rattle.fips202.specs.Lent.{SpongeFits};
-ghost use Rattle.masked_fips202.specs.Lent.{HashLent};
 ghost use Rattle.masked_sponge.specs.MaskedSponge.{permutations as permutations_of, hash_mask_words};
 ghost use Rattle.masked_sponge.specs.MaskedBytes.{masked_hash};
 ghost use Rattle.masked_fips202.specs.MaskedCalls.{hash_answer, MaskedHashed};
 ghost use Rattle.masked_fips202.specs.MaskedCalls.{masked_sha3_512_call, masked_shake256_call};
 
-use masked_sponge::absorb::masked_absorb;
-use masked_sponge::squeeze::{further, masked_squeeze};
-use refusals::Answer;
+use crate::sponge::masked_sponge;
+use masked_sponge::squeeze::further;
+use refusals::{Answer, Refusal};
 use worksheet::Recorder;
 
 // The permutations for n bytes of input and d of output.
@@ -27,40 +24,10 @@ fn permutations(rate: usize, n: usize, d: usize) -> usize
 fn enough(n: usize, permutations: usize) -> bool
     ensures { result ≡ eqb n (hash_mask_words permutations) }
 {
-    if n < 25 {
-        return false;
-    }
-    if (n - 25) % 600 != 0 {
-        return false;
-    }
-    if (n - 25) / 600 != permutations {
-        return false;
-    }
-    true
+    n % 600 == 25 && n / 600 == permutations
 }
 
-// The outputs are filled with the shares of the hash.
-fn masked_sponge(
-    rate: usize,
-    suffix: u8,
-    in0: &[u8],
-    in1: &[u8],
-    masks: &[u64],
-    out0: &mut [u8],
-    out1: &mut [u8],
-)
-    requires { HashLent rate suffix in0.now in1.now masks.now out0.old out1.old }
-    ensures { shared_list out0.new out1.new
-        ≡ (run (masked_hash rate suffix in0.now in1.now (length out0.old))
-        masks.now []).value }
-{
-    let rec = Recorder { left: 0, value: 0 };
-    let k = 25 + 600 * (in0.len() / rate + 1);
-    let o = masked_absorb(rec, in0, in1, rate, suffix, masks);
-    masked_squeeze(o.rec, o.s0, o.s1, rate, &masks[k..], out0, out1);
-}
-
-// The same, refused where a length isn't exact.
+// The outputs are filled with the shares of the hash, or it is refused where a length isn't exact.
 fn masked_hash(
     rate: usize,
     suffix: u8,
@@ -81,16 +48,17 @@ fn masked_hash(
     let n = in0.len();
     let d = out0.len();
     if n != in1.len() {
-        return Answer::WrongLength;
+        return Err(Refusal::WrongLength);
     }
     if d != out1.len() {
-        return Answer::WrongLength;
+        return Err(Refusal::WrongLength);
     }
     if !enough(masks.len(), permutations(rate, n, d)) {
-        return Answer::WrongLength;
+        return Err(Refusal::WrongLength);
     }
-    masked_sponge(rate, suffix, in0, in1, masks, out0, out1);
-    Answer::Done
+    let rec = Recorder { left: 0, value: 0 };
+    masked_sponge(rec, rate, suffix, in0, in1, masks, out0, out1);
+    Ok(())
 }
 
 pub fn masked_sha3_512(
@@ -105,7 +73,7 @@ pub fn masked_sha3_512(
         (number result) out0.new out1.new }
 {
     if out0.len() != 64 {
-        return Answer::WrongLength;
+        return Err(Refusal::WrongLength);
     }
     masked_hash(72, 0x06, in0, in1, masks, out0, out1)
 }

@@ -3,35 +3,12 @@ ghost use Rattle.std.specs.Prelude.{length};
 ghost use Rattle.worksheet.specs.Prog.{word};
 ghost use Rattle.worksheet.specs.Ran.{Draws};
 ghost use Rattle.worksheet.specs.SharedList.{shared_list};
-ghost use Rattle.masked_sponge.specs.MaskedSponge.{masked_sponge, sponge_mask_words};
 ghost use Rattle.masked_fips202.specs.MaskedWords.{masked_sha3_512_words, masked_shake256_words};
 ghost use Rattle.masked_fips202.specs.MaskedWords.{sha3_512_mask_words, shake256_mask_words};
-ghost use Rattle.masked_fips202.specs.Lent.{WordsLent, Sha3-512Lent, Shake256Lent};
+ghost use Rattle.masked_fips202.specs.Lent.{Sha3-512Lent, Shake256Lent};
 
-use masked_sponge::absorb::masked_absorb;
-use masked_sponge::squeeze::masked_squeeze_words;
+use crate::sponge::masked_sponge;
 use worksheet::Recorder;
-
-// The sponge of the message whose shares are in0 and in1.
-fn sponge_words(
-    rec: Recorder,
-    rate: usize,
-    suffix: u8,
-    in0: &[u8],
-    in1: &[u8],
-    ws: &[u64],
-    o0: &mut [u64],
-    o1: &mut [u64],
-) -> Recorder
-    requires { WordsLent rate suffix in0.now in1.now ws.now o0.old o1.old }
-    ensures { Draws word (sponge_mask_words rate (length in0.now) (length o0.old))
-        (masked_sponge rate suffix in0.now in1.now (length o0.old))
-        rec ws.now (shared_list o0.new o1.new) result }
-{
-    let k = 25 + 600 * (in0.len() / rate + 1);
-    let o = masked_absorb(rec, in0, in1, rate, suffix, ws);
-    masked_squeeze_words(o.rec, o.s0, o.s1, rate / 8, &ws[k..], o0, o1)
-}
 
 // Eight words.
 pub fn masked_sha3_512_words(
@@ -47,7 +24,7 @@ pub fn masked_sha3_512_words(
         (masked_sha3_512_words in0.now in1.now)
         rec ws.now (shared_list o0.new o1.new) result }
 {
-    sponge_words(rec, 72, 0x06, in0, in1, ws, o0, o1)
+    masked_sponge(rec, 72, 0x06, in0, in1, ws, o0, o1)
 }
 
 // Any number of words.
@@ -64,5 +41,5 @@ pub fn masked_shake256_words(
         (masked_shake256_words in0.now in1.now (length o0.old))
         rec ws.now (shared_list o0.new o1.new) result }
 {
-    sponge_words(rec, 136, 0x1f, in0, in1, ws, o0, o1)
+    masked_sponge(rec, 136, 0x1f, in0, in1, ws, o0, o1)
 }

@@ -10,19 +10,15 @@ pub fn words_to_bytes(w: &[u64], out: &mut [u8])
     requires { length out.old ≡ 8 * length w.now }
     ensures { out.new ≡ words_to_bytes 8 w.now }
 {
-    for i in 0..w.len() {
-        let a = 8 * i;
-        let e = a + 8;
-        store(w[i], &mut out[a..e]);
+    for (i, word) in w.iter().enumerate() {
+        store(*word, &mut out[8 * i..8 * i + 8]);
     }
 }
 
 pub fn zero_bytes(out: &mut [u8])
     ensures { out.new ≡ replicate (length out.old) 0 }
 {
-    for i in 0..out.len() {
-        out[i] = 0;
-    }
+    out.fill(0);
 }
 
 // Share 0 of the input: words, then the public string.

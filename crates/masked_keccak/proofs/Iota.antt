@@ -7,7 +7,7 @@ use lib.ListN.{length, get_or, set}
 use Rattle.words.specs.Word.{xor}
 use Rattle.keccak_constants.specs.RoundConstants.{constant}
 use Rattle.worksheet.specs.declared.Recorder.{Recorder}
-use Rattle.worksheet.specs.declared.Shares.{Shares}
+use Rattle.worksheet.specs.Shares.{Shares}
 use Rattle.worksheet.specs.Prog.{Prog, ret, ◌>>=◌, entry}
 use Rattle.worksheet.specs.Ran.{Ran, Makes, bind, over}
 use Rattle.worksheet.specs.Sharing.{none}

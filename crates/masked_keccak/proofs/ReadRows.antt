@@ -4,7 +4,7 @@ use mathlib.Core.List.{List}
 use Prim.Native.Nat.{ℕ}
 use Rattle.keccak.specs.declared.row.Row.{Row}
 use Rattle.worksheet.specs.declared.Recorder.{Recorder}
-use Rattle.worksheet.specs.declared.Shares.{Shares}
+use Rattle.worksheet.specs.Shares.{Shares}
 use Rattle.worksheet.specs.Ran.{Ran}
 use Rattle.masked_keccak.specs.SharedRows.{shared_row, masked_chi_row}
 

@@ -7,7 +7,7 @@ use Rattle.words.specs.Word.{xor, and, complement}
 use Rattle.words.specs.Bits.{Bits}
 use Rattle.words.specs.WordLaws.{xor-bits, and-bits, complement-bits}
 use Rattle.keccak.specs.LinearPass.{LaneBits}
-use Rattle.worksheet.specs.declared.Shares.{Shares}
+use Rattle.worksheet.specs.Shares.{Shares}
 use Rattle.worksheet.specs.Prog.{◌>>=◌, entry}
 use Rattle.worksheet.specs.Couple.{Coupled, enter_c, Like, SameAt, here, there, coupled_bind}
 use Rattle.worksheet.specs.CoupleLoops.{coupled-times, like-times, same_at_times}

@@ -15,7 +15,7 @@ use Rattle.keccak_constants.specs.RoundConstants.{constant}
 use Rattle.keccak_constants.specs.RoundConstantLaws.{constant-bits}
 use Rattle.keccak.specs.KeccakP.{theta, rho, pi, chi, iota, round, keccak_p}
 use Rattle.keccak.specs.LinearPass.{pass_at, LaneBits, pass_is}
-use Rattle.worksheet.specs.declared.Shares.{Shares}
+use Rattle.worksheet.specs.Shares.{Shares}
 use Rattle.worksheet.specs.Prog.{◌>>=◌, entry}
 use Rattle.worksheet.specs.Turns.{Each}
 use Rattle.worksheet.specs.Gives.{Gives, ret_g, enter_g, gives_bind, gives_weaken, gives-loop, gives-times}

@@ -4,7 +4,7 @@ use Rattle.std.specs.Prelude.{List, ℕ, ◌*◌, get_or, set}
 use Rattle.words.specs.Word.{xor}
 use Rattle.keccak_constants.specs.RoundConstants.{constant}
 use Rattle.keccak.specs.KeccakP.{along, theta, rho, pi}
-use Rattle.worksheet.specs.declared.Shares.{Shares}
+use Rattle.worksheet.specs.Shares.{Shares}
 use Rattle.worksheet.specs.Prog.{Prog, ret, ◌>>=◌, entry, loop, times}
 use Rattle.worksheet.specs.Sharing.{none}
 use Rattle.worksheet.specs.SharedList.{SharedList, shared_list, shared_at, unzip}

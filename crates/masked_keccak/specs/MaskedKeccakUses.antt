@@ -1,6 +1,6 @@
 -- The permutation makes as many entries and draws as many words as its counts say, whatever is drawn.
 use Rattle.std.specs.Prelude.{List, ℕ, ◌*◌}
-use Rattle.worksheet.specs.declared.Shares.{Shares}
+use Rattle.worksheet.specs.Shares.{Shares}
 use Rattle.worksheet.specs.Prog.{entry}
 use Rattle.worksheet.specs.Uses.{Uses, ret_u, enter_u, uses_bind, uses-loop, uses_map, uses-times}
 use Rattle.worksheet.specs.SharedList.{SharedList}

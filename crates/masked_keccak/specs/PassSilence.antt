@@ -5,7 +5,7 @@ use Rattle.words.specs.Tab.{tab}
 use Rattle.words.specs.TabLaws.{tabulated_at}
 use Rattle.keccak.specs.LinearPass.{pass_at, LaneBits, pass_is, pass_cong, pass_bits, pass_xor}
 use Rattle.keccak.specs.Aim.{aimed, aimed_bits, aimed-1, aimed-2}
-use Rattle.worksheet.specs.declared.Shares.{Shares}
+use Rattle.worksheet.specs.Shares.{Shares}
 use Rattle.worksheet.specs.Prog.{Prog}
 use Rattle.worksheet.specs.Couple.{Coupled, coupled_weaken}
 use Rattle.worksheet.specs.Places.{cut}

@@ -4,7 +4,7 @@ use Rattle.std.specs.Prelude.{◌≡◌, refl, List, [], ◌∷◌, ◌++◌, �
 use Rattle.keccak.specs.Rows.{row_of}
 use Rattle.keccak.specs.declared.row.Row.{Row}
 use Rattle.keccak.specs.declared.state.State.{State}
-use Rattle.worksheet.specs.declared.Shares.{Shares}
+use Rattle.worksheet.specs.Shares.{Shares}
 use Rattle.worksheet.specs.Prog.{Prog, ret, ◌>>=◌, mask, mask_low, entry, loop, times}
 use Rattle.worksheet.specs.SharedList.{SharedList, shared_list, shared_at}
 use Rattle.worksheet.specs.MaskedAnd.{masked_and}

@@ -13,7 +13,7 @@ use Rattle.words.specs.TabLaws.{length-tab, get_or-tab}
 use Rattle.keccak_constants.specs.RoundConstants.{constant}
 use Rattle.keccak_constants.specs.RoundConstantLaws.{constant-bits}
 use Rattle.keccak.specs.LinearPass.{LaneBits}
-use Rattle.worksheet.specs.declared.Shares.{Shares}
+use Rattle.worksheet.specs.Shares.{Shares}
 use Rattle.worksheet.specs.Prog.{Prog, ret, enter, ◌>>=◌, entry, loop}
 use Rattle.worksheet.specs.ProgLaws.{bind_assoc}
 use Rattle.worksheet.specs.Couple.{Coupled, ret_c, enter_c, Like, SameAt, here, coupled_weaken, coupled_bind}

@@ -5,13 +5,12 @@ ghost use Rattle.worksheet.specs.Prog.{entry, times};
 ghost use Rattle.worksheet.specs.Ran.{Makes};
 
 use keccak::state::State;
-use keccak::steps::{pi, rho, theta};
 use worksheet::{Recorder, enter};
 
 pub(crate) fn pass(s: State) -> State
     ensures { result.lanes ≡ pi_of (rho_of (theta_of s.lanes)) }
 {
-    pi(rho(theta(s)))
+    s.theta().rho().pi()
 }
 
 // The lanes in order.
@@ -19,8 +18,8 @@ pub(crate) fn enter_lanes(rec: Recorder, s: State) -> Recorder
     ensures { Makes (times 25 (λ i. entry (get_or s.lanes i 0))) rec s.lanes result }
 {
     let mut rec = rec;
-    for i in 0..25 {
-        rec = enter(rec, s.lanes[i]);
+    for lane in &s.lanes {
+        rec = enter(rec, *lane);
     }
     rec
 }

@@ -15,7 +15,7 @@ use Rattle.words.specs.Tab.{tab}
 use Rattle.words.specs.TabLaws.{tab_cong}
 use Rattle.codec.specs.Bytes.{byte_decode}
 use Rattle.worksheet.specs.declared.Recorder.{Recorder}
-use Rattle.worksheet.specs.declared.Shares.{Shares}
+use Rattle.worksheet.specs.Shares.{Shares}
 use Rattle.worksheet.specs.Prog.{word}
 use Rattle.worksheet.specs.Ran.{Ran, Makes, Draws, bind}
 use Rattle.worksheet.specs.Gives.{gives-run}

@@ -18,13 +18,14 @@ use masked_comparison::comparison::{add_public, all_zero};
 use parameters::Parameters;
 use planes::coefficient_planes;
 use stages::mask_counts::word_count;
-use worksheet::{EnteredShares, Recorder};
+use worksheet::{Entered, Recorder, Shares};
 
 // The planes of 256 numbers, group by group.
 fn group_planes(f: &[u16], d: usize, out: &mut [u64])
     requires { PlanesInput d f.now out.old }
     ensures { out.new ≡ planes_of d f.now }
 {
+    // By place, as the definition's parts are: 64 numbers here, d planes there.
     for g in 0..4 {
         let a = 64 * g;
         let ae = a + 64;
@@ -52,6 +53,7 @@ fn first_planes(c: &[u8], d: u32, k: usize, out: &mut [u64])
 {
     let n = 32 * (d as usize);
     let m = 4 * (d as usize);
+    // By place, as the definition's parts are: 32 d bytes here, 4 d planes there.
     for i in 0..k {
         let a = n * i;
         let ae = a + n;
@@ -81,7 +83,7 @@ fn equal_bit(
     planes1: &[u64],
     ws: &[u64],
     public: &mut [u64],
-) -> EnteredShares
+) -> Entered<Shares>
     requires { EqualWork p c.now (shared_list planes0.old planes1.now) ws.now public.old }
     ensures { GivesBit
         (Draws word (stage8_words p)
@@ -103,7 +105,7 @@ pub fn stage8(
     planes0: &mut [u64],
     planes1: &[u64],
     ws: &[u64],
-) -> EnteredShares
+) -> Entered<Shares>
     requires { EqualInput p c.now (shared_list planes0.old planes1.now) ws.now }
     ensures { GivesBit
         (Draws word (stage8_words p)

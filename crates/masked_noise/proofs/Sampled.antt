@@ -12,7 +12,7 @@ use Rattle.words.specs.DigitLaws.{digit_div, digit_mod, digit-xor}
 use Rattle.words.specs.Word.{xor}
 use Rattle.words.specs.WordLaws.{xor_comm}
 use Rattle.worksheet.specs.declared.Recorder.{Recorder}
-use Rattle.worksheet.specs.declared.Shares.{Shares}
+use Rattle.worksheet.specs.Shares.{Shares}
 use Rattle.worksheet.specs.Ran.{Ran}
 use Rattle.worksheet.specs.Sharing.{shares}
 use Rattle.worksheet.specs.SharedList.{SharedList}

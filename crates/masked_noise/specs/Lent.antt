@@ -1,7 +1,7 @@
 -- What the noise asks of the slices that are lent, and what bits that are read are.
 use Rattle.std.specs.Prelude.{List, ◌≡◌, ℕ, ◌+◌, ◌*◌, ◌/◌, ◌%◌, ◌<◌, ◌≤◌, length, get_or}
 use Rattle.words.specs.Digit.{digit}
-use Rattle.worksheet.specs.declared.Shares.{Shares}
+use Rattle.worksheet.specs.Shares.{Shares}
 use Rattle.worksheet.specs.SharedList.{SharedList}
 use Rattle.masked_sampler.specs.Coefficient.{sampler_coeffs}
 use Rattle.parameters.specs.declared.Parameters.{Parameters}

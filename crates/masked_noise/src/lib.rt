@@ -21,11 +21,10 @@ ghost use Rattle.masked_noise.specs.Lent.{MaskedNoiseInput, PolynomialInput, Sta
 
 use masked_fips202::masked_words::masked_shake256_words;
 use masked_fips202::shared_input::{with_public, with_zeros};
-use masked_sampler::coefficient::EnteredCoeffs;
 use masked_sampler::sampler::sampler;
 use parameters::Parameters;
 use stages::mask_counts::{noise_coeffs, noise_words};
-use worksheet::{Recorder, Shares};
+use worksheet::{Entered, Recorder, Shared, Shares};
 
 // One share's n bits from bit s on, as the lowest of a word; where they cross a word's end, the next word gives the
 // rest. What stands above them is left open.
@@ -65,11 +64,11 @@ fn sample_one(
     o0: &[u64],
     o1: &[u64],
     cs: &[u16],
-) -> EnteredCoeffs
+) -> Entered<Shared<u16>>
     requires { CoefficientInput eta i (shared_list o0.now o1.now) cs.now }
     ensures { Draws coeff (sampler_coeffs eta)
         (sampler_of eta (λ j. string_bit (shared_list o0.now o1.now) (2 * eta * i + j)))
-        rec cs.now (shares result.s0 result.s1) result.rec }
+        rec cs.now (shares result.value.s0 result.value.s1) result.rec }
 {
     if eta == 2 {
         return sampler(rec, 2, coefficient_bits(2, i, o0, o1), cs);
@@ -94,11 +93,12 @@ fn sample_all(
         rec cs.now (zip 256 (shared_list f0.new f1.new)) result }
 {
     let mut rec = rec;
+    // By place, as the definition's turns are: bits, masks and both shares are walked side by side.
     for i in 0..256 {
         let k = 2 * eta * i;
         let o = sample_one(rec, eta, i, o0, o1, &cs[k..]);
-        f0[i] = o.s0;
-        f1[i] = o.s1;
+        f0[i] = o.value.s0;
+        f1[i] = o.value.s1;
         rec = o.rec;
     }
     rec
@@ -209,6 +209,7 @@ fn noise_polys(
     let words = noise_words(eta as u32);
     let coeffs = noise_coeffs(eta as u32);
     let mut rec = rec;
+    // By place, as the definition's turns are: both strips and both shares are walked side by side.
     for i in 0..k {
         let a = 256 * i;
         let e = a + 256;

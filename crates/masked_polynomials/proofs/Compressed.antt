@@ -1,18 +1,18 @@
 -- Planes and coefficients as masked compression leaves and takes them, and what a turn of its loops is lent.
-use mathlib.Core.Path.{◌≡◌, sym, ap, ◌∙◌}
+use mathlib.Core.Path.{◌≡◌, sym, ap, ap₂, ◌∙◌}
 use mathlib.Core.List.{List, ◌∷◌, [], ◌++◌}
 use Prim.Native.Nat.{ℕ, ◌+◌, ◌-◌, ◌*◌, ◌<◌, ◌≤◌}
 use native.Mathlib.Nat.{add_comm}
 use native.Mathlib.Numerals.{add-one}
 use native.Mathlib.Omega.{arith}
 use lib.ListN.{length, get_or, set, take, drop, length-drop}
-use lib.Seq.{get_or-drop}
+use Rattle.std.proofs.lemmas.List.{get_or-take, get_or-drop}
 use Rattle.words.specs.Tab.{tab}
-use Rattle.words.specs.TabLaws.{length-tab, get_or-tab, tab_of}
+use Rattle.words.specs.TabLaws.{length-tab, get_or-tab, tab_cong, tab_of}
 use Rattle.worksheet.specs.declared.Recorder.{Recorder}
-use Rattle.worksheet.specs.declared.Shares.{Shares}
+use Rattle.worksheet.specs.Shares.{Shares}
 use Rattle.worksheet.specs.Prog.{Prog}
-use Rattle.worksheet.specs.Sharing.{none}
+use Rattle.worksheet.specs.Sharing.{shares, none}
 use Rattle.worksheet.specs.SharedList.{SharedList, shared_list, shared_at}
 use Rattle.worksheet.specs.Zip.{zip}
 use Rattle.worksheet.specs.SharedListLaws.{zip_zero, zip-set}
@@ -25,37 +25,18 @@ use Rattle.stages.specs.LentLaws.{residues_span}
 use Rattle.stages.proofs.Laid.{shared_at_part}
 use Rattle.stages.proofs.StoredRun.{Written, OnWords, fits0, fits1, fits_words, length_rest}
 
--- the first j elements of l and m are those of s from a on
-pub record Copied (a : ℕ) (s : SharedList) (l m : List ℕ) (j : ℕ) : Type 0 where
-  pub front : zip j (shared_list l m) ≡ tab j (λ i. shared_at s (i + a))
-
-pub copied_start : {a : ℕ} {s : SharedList} {l m : List ℕ} → Copied a s l m 0
-unfolding tab
-copied_start {l = l} {m = m} = record { front = zip_zero (shared_list l m) }
-
-module _ {a : ℕ} {s : SharedList} {l m : List ℕ} {j : ℕ} (c : Copied a s l m j) where
-  pub copied_turn : j < length l → j < length m
-      → Copied a s (set l j (get_or s.s0 (j + a) 0)) (set m j (get_or s.s1 (j + a) 0)) (j + 1)
-  unfolding tab
-  copied_turn h g =
-      record {
-        front =
-            zip-set l m j _ _ h g
-            ∙ ap (λ (z : List Shares). z ++ shared_at s (j + a) ∷ []) c.front
-            ∙ ap (λ (n : ℕ). tab n (λ i. shared_at s (i + a))) (sym (add-one j));
-      }
-
-  pub copied_end : (n : ℕ) → n ≡ j → zip n (shared_list l m) ≡ drop a (zip (n + a) s)
-  unfolding zip
-  copied_end n e =
-      rw e
-      (c.front
-      ∙ sym (tab_of none (drop a (tab (j + a) (shared_at s))) j
-      (length-drop a (tab (j + a) (shared_at s)) ∙ omega (arith, length-tab (j + a) (shared_at s)))
-      (λ i h.
-      get_or-drop a (tab (j + a) (shared_at s)) i none
-      ∙ get_or-tab (j + a) (shared_at s) (a + i) none (omega arith)
-      ∙ ap (shared_at s) (add_comm a i))))
+-- n elements from a on, copied out of both shares
+pub copied : (a n : ℕ) (s : SharedList) {l m : List ℕ} → l ≡ take n (drop a s.s0) → m ≡ take n (drop a s.s1)
+    → zip n (shared_list l m) ≡ drop a (zip (n + a) s)
+unfolding zip
+copied a n s e0 e1 =
+    let at : (l : List ℕ) (i : ℕ) → i < n → get_or (take n (drop a l)) i 0 ≡ get_or l (a + i) 0 =
+    λ l i h. get_or-take n (drop a l) i 0 h ∙ get_or-drop a l i 0 in
+    let f = tab (n + a) (shared_at s) in
+    rw (e0, e1)
+    (tab_cong n (λ i h. ap₂ shares (at s.s0 i h) (at s.s1 i h))
+    ∙ sym (tab_of none (drop a f) n (length-drop a f ∙ omega (arith, length-tab (n + a) (shared_at s)))
+    (λ i h. get_or-drop a f i none ∙ get_or-tab (n + a) (shared_at s) (a + i) none (omega arith))))
 
 -- group g of a polynomial, as a part that ends at 64 g + 64
 pub group_part : (d g : ℕ) (l m : List ℕ)

@@ -18,10 +18,8 @@ fn top_planes(p: Planes, d: usize, out0: &mut [u64], out1: &mut [u64])
     ensures { zip d (shared_list out0.new out1.new)
         ≡ drop 13 (zip (d + 13) (shared_list p.s0 p.s1)) }
 {
-    for j in 0..d {
-        out0[j] = p.s0[j + 13];
-        out1[j] = p.s1[j + 13];
-    }
+    out0.copy_from_slice(&p.s0[13..13 + d]);
+    out1.copy_from_slice(&p.s1[13..13 + d]);
 }
 
 // The d planes of 64 coefficients.
@@ -62,6 +60,7 @@ pub fn compress_groups(
 {
     let m = 3 * d + 38; // masks of a group
     let mut rec = rec;
+    // By place, as the definition's turns are: both inputs, the masks and both outputs are walked side by side.
     for g in 0..n {
         let a = 64 * g;
         let ae = a + 64;

@@ -14,8 +14,8 @@ fn enter_share(rec: Recorder, f: &[u16]) -> Recorder
     ensures { Makes (entries (length f.now) (λ i. get_or f.now i 0)) rec f.now result }
 {
     let mut rec = rec;
-    for i in 0..f.len() {
-        rec = worksheet::enter(rec, f[i] as u64);
+    for x in f {
+        rec = worksheet::enter(rec, *x as u64);
     }
     rec
 }
@@ -36,6 +36,7 @@ pub fn enter_polynomials(rec: Recorder, k: usize, f: &[u16], g: &[u16]) -> Recor
         rec (polynomials k (shared_list f.now g.now)) result }
 {
     let mut rec = rec;
+    // By place, as the definition's turns are: parts of both shares.
     for i in 0..k {
         let a = 256 * i;
         let e = a + 256;

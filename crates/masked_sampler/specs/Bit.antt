@@ -1,7 +1,7 @@
 -- Bit j of a word in two shares.
 use Rattle.std.specs.Prelude.{ℕ}
 use Rattle.words.specs.Digit.{digit}
-use Rattle.worksheet.specs.declared.Shares.{Shares}
+use Rattle.worksheet.specs.Shares.{Shares}
 use Rattle.worksheet.specs.Sharing.{shares}
 
 abbrev pub bit_of : Shares → ℕ → Shares

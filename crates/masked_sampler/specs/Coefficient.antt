@@ -2,7 +2,7 @@
 use Rattle.std.specs.Prelude.{cond, List, ℕ, ◌+◌, ◌-◌, ◌*◌, ◌%◌, eqb, ltb, get_or}
 use Rattle.words.specs.Word.{xor}
 use Rattle.words.specs.Residue.{q}
-use Rattle.worksheet.specs.declared.Shares.{Shares}
+use Rattle.worksheet.specs.Shares.{Shares}
 use Rattle.worksheet.specs.Prog.{Prog, coeff, ret, ◌>>=◌, mask, entry, loop, times}
 use Rattle.worksheet.specs.Sharing.{shares, none}
 

@@ -5,7 +5,7 @@ use Rattle.words.specs.Word.{xor}
 use Rattle.words.specs.Residue.{q}
 use Rattle.words.specs.TableLaws.{every_at}
 use Rattle.codec.specs.Compress.{decompress}
-use Rattle.worksheet.specs.declared.Shares.{Shares}
+use Rattle.worksheet.specs.Shares.{Shares}
 use Rattle.worksheet.specs.Prog.{◌>>=◌, mask, entry}
 use Rattle.worksheet.specs.Uses.{Uses, ret_u, coeff_u, enter_u}
 use Rattle.worksheet.specs.Gives.{Gives, ret_g, draw_g, enter_g, gives_weaken}

@@ -5,7 +5,7 @@ use Rattle.std.proofs.Common.{sym, ap, ◌∙◌, add-zero, arith}
 use Rattle.std.proofs.Math.Nat.{mod-mod, mod-add-mod, add-mod-mod}
 use Rattle.words.specs.Word.{xor}
 use Rattle.words.specs.Residue.{q}
-use Rattle.worksheet.specs.declared.Shares.{Shares}
+use Rattle.worksheet.specs.Shares.{Shares}
 use Rattle.worksheet.specs.Prog.{◌>>=◌, mask, entry}
 use Rattle.worksheet.specs.Couple.{Coupled, ret_c, draw_c, enter_c, coupled_weaken, Like, Silent, here, there, under}
 use Rattle.worksheet.specs.Matching.{identity, by_adding}

@@ -2,7 +2,7 @@
 use Rattle.std.specs.Prelude.{◌≡◌, List, ℕ, ◌<◌, ◌≤◌, length}
 use Rattle.words.specs.Bounded.{Below}
 use Rattle.words.specs.Residue.{q}
-use Rattle.worksheet.specs.declared.Shares.{Shares}
+use Rattle.worksheet.specs.Shares.{Shares}
 use Rattle.worksheet.specs.BitShares.{BitShares}
 use Rattle.worksheet.specs.SharedList.{SharedList}
 use Rattle.masked_sampler.specs.Coefficient.{sampler_coeffs}

@@ -1,7 +1,7 @@
 -- Polynomials whose coefficients are made one by one with masks of their own, as stages: nothing is asked of the bits
 -- that they are made from, and either share can be kept.
 use Rattle.std.specs.Prelude.{ℕ, ◌*◌, ◌<◌, ◌≡◌, Bool, get_or}
-use Rattle.worksheet.specs.declared.Shares.{Shares}
+use Rattle.worksheet.specs.Shares.{Shares}
 use Rattle.worksheet.specs.Prog.{Prog, ret, ◌>>=◌, times}
 use Rattle.worksheet.specs.Couple.{Coupled, Like, Silent, coupled_map, same_at_map}
 use Rattle.worksheet.specs.CoupleLoops.{coupled-times, like-times, silent-times}

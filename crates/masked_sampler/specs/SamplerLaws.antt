@@ -1,5 +1,6 @@
 -- The sampler: how much it does, and what the result is a sharing of.
-use Rattle.std.specs.Prelude.{ℕ, zero, suc, ◌+◌, ◌-◌, ◌*◌, ◌%◌, ◌<◌, ◌≤◌, ◌≡◌, refl, Bool, cond, List, [], ◌∷◌, ◌++◌, length, get_or}
+use Rattle.std.specs.Prelude.{ℕ, zero, suc, ◌+◌, ◌-◌, ◌*◌, ◌%◌, ◌<◌, ◌≤◌, ◌≡◌, refl, Bool, cond, List, [], ◌∷◌, ◌++◌}
+use Rattle.std.specs.Prelude.{length, get_or}
 use Rattle.std.proofs.Common.{sym, ap, ap₂, ◌∙◌, add-mul, mul-le-mul, le_refl, add-one, arith, lt-ltb, le-ltb}
 use Rattle.std.proofs.Math.Nat.{add-mod}
 use Rattle.words.specs.Residue.{q}
@@ -9,7 +10,7 @@ use Rattle.ring.specs.Polynomial.{minus}
 use Rattle.codec.specs.Bytes.{bits_of}
 use Rattle.codec.specs.BytesLaws.{length-bits_of}
 use Rattle.sampling.specs.Sample.{sum, sample_poly_cbd}
-use Rattle.worksheet.specs.declared.Shares.{Shares}
+use Rattle.worksheet.specs.Shares.{Shares}
 use Rattle.worksheet.specs.Prog.{entry}
 use Rattle.worksheet.specs.ProgLaws.{loop_cong, times_cong}
 use Rattle.worksheet.specs.Uses.{Uses, ret_u, enter_u, uses_bind, uses_map, uses-loop, uses-times, uses_recount}

@@ -8,7 +8,7 @@ use mathlib.Core.List.{List}
 use Rattle.std.proofs.Common.{add-one, arith}
 use Rattle.std.proofs.Math.ListN.{get_or}
 use Rattle.words.specs.Residue.{q}
-use Rattle.worksheet.specs.declared.Shares.{Shares}
+use Rattle.worksheet.specs.Shares.{Shares}
 use Rattle.worksheet.specs.Prog.{Prog, ret, ◌>>=◌, entry, times}
 use Rattle.worksheet.specs.Couple.{Coupled, ret_c, enter_c, coupled_weaken, coupled_bind, coupled_map}
 use Rattle.worksheet.specs.Couple.{Like, Silent, SameAt, here, same_at_left, same_at_right, same_at_map}

@@ -10,8 +10,8 @@ ghost use Rattle.worksheet.specs.Prog.{coeff};
 ghost use Rattle.worksheet.specs.Ran.{Makes, Draws};
 ghost use Rattle.worksheet.specs.Sharing.{shares};
 
-use crate::coefficient::{EnteredCoeff, EnteredCoeffs, bit_of, bit_to_coeff, enter_sum};
-use worksheet::{Recorder, Shares};
+use crate::coefficient::{bit_of, bit_to_coeff, enter_sum};
+use worksheet::{Entered, Recorder, Shared, Shares};
 
 fn weight(eta: usize, j: usize) -> u16
     ensures { result ≡ Coefficient.weight eta j }
@@ -36,34 +36,35 @@ fn convert_bits(
         (zip (2 * eta) (shared_list s0.new s1.new)) result }
 {
     let mut rec = rec;
+    // By place, as the definition's turns are: bits, weights, masks and both shares are walked side by side.
     for j in 0..2 * eta {
         let z = bit_to_coeff(rec, weight(eta, j), bit_of(b, j), cs[j]);
-        s0[j] = z.s0;
-        s1[j] = z.s1;
+        s0[j] = z.value.s0;
+        s1[j] = z.value.s1;
         rec = z.rec;
     }
     rec
 }
 
 // The sum of the first n + 1 terms of one share.
-fn sum_terms(rec: Recorder, n: usize, x: &[u16]) -> EnteredCoeff
+fn sum_terms(rec: Recorder, n: usize, x: &[u16]) -> Entered<u16>
     requires { n < length x.now }
     ensures { Makes (sums n (λ j. get_or x.now j 0)) rec result.value result.rec }
 {
     let mut rec = rec;
     let mut s = x[0];
-    for j in 0..n {
-        let e = enter_sum(rec, s, x[j + 1]);
+    for y in &x[1..n + 1] {
+        let e = enter_sum(rec, s, *y);
         s = e.value;
         rec = e.rec;
     }
-    EnteredCoeff { value: s, rec }
+    Entered { value: s, rec }
 }
 
-pub fn sampler(rec: Recorder, eta: usize, b: Shares, cs: &[u16]) -> EnteredCoeffs
+pub fn sampler(rec: Recorder, eta: usize, b: Shares, cs: &[u16]) -> Entered<Shared<u16>>
     requires { SamplerLent eta cs.now }
     ensures { Draws coeff (sampler_coeffs eta) (Coefficient.sampler eta (bit_of b)) rec cs.now
-        (shares result.s0 result.s1) result.rec }
+        (shares result.value.s0 result.value.s1) result.rec }
 {
     let n = 2 * eta - 1;
     let mut s0 = [0u16; 6];
@@ -71,10 +72,11 @@ pub fn sampler(rec: Recorder, eta: usize, b: Shares, cs: &[u16]) -> EnteredCoeff
     let rec = convert_bits(rec, eta, b, cs, &mut s0, &mut s1);
     let a0 = sum_terms(rec, n, &s0);
     let a1 = sum_terms(a0.rec, n, &s1);
-    let last = a1.rec;
-    EnteredCoeffs {
-        s0: a0.value,
-        s1: a1.value,
-        rec: last,
+    Entered {
+        value: Shared {
+            s0: a0.value,
+            s1: a1.value,
+        },
+        rec: a1.rec,
     }
 }

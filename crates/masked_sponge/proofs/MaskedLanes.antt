@@ -13,7 +13,7 @@ use lib.Seq.{get_or-set_other}
 use Rattle.words.specs.Tab.{tab}
 use Rattle.words.specs.TabLaws.{tab_of}
 use Rattle.worksheet.specs.declared.Recorder.{Recorder}
-use Rattle.worksheet.specs.declared.Shares.{Shares}
+use Rattle.worksheet.specs.Shares.{Shares}
 use Rattle.worksheet.specs.Prog.{word, mask, times}
 use Rattle.worksheet.specs.Ran.{Ran, Makes, Draws, bind, over, draws_word, next_word}
 use Rattle.worksheet.specs.RanLoops.{times_start, times_turn}

@@ -25,20 +25,26 @@ pub record AbsorbLent (rate suffix : ℕ) (in0 in1 ws : List ℕ) : Type 0 where
   pub inputs : length in0 ≡ length in1
   pub masks : hash_mask_words (input_blocks rate (length in0)) ≤ length ws
 
--- an output in two shares, in blocks of so many elements, and the masks for its further blocks
-pub record OutputLent (most per : ℕ) (ws out0 out1 : List ℕ) : Type 0 where
-  pub long : length out0 ≡ length out1
-  pub positive : 0 < per
-  pub fits : per ≤ most
-  pub masks : keccak_p_words * further_blocks per (length out0) ≤ length ws
-
--- in bytes, of which a block has rate, whole lanes
-pub record BytesLent (rate : ℕ) (ws out0 out1 : List ℕ) : Type 0 where
-  pub output : OutputLent 200 rate ws out0 out1
+-- a block of rate bytes, whole lanes
+pub record WholeLanes (rate : ℕ) : Type 0 where
+  pub positive : 0 < rate
+  pub fits : rate ≤ 200
   pub whole : rate % 8 ≡ 0
 
+-- a block of so many elements of output, whole lanes of in_lane elements each, of which a state has at most so many
+pub record BlockFits (most in_lane per : ℕ) : Type 0 where
+  pub positive : 0 < per
+  pub fits : per ≤ most
+  pub whole : per % in_lane ≡ 0
+
+-- an output in two shares, in such blocks, and the masks for the further ones
+pub record OutputLent {A : Type 0} (most in_lane per : ℕ) (ws : List ℕ) (out0 out1 : List A) : Type 0 where
+  pub long : length out0 ≡ length out1
+  pub block : BlockFits most in_lane per
+  pub masks : keccak_p_words * further_blocks per (length out0) ≤ length ws
+
 -- the part of one share's output from a to e
-pub record PartLent (most a e : ℕ) (out : List ℕ) : Type 0 where
+pub record PartLent {A : Type 0} (most a e : ℕ) (out : List A) : Type 0 where
   pub order : a ≤ e
   pub within : e ≤ length out
   pub short : e - a ≤ most

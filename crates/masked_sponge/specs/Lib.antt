@@ -3,4 +3,5 @@ pub mod EntryCounts
 pub mod Lent
 pub mod MaskedBytes
 pub mod MaskedSteps
+pub mod GivenOut
 pub mod MaskedBlocksSilence

@@ -6,7 +6,7 @@ use Rattle.words.specs.Word.{xor}
 use Rattle.words.specs.Bits.{Bits}
 use Rattle.words.specs.WordLaws.{xor-bits, zero_bits, xor_same, xor_zero, xor-xor_cancel}
 use Rattle.keccak.specs.LinearPass.{LaneBits}
-use Rattle.worksheet.specs.declared.Shares.{Shares}
+use Rattle.worksheet.specs.Shares.{Shares}
 use Rattle.worksheet.specs.Prog.{◌>>=◌, mask, entry, loop}
 use Rattle.worksheet.specs.Couple.{Coupled, ret_c, draw_c, enter_c, Like, SameAt, coupled_weaken, coupled_recount}
 use Rattle.worksheet.specs.Couple.{same_at_recount, coupled_bind, coupled_map, same_at_right, same_at_map}

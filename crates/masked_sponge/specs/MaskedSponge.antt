@@ -1,6 +1,6 @@
 -- The sponge on two shares (document 01, The gadgets: Hash), general in rate, suffix and lengths.
 use Rattle.std.specs.Prelude.{cond, List, ℕ, ◌+◌, ◌-◌, ◌*◌, ◌/◌, ◌%◌, ltb, get_or, length, take, drop}
-use Rattle.worksheet.specs.declared.Shares.{Shares}
+use Rattle.worksheet.specs.Shares.{Shares}
 use Rattle.worksheet.specs.Prog.{Prog, word, ret, ◌>>=◌, mask, loop, times, chain}
 use Rattle.worksheet.specs.Sharing.{shares, none}
 use Rattle.worksheet.specs.SharedList.{SharedList, shared_list, shared_at, unzip}

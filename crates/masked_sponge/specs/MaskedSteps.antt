@@ -1,7 +1,7 @@
 -- What the functions of the masked sponge do by themselves: what goes in with a block, and what comes out.
 use Rattle.std.specs.Prelude.{List, ◌++◌, ℕ, ◌+◌, ◌-◌, ◌/◌, get_or, take, drop}
 use Rattle.words.specs.Tab.{tab}
-use Rattle.worksheet.specs.declared.Shares.{Shares}
+use Rattle.worksheet.specs.Shares.{Shares}
 use Rattle.worksheet.specs.Prog.{Prog, ret, ◌>>=◌}
 use Rattle.worksheet.specs.Sharing.{shares}
 use Rattle.worksheet.specs.SharedList.{SharedList}
@@ -31,5 +31,5 @@ abbrev pub lane : List ℕ → ℕ → ℕ
 lane s i = get_or s i 0
 
 -- out, its elements from a to e replaced by the first that read gives of the state s
-abbrev pub given : (List ℕ → ℕ → ℕ) → List ℕ → ℕ → ℕ → List ℕ → List ℕ
+abbrev pub given : {A : Type 0} → (List ℕ → ℕ → A) → List ℕ → ℕ → ℕ → List A → List A
 given read s a e out = take a out ++ (tab (e - a) (read s) ++ drop (e - a) (drop a out))

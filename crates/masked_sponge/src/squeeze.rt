@@ -1,131 +1,142 @@
 // Giving output out on two shares (document 01, The gadgets: Hash).
-ghost use Rattle.std.specs.Prelude.{◌≡◌, ◌-◌, ◌*◌, ◌/◌, ◌<◌, ◌≤◌, length};
+ghost use Rattle.std.specs.Prelude.{List, ◌≡◌, ℕ, ◌-◌, ◌*◌, ◌/◌, ◌<◌, ◌≤◌, length};
 ghost use Rattle.words.specs.Tab.{tab};
-ghost use Rattle.worksheet.specs.Prog.{word};
+ghost use Rattle.worksheet.specs.declared.Shared.{Shared as SharedOf};
+ghost use Rattle.worksheet.specs.Prog.{Prog, word};
 ghost use Rattle.worksheet.specs.Ran.{Draws};
-ghost use Rattle.worksheet.specs.SharedList.{shared_list};
+ghost use Rattle.worksheet.specs.SharedList.{SharedList};
 ghost use Rattle.fips202.specs.Sponge.{byte_of};
 ghost use Rattle.masked_keccak.specs.MaskedKeccak.{keccak_p_words};
 ghost use Rattle.masked_keccak.specs.SharedRows.{shared_state};
-ghost use Rattle.masked_sponge.specs.Lent.{OutputLent, BytesLent, PartLent};
+ghost use Rattle.masked_sponge.specs.Lent.{WholeLanes, BlockFits, OutputLent, PartLent};
 ghost use Rattle.masked_sponge.specs.MaskedSponge.{further_blocks, masked_squeeze};
 ghost use Rattle.masked_sponge.specs.MaskedSteps.{squeeze_bytes, lane, given};
+ghost use Rattle.masked_sponge.specs.GivenOut.{GivesOut, bytes_given_out, words_given_out};
 
 use fips202::squeeze::extract;
 use keccak::state::State;
-use worksheet::Recorder;
+use worksheet::{Entered, Recorder, Shared};
 
 // The permutations after the first block of an output of n, words or bytes, of which a block has so many.
 pub fn further(n: usize, per: usize) -> usize
     requires { 0 < per }
     ensures { result ≡ further_blocks per n }
 {
-    if n == 0 {
-        return 0;
+    n.saturating_sub(1) / per
+}
+
+// What a sponge's output is made of: bytes, or words.
+pub trait Output: Copy {
+    // What a state gives at a place.
+    ghost read: { List ℕ → ℕ → Self };
+
+    // How many of them a state has.
+    ghost most: { ℕ };
+
+    // How many make a lane.
+    ghost in_lane: { ℕ };
+
+    // How many a block of so many bytes has.
+    ghost block: { ℕ → ℕ };
+
+    // The definition's output, in blocks of so many of them.
+    ghost squeezed: { ℕ → ℕ → SharedList → Prog (SharedOf (List Self)) };
+
+    fn block(rate: usize) -> usize
+        requires { WholeLanes rate }
+        ensures { (result ≡ block rate) × BlockFits most in_lane result };
+
+    // The first of a state.
+    fn extract(s: State, out: &mut [Self])
+        requires { length out.old ≤ most }
+        ensures { out.new ≡ tab (length out.old) (read s.lanes) };
+
+    ghost gives_out: { GivesOut in_lane read squeezed };
+}
+
+impl Output for u8 {
+    ghost read = { byte_of };
+
+    ghost most = { 200 };
+
+    ghost in_lane = { 8 };
+
+    ghost block = { λ rate. rate };
+
+    ghost squeezed = { λ per n s. squeeze_bytes (per / 8) n s };
+
+    fn block(rate: usize) -> usize {
+        rate
     }
-    (n - 1) / per
-}
 
-// ---- one share
-
-// The first lanes of a state.
-fn first_lanes(s: State, out: &mut [u64])
-    requires { length out.old ≤ 25 }
-    ensures { out.new ≡ tab (length out.old) (lane s.lanes) }
-{
-    for i in 0..out.len() {
-        out[i] = s.lanes[i];
+    fn extract(s: State, out: &mut [u8]) {
+        extract(s, out);
     }
+
+    ghost gives_out = { bytes_given_out };
 }
 
-// The state's first lanes, to the places from a to e.
-fn give_lanes(s: State, a: usize, e: usize, out: &mut [u64])
-    requires { PartLent 25 a e out.old }
-    ensures { out.new ≡ given lane s.lanes a e out.old }
+impl Output for u64 {
+    ghost read = { lane };
+
+    ghost most = { 25 };
+
+    ghost in_lane = { 1 };
+
+    ghost block = { λ rate. rate / 8 };
+
+    ghost squeezed = { masked_squeeze };
+
+    fn block(rate: usize) -> usize {
+        rate / 8
+    }
+
+    fn extract(s: State, out: &mut [u64]) {
+        let n = out.len();
+        out.copy_from_slice(&s.lanes[..n]);
+    }
+
+    ghost gives_out = { words_given_out };
+}
+
+// The state's first elements, to the places from a to e.
+fn give<T: Output>(s: State, a: usize, e: usize, out: &mut [T])
+    requires { PartLent T.most a e out.old }
+    ensures { out.new ≡ given T.read s.lanes a e out.old }
 {
-    first_lanes(s, &mut out[a..e]);
+    T::extract(s, &mut out[a..e]);
 }
 
-// Its first bytes.
-fn give_bytes(s: State, a: usize, e: usize, out: &mut [u8])
-    requires { PartLent 200 a e out.old }
-    ensures { out.new ≡ given byte_of s.lanes a e out.old }
-{
-    extract(s, &mut out[a..e]);
-}
-
-// ---- both
-
-// The outputs are filled from the shares s and t of the state, with 600 masks for each further permutation.
-pub fn masked_squeeze(
+// The outputs are filled from the shares of the state, in blocks of so many elements, with 600 masks for each further
+// permutation.
+pub fn masked_squeeze<T: Output>(
     rec: Recorder,
-    s: State,
-    t: State,
-    rate: usize,
+    s: Shared<State>,
+    per: usize,
     ws: &[u64],
-    out0: &mut [u8],
-    out1: &mut [u8],
+    out0: &mut [T],
+    out1: &mut [T],
 ) -> Recorder
-    requires { BytesLent rate ws.now out0.old out1.old }
-    ensures { Draws word (keccak_p_words * further_blocks rate (length out0.old))
-        (squeeze_bytes (rate / 8) (length out0.old) (shared_state s t))
-        rec ws.now (shared_list out0.new out1.new) result }
+    requires { OutputLent T.most T.in_lane per ws.now out0.old out1.old }
+    ensures { Draws word (keccak_p_words * further_blocks per (length out0.old))
+        (T.squeezed per (length out0.old) (shared_state s.s0 s.s1))
+        rec ws.now (record { s0 = out0.new; s1 = out1.new }) result }
 {
     let n = out0.len();
-    let m = further(n, rate);
-    let mut rec = rec;
-    let mut s0 = s;
-    let mut s1 = t;
+    let m = further(n, per);
+    let mut o = Entered { value: s, rec };
+    // By place, as the definition's turns are: both outputs and the masks are walked side by side, and no permutation
+    // follows the last block.
     for i in 0..m {
-        let a = i * rate;
-        let e = a + rate;
+        let a = i * per;
+        let e = a + per;
         let k = 600 * i;
-        give_bytes(s0, a, e, out0);
-        give_bytes(s1, a, e, out1);
-        let o = masked_keccak::permute(rec, s0, s1, &ws[k..]);
-        s0 = o.s0;
-        s1 = o.s1;
-        rec = o.rec;
+        give(o.value.s0, a, e, out0);
+        give(o.value.s1, a, e, out1);
+        o = masked_keccak::permute(o.rec, o.value, &ws[k..]);
     }
-    let a = m * rate;
-    give_bytes(s0, a, n, out0);
-    give_bytes(s1, a, n, out1);
-    rec
-}
-
-// The same with output in words, of which a block has so many lanes.
-pub fn masked_squeeze_words(
-    rec: Recorder,
-    s: State,
-    t: State,
-    lanes: usize,
-    ws: &[u64],
-    o0: &mut [u64],
-    o1: &mut [u64],
-) -> Recorder
-    requires { OutputLent 25 lanes ws.now o0.old o1.old }
-    ensures { Draws word (keccak_p_words * further_blocks lanes (length o0.old))
-        (masked_squeeze lanes (length o0.old) (shared_state s t))
-        rec ws.now (shared_list o0.new o1.new) result }
-{
-    let n = o0.len();
-    let m = further(n, lanes);
-    let mut rec = rec;
-    let mut s0 = s;
-    let mut s1 = t;
-    for i in 0..m {
-        let a = i * lanes;
-        let e = a + lanes;
-        let k = 600 * i;
-        give_lanes(s0, a, e, o0);
-        give_lanes(s1, a, e, o1);
-        let o = masked_keccak::permute(rec, s0, s1, &ws[k..]);
-        s0 = o.s0;
-        s1 = o.s1;
-        rec = o.rec;
-    }
-    let a = m * lanes;
-    give_lanes(s0, a, n, o0);
-    give_lanes(s1, a, n, o1);
-    rec
+    let a = m * per;
+    give(o.value.s0, a, n, out0);
+    give(o.value.s1, a, n, out1);
+    o.rec
 }

@@ -9,7 +9,7 @@ use Rattle.words.specs.Word.{xor}
 use Rattle.words.specs.WordLaws.{xor_same, xor_zero, xor_cancel}
 use Rattle.words.specs.Table.{every}
 use Rattle.words.specs.TableLaws.{every_at, every_true}
-use Rattle.worksheet.specs.declared.Shares.{Shares}
+use Rattle.worksheet.specs.Shares.{Shares}
 use Rattle.worksheet.specs.Gives.{Gives, gives_bind, gives_weaken}
 use Rattle.worksheet.specs.Sharing.{none}
 use Rattle.worksheet.specs.SharingLaws.{Sharing}

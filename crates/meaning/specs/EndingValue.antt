@@ -8,7 +8,7 @@ use Rattle.words.specs.LittleEndian.{words_to_bytes}
 use Rattle.words.specs.LittleEndianLaws.{take-words_to_bytes}
 use Rattle.words.specs.Tab.{tab}
 use Rattle.words.specs.TabLaws.{length-tab, get_or-tab, tab_of}
-use Rattle.worksheet.specs.declared.Shares.{Shares}
+use Rattle.worksheet.specs.Shares.{Shares}
 use Rattle.worksheet.specs.Gives.{Gives, ret_g, gives_bind, gives_weaken, gives-times}
 use Rattle.worksheet.specs.Sharing.{none}
 use Rattle.worksheet.specs.SharingLaws.{Sharing}

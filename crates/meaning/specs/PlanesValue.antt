@@ -16,7 +16,7 @@ use Rattle.words.specs.Tab.{tab}
 use Rattle.words.specs.TabLaws.{length-tab, get_or-tab}
 use Rattle.codec.specs.Compress.{compress}
 use Rattle.codec.specs.CompressLaws.{compress_lt, get_or-compress}
-use Rattle.worksheet.specs.declared.Shares.{Shares}
+use Rattle.worksheet.specs.Shares.{Shares}
 use Rattle.worksheet.specs.Turns.{each_weaken}
 use Rattle.worksheet.specs.Gives.{Gives, ret_g, gives_bind, gives_weaken, gives-times}
 use Rattle.worksheet.specs.SharedList.{SharedList, shared_at}

@@ -1,7 +1,7 @@
 -- What the shares that a stage hands on stand for.
 use Rattle.std.specs.Prelude.{◌≡◌, List, ℕ, length, get_or}
 use Rattle.words.specs.LittleEndian.{words_to_bytes}
-use Rattle.worksheet.specs.declared.Shares.{Shares}
+use Rattle.worksheet.specs.Shares.{Shares}
 use Rattle.worksheet.specs.SharingLaws.{Sharing}
 use Rattle.worksheet.specs.SharedList.{SharedList}
 use Rattle.worksheet.specs.Turns.{Each}

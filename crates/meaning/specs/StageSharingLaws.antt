@@ -12,7 +12,7 @@ use Rattle.words.specs.DigitLaws.{xor-digit}
 use Rattle.codec.specs.Bytes.{bits_of}
 use Rattle.ring.specs.Polynomial.{add}
 use Rattle.ring.specs.Sum.{length-add, get_or_add, get_or_add_lt}
-use Rattle.worksheet.specs.declared.Shares.{Shares}
+use Rattle.worksheet.specs.Shares.{Shares}
 use Rattle.worksheet.specs.Sharing.{joined}
 use Rattle.worksheet.specs.SharingLaws.{Sharing}
 use Rattle.worksheet.specs.SharedList.{SharedList, unzip}

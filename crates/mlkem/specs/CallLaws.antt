@@ -1,17 +1,17 @@
 -- A call's answer and what it leaves: lengths that are exact pass row 1, so that the other rows decide, and a refused
 -- call leaves each lent buffer as it was.
-use Rattle.std.specs.Prelude.{◌≡◌, not, List, [], ◌∷◌, ℕ, ◌<◌, take}
+use Rattle.std.specs.Prelude.{◌≡◌, not, List, [], ◌∷◌, ℕ, take, Err}
 use Rattle.std.proofs.Common.{sym, ap}
 use Rattle.parameters.specs.declared.Edition.{Edition}
 use Rattle.parameters.specs.declared.Parameters.{Parameters}
 use Rattle.parameters.specs.Lengths.{vector_bytes}
 use Rattle.vectors.specs.Vector.{coefficients}
 use Rattle.kpke.specs.KPke.{matrix_full}
-use Rattle.refusals.specs.declared.Answer.{Answer}
-use Rattle.refusals.specs.declared.Answer.TheVariants.{WrongLength, PublicKeyRange, ShortStream}
-use Rattle.refusals.specs.Refusals.{number, row, answer}
+use Rattle.refusals.specs.declared.Refusal.{Refusal}
+use Rattle.refusals.specs.declared.Refusal.TheVariants.{WrongLength, PublicKeyRange, ShortStream}
+use Rattle.refusals.specs.Refusals.{Answer, refusal_number, number, row, answer, after}
 use Rattle.refusals.specs.Reduced.{reduced}
-use Rattle.refusals.specs.RefusalLaws.{passed, exact-sized, after_kept}
+use Rattle.refusals.specs.RefusalLaws.{refusal_number-positive, passed, exact-sized, after_kept}
 use Rattle.mlkem.specs.Editions.{seeds}
 use Rattle.mlkem.specs.Calls.{
   sample_answer,
@@ -24,9 +24,10 @@ use Rattle.mlkem.specs.Calls.{
 }
 use Rattle.mlkem.specs.Sized.{KeyGenSized, EncapsSized}
 
-pub sample_refused : (r : Answer) {stream out : List ℕ} → 0 < number r → sample_answer stream out ≡ r
-    → StreamSampled stream out (number r) out
-sample_refused r h e = record { answer = ap number (sym e); out = after_kept r _ _ h }
+pub sample_refused : (r : Refusal) {stream out : List ℕ} → sample_answer stream out ≡ Err r
+    → StreamSampled stream out (refusal_number r) out
+sample_refused r e =
+    record { answer = ap number (sym e); out = after_kept (Err r) _ _ (refusal_number-positive r) }
 
 -- ---- row 1 passed
 
@@ -50,12 +51,15 @@ module _ (p : Parameters) (r : Answer) {ek m ct k : List ℕ} where
 
 -- ---- refused
 
-module _ (e : Edition) (p : Parameters) (r : Answer) (h : 0 < number r) where
-  pub keygen_refused : (d z ek dk : List ℕ) → key_gen_answer e p d z ek dk ≡ r
-      → KeysMade e p d z ek dk (number r) ek dk
-  keygen_refused d z ek dk f =
-      record { answer = ap number (sym f); ek = after_kept r _ _ h; dk = after_kept r _ _ h }
+module _ (e : Edition) (p : Parameters) (r : Refusal) where
+  kept : {A : Type 0} (new old : A) → old ≡ after (refusal_number r) new old
+  kept new old = after_kept (Err r) new old (refusal_number-positive r)
 
-  pub encaps_refused : (ek m ct k : List ℕ) → encaps_answer p ek m ct k ≡ r
-      → Encapsulated e p ek m ct k (number r) ct k
-  encaps_refused ek m ct k f = record { answer = ap number (sym f); ct = after_kept r _ _ h; k = after_kept r _ _ h }
+  pub keygen_refused : (d z ek dk : List ℕ) → key_gen_answer e p d z ek dk ≡ Err r
+      → KeysMade e p d z ek dk (refusal_number r) ek dk
+  keygen_refused d z ek dk f =
+      record { answer = ap number (sym f); ek = kept _ _; dk = kept _ _ }
+
+  pub encaps_refused : (ek m ct k : List ℕ) → encaps_answer p ek m ct k ≡ Err r
+      → Encapsulated e p ek m ct k (refusal_number r) ct k
+  encaps_refused ek m ct k f = record { answer = ap number (sym f); ct = kept _ _; k = kept _ _ }

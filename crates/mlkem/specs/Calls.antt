@@ -3,8 +3,7 @@
 -- buffers as they are then (₁).
 use Rattle.std.specs.Prelude.{◌≡◌, not, List, [], ◌∷◌, ℕ, take, drop}
 use Rattle.sampling.specs.Sample.{full, sample_ntt}
-use Rattle.refusals.specs.declared.Answer.{Answer}
-use Rattle.refusals.specs.declared.Answer.TheVariants.{WrongLength, PublicKeyRange, ShortStream}
+use Rattle.refusals.specs.declared.Refusal.TheVariants.{WrongLength, PublicKeyRange, ShortStream}
 use Rattle.parameters.specs.declared.Edition.{Edition}
 use Rattle.parameters.specs.declared.Parameters.{Parameters}
 use Rattle.parameters.specs.ByRank.{ByRank}
@@ -12,7 +11,7 @@ use Rattle.parameters.specs.Lengths.{vector_bytes, ek_bytes, dk_bytes, ct_bytes}
 use Rattle.vectors.specs.Vector.{coefficients}
 use Rattle.kpke.specs.KPke.{matrix_full}
 use Rattle.mlkem.specs.Editions.{seeds, key_gen_ek, key_gen_dk, encaps_key, encaps_ct}
-use Rattle.refusals.specs.Refusals.{number, row, answer, after, Lent, lent, sized}
+use Rattle.refusals.specs.Refusals.{Answer, number, row, answer, after, Lent, lent, sized}
 use Rattle.refusals.specs.Reduced.{reduced}
 
 -- ---- sampling (FIPS 203, algorithm 7)

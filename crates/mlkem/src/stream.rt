@@ -2,17 +2,14 @@
 ghost use Rattle.mlkem.specs.Calls.{StreamSampled};
 ghost use Rattle.refusals.specs.Refusals.{number};
 
-use refusals::{Answer, exact};
-use sampling::{Sampled, sample_ntt};
+use refusals::{Answer, Refusal, exact};
+use sampling::sample_ntt;
 
 pub fn sample(stream: &[u8], out: &mut [u16]) -> Answer
     ensures { StreamSampled stream.now out.old (number result) out.new }
 {
     if !exact(&[stream.len(), out.len()], &[840, 256]) {
-        return Answer::WrongLength;
+        return Err(Refusal::WrongLength);
     }
-    match sample_ntt(stream, out) {
-        Sampled::Full => Answer::Done,
-        Sampled::Short => Answer::ShortStream,
-    }
+    sample_ntt(stream, out)
 }

@@ -2,18 +2,15 @@
 // second names the parameter set. The others are files and numbers.
 #![tactic(auto)]
 
-ghost use Rattle.cli_support.specs.Bounded.{Bounded};
-
-use cli_commands::commands::{Call, Command, Stream};
-use cli_commands::{commands, hashes, keys, stream_sampling};
-use cli_support::arguments::{arg, arg_count, buffer};
+use cli_commands::commands::{Call, Command, Stream, print_form, print_usage};
+use cli_commands::{hashes, keys, stream_sampling};
+use cli_support::arguments::{Word, count};
 use cli_support::desk::Desk;
-use cli_support::messages;
-use cli_support::sets::{Set, Sizes, set_at, sizes_of};
+use cli_support::messages::{Told, unknown};
+use cli_support::sets::{Sizes, sizes_at};
 
-fn run_call(desk: &impl Desk, call: Call, set: Sizes)
-    requires { Bounded set }
-{
+// The one place that goes by the call: a table of functions would say it no plainer.
+fn run_call(desk: &impl Desk, call: Call, set: Sizes) -> Result<(), Told> {
     match call {
         Call::KeyGen => keys::keygen(desk, set),
         Call::Encaps => keys::encaps(desk, set),
@@ -26,40 +23,42 @@ fn run_call(desk: &impl Desk, call: Call, set: Sizes)
 }
 
 // For the parameter set that argument 2 names.
-fn run_named(desk: &impl Desk, call: Call) {
-    let Set::Is(e, rank) = set_at(desk, 2) else {
-        commands::print_form_line(desk, Command::Calling(call));
-        return;
+fn run_named(desk: &impl Desk, call: Call) -> Result<(), Told> {
+    let Some(set) = sizes_at(desk, 2) else {
+        return Err(print_form(desk, Command::Calling(call)));
     };
-    run_call(desk, call, sizes_of(e, rank));
+    run_call(desk, call, set)
 }
 
-fn run(desk: &impl Desk, command: Command) {
+fn run(desk: &impl Desk, command: Command) -> Result<(), Told> {
     match command {
-        Command::Help => commands::print_usage(desk, Stream::Output),
+        Command::Help => {
+            print_usage(desk, Stream::Output);
+            Ok(())
+        }
         Command::Hashing(hash) => hashes::run(desk, hash),
         Command::Sampling => stream_sampling::sample(desk),
         Command::Calling(call) => run_named(desk, call),
-        Command::Unknown => commands::print_usage(desk, Stream::Error),
     }
 }
 
+fn run_line(desk: &impl Desk) -> Result<(), Told> {
+    let words = count(desk);
+    if words < 2 {
+        print_usage(desk, Stream::Error);
+        return Err(Told);
+    }
+    let word = Word::<4096>::at(desk, 1);
+    let Some(command) = Command::named(word.bytes()) else {
+        return Err(unknown(desk, word.bytes()));
+    };
+    if words != command.word_count() {
+        return Err(print_form(desk, command));
+    }
+    run(desk, command)
+}
+
+// The exit status is 0 whatever is told.
 fn main(rt: HostRuntime) {
-    let count = arg_count(&rt);
-    if count < 2 {
-        commands::print_usage(&rt, Stream::Error);
-        return;
-    }
-    let mut word = buffer();
-    let n = arg(&rt, 1, &mut word);
-    let command = commands::named(&word[..n]);
-    if let Command::Unknown = command {
-        messages::unknown(&rt, &word[..n]);
-        return;
-    }
-    if count != commands::word_count(command) {
-        commands::print_form_line(&rt, command);
-        return;
-    }
-    run(&rt, command);
+    let _ = run_line(&rt);
 }

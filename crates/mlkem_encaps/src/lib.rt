@@ -14,10 +14,9 @@ ghost use Rattle.refusals.specs.Refusals.{number};
 use hash_functions::{hash_g, hash_h, hash_kdf};
 use kpke::encrypt::encrypt;
 use kpke::matrix::expand;
-use parameters::{Edition, Parameters, ct_bytes, ek_bytes, is_rank, of_rank, vector_bytes};
+use parameters::{Edition, Parameters, ct_bytes, ek_bytes, vector_bytes};
 use refusals::conditions::reduced;
-use refusals::{Answer, exact};
-use slices::copy_bytes;
+use refusals::{Answer, Refusal, exact};
 use vectors::decode_all;
 
 // FIPS 203, section 7.2, the modulus check: each coefficient of an encoded vector is below q. They go to t.
@@ -48,7 +47,7 @@ fn write_mlkem(p: Parameters, a: &[u16], ek: &[u8], m: &[u8], ct: &mut [u8], k: 
     let mut g = [0u8; 64];
     hash_h(ek, &mut h);
     hash_g(m, &h, &mut g);
-    copy_bytes(&g[0..32], k);
+    k.copy_from_slice(&g[0..32]);
     encrypt(p, a, ek, m, &g[32..], ct);
 }
 
@@ -107,13 +106,11 @@ fn encaps_in(
 {
     let n = vector_bytes(p);
     if !vector_reduced(&ek[0..n], p.k) {
-        return Answer::PublicKeyRange;
+        return Err(Refusal::PublicKeyRange);
     }
-    if !expand(&ek[n..], p.k, a) {
-        return Answer::ShortStream;
-    }
+    expand(&ek[n..], p.k, a)?;
     write_secret(e, p, a, ek, m, ct, k);
-    Answer::Done
+    Ok(())
 }
 
 // Row 1 passed.
@@ -159,7 +156,7 @@ fn encaps_at(e: Edition, p: Parameters, ek: &[u8], m: &[u8], ct: &mut [u8], k: &
     let has = [ek.len(), m.len(), ct.len(), k.len()];
     let wants = [ek_bytes(p), 32, ct_bytes(p), 32];
     if !exact(&has, &wants) {
-        return Answer::WrongLength;
+        return Err(Refusal::WrongLength);
     }
     encaps_sized(e, p, ek, m, ct, k)
 }
@@ -177,8 +174,5 @@ pub fn encaps(e: Edition, rank: u32, ek: &[u8], m: &[u8], ct: &mut [u8], k: &mut
         ct.new
         k.new }
 {
-    if !is_rank(rank) {
-        return Answer::NoSuchRank;
-    }
-    encaps_at(e, of_rank(rank), ek, m, ct, k)
+    encaps_at(e, Parameters::try_from(rank)?, ek, m, ct, k)
 }

@@ -12,9 +12,8 @@ ghost use Rattle.refusals.specs.Refusals.{number};
 use hash_functions::hash_h;
 use kpke::matrix::expand;
 use mlkem::seeds;
-use parameters::{Edition, Parameters, dk_bytes, ek_bytes, is_rank, of_rank, vector_bytes};
-use refusals::{Answer, exact};
-use slices::copy_bytes;
+use parameters::{Edition, Parameters, dk_bytes, ek_bytes, vector_bytes};
+use refusals::{Answer, Refusal, exact};
 
 // Algorithm 16, line 3, what follows K-PKE's key: ek || H(ek) || z.
 fn write_rest(ek: &[u8], z: &[u8], rest: &mut [u8])
@@ -23,9 +22,9 @@ fn write_rest(ek: &[u8], z: &[u8], rest: &mut [u8])
 {
     let h = ek.len();
     let e = h + 32;
-    copy_bytes(ek, &mut rest[0..h]);
+    rest[0..h].copy_from_slice(ek);
     hash_h(ek, &mut rest[h..e]);
-    copy_bytes(z, &mut rest[e..]);
+    rest[e..].copy_from_slice(z);
 }
 
 // Algorithm 16, lines 1 to 3, for the matrix A-hat in a and the seeds rho || sigma in g that K-PKE's keys come from.
@@ -62,11 +61,9 @@ fn keygen_in(
 {
     let mut g = [0u8; 64];
     seeds(e, p, d, &mut g);
-    if !expand(&g[0..32], p.k, a) {
-        return Answer::ShortStream;
-    }
+    expand(&g[0..32], p.k, a)?;
     write_keys(p, a, &g, z, ek, dk);
-    Answer::Done
+    Ok(())
 }
 
 // Row 1 passed.
@@ -112,7 +109,7 @@ fn keygen_at(e: Edition, p: Parameters, d: &[u8], z: &[u8], ek: &mut [u8], dk: &
     let has = [d.len(), z.len(), ek.len(), dk.len()];
     let wants = [32, 32, ek_bytes(p), dk_bytes(p)];
     if !exact(&has, &wants) {
-        return Answer::WrongLength;
+        return Err(Refusal::WrongLength);
     }
     keygen_sized(e, p, d, z, ek, dk)
 }
@@ -130,8 +127,5 @@ pub fn keygen(e: Edition, rank: u32, d: &[u8], z: &[u8], ek: &mut [u8], dk: &mut
         ek.new
         dk.new }
 {
-    if !is_rank(rank) {
-        return Answer::NoSuchRank;
-    }
-    keygen_at(e, of_rank(rank), d, z, ek, dk)
+    keygen_at(e, Parameters::try_from(rank)?, d, z, ek, dk)
 }

@@ -1,7 +1,7 @@
 -- Refusal 9 (document 02, ask 2), tried before all others: what a call that is told a rank answers and leaves.
 use Rattle.std.specs.Prelude.{◌≡◌, true, false, ℕ}
-use Rattle.refusals.specs.declared.Answer.TheVariants.{NoSuchRank}
-use Rattle.refusals.specs.Refusals.{number}
+use Rattle.refusals.specs.declared.Refusal.TheVariants.{NoSuchRank}
+use Rattle.refusals.specs.Refusals.{refusal_number}
 use Rattle.parameters.specs.declared.Parameters.{Parameters}
 use Rattle.parameters.specs.Ranks.{is_rank, of_rank}
 
@@ -9,4 +9,4 @@ use Rattle.parameters.specs.Ranks.{is_rank, of_rank}
 -- what it held
 pub record ByRank (rank n : ℕ) (Call : Parameters → Type 0) (Kept : Type 0) : Type 0 where
   pub called : is_rank rank ≡ true → Call (of_rank rank)
-  pub refused : is_rank rank ≡ false → (n ≡ number NoSuchRank) × Kept
+  pub refused : is_rank rank ≡ false → (n ≡ refusal_number NoSuchRank) × Kept

@@ -3,9 +3,11 @@
 #![tactic(auto)]
 
 ghost use Rattle.std.specs.Prelude.{◌≡◌};
-ghost use Rattle.parameters.specs.Ranks.{is_rank, of_rank};
+ghost use Rattle.parameters.specs.Ranks.{is_rank, of_rank, set_of};
 ghost use Rattle.parameters.specs.Lengths.{vector_bytes, ek_bytes, dk_bytes, ct_bytes};
 ghost use Rattle.parameters.specs.Fits.{Fits};
+
+use refusals::Refusal;
 
 // FIPS 203's ML-KEM, or Kyber as submitted to the third round (version 3.02). Both have the same parameter sets.
 #[derive(Clone, Copy)]
@@ -28,13 +30,7 @@ pub struct Parameters {
 pub fn is_rank(rank: u32) -> bool
     ensures { result ≡ is_rank rank }
 {
-    if rank == 2 {
-        return true;
-    }
-    if rank == 3 {
-        return true;
-    }
-    rank == 4
+    matches!(rank, 2..=4)
 }
 
 // ML-KEM-512, ML-KEM-768 or ML-KEM-1024, by the rank; for any other number the last.
@@ -42,30 +38,43 @@ pub fn of_rank(rank: u32) -> Parameters
     ensures value { result ≡ of_rank rank }
     ensures fits { Fits result }
 {
-    if rank == 2 {
-        return Parameters {
+    match rank {
+        2 => Parameters {
             k: 2,
             eta1: 3,
             eta2: 2,
             du: 10,
             dv: 4,
-        };
-    }
-    if rank == 3 {
-        return Parameters {
+        },
+        3 => Parameters {
             k: 3,
             eta1: 2,
             eta2: 2,
             du: 10,
             dv: 4,
-        };
+        },
+        _ => Parameters {
+            k: 4,
+            eta1: 2,
+            eta2: 2,
+            du: 11,
+            dv: 5,
+        },
     }
-    Parameters {
-        k: 4,
-        eta1: 2,
-        eta2: 2,
-        du: 11,
-        dv: 5,
+}
+
+// The set of an accepted rank.
+impl TryFrom<u32> for Parameters {
+    type Error = Refusal;
+
+    ghost try_from_gives = { λ rank r. r ≡ set_of rank };
+
+    fn try_from(rank: u32) -> Result<Parameters, Refusal> {
+        if is_rank(rank) {
+            Ok(of_rank(rank))
+        } else {
+            Err(Refusal::NoSuchRank)
+        }
     }
 }
 

@@ -9,42 +9,33 @@ ghost use Rattle.words.specs.Tab.{tab};
 ghost use Rattle.planes.specs.Transposition.{packed, lower, upper, stepped};
 ghost use Rattle.planes.specs.Lent.{StepLent, PlanesLent};
 
-#[derive(Clone, Copy)]
-struct Rows {
-    low: u64,
-    high: u64,
-}
-
 fn pack(v: &[u64], w: &mut [u64])
     requires { (length v.now ≡ 64) × (length w.old ≡ 32) }
     ensures { w.new ≡ tab 32 (packed (λ i. get_or v.now i 0)) }
 {
-    for i in 0..32 {
-        w[i] = (v[i] & 0xffff_ffff) ^ (v[i + 32] << 32);
+    for (i, x) in w.iter_mut().enumerate() {
+        *x = (v[i] & 0xffff_ffff) ^ (v[i + 32] << 32);
     }
 }
 
 // Where m has a 1, the bit of y and the bit s places higher of x change places.
-fn exchange(x: u64, y: u64, s: usize, m: u64) -> Rows
+fn exchange(x: u64, y: u64, s: usize, m: u64) -> (u64, u64)
     requires { s < 64 }
-    ensures { (result.low ≡ lower s m x y) × (result.high ≡ upper s m x y) }
+    ensures { (result.0 ≡ lower s m x y) × (result.1 ≡ upper s m x y) }
 {
     let t = ((x >> s) ^ y) & m;
-    Rows {
-        low: x ^ (t << s),
-        high: y ^ t,
-    }
+    (x ^ (t << s), y ^ t)
 }
 
-// Rows i and i + 16 become rows 2 i and 2 i + 1.
+// Rows i and i + 16 become rows 2 i and 2 i + 1; by place, since halves zipped with pairs would say it no plainer.
 fn step(w: &[u64], s: usize, m: u64, o: &mut [u64])
     requires { StepLent s w.now o.old }
     ensures { o.new ≡ tab 32 (stepped s m (λ i. get_or w.now i 0)) }
 {
     for i in 0..16 {
-        let r = exchange(w[i], w[i + 16], s, m);
-        o[2 * i] = r.low;
-        o[2 * i + 1] = r.high;
+        let (low, high) = exchange(w[i], w[i + 16], s, m);
+        o[2 * i] = low;
+        o[2 * i + 1] = high;
     }
 }
 
@@ -71,16 +62,8 @@ pub fn bit_planes(v: &[u64], n: usize) -> [u64; 24]
     let mut w = [0u64; 32];
     transpose(v, &mut w);
     let mut p = [0u64; 24];
-    for j in 0..n {
-        p[j] = w[j];
-    }
+    p[..n].copy_from_slice(&w[..n]);
     p
-}
-
-fn widen(x: u16) -> u64
-    ensures { result ≡ x }
-{
-    x as u64
 }
 
 fn widened(f: &[u16]) -> [u64; 64]
@@ -88,8 +71,8 @@ fn widened(f: &[u16]) -> [u64; 64]
     ensures { result ≡ tab 64 (λ i. get_or f.now i 0) }
 {
     let mut v = [0u64; 64];
-    for i in 0..64 {
-        v[i] = widen(f[i]);
+    for (i, x) in f.iter().enumerate() {
+        v[i] = u64::from(*x);
     }
     v
 }
@@ -101,7 +84,5 @@ pub fn coefficient_planes(f: &[u16], d: usize, out: &mut [u64])
 {
     let v = widened(f);
     let p = bit_planes(&v, d);
-    for j in 0..d {
-        out[j] = p[j];
-    }
+    out.copy_from_slice(&p[..d]);
 }

@@ -1,23 +1,24 @@
 -- Laws of the rows, and of row 1's lengths.
 use Rattle.std.specs.Prelude.{◌≡◌, refl, Bool, true, false, not, cond, ◌&&◌, List, [], ◌∷◌, ◌++◌, ℕ, ◌<◌, eqb, length}
+use Rattle.std.specs.Prelude.{Ok, Err, IsErrAnd}
 use Rattle.std.proofs.Common.{sym, ap, ap₂, ◌∙◌, arith, eqb-true, eq-eqb, ne_eqb}
 use Rattle.std.proofs.Math.Bool.{and_assoc}
 use Rattle.std.proofs.lemmas.Bool.{not-true, not-false}
-use Rattle.refusals.specs.declared.Answer.{Answer}
-use Rattle.refusals.specs.declared.Answer.TheVariants.{Done, WrongLength, PublicKeyRange, WrongHash}
-use Rattle.refusals.specs.declared.Answer.TheVariants.{MaskRange, ShareRange, ShortStream}
-use Rattle.refusals.specs.declared.Answer.TheVariants.{NoSuchStep, NoSuchRank, LimitRange, LimitReached}
-use Rattle.refusals.specs.Refusals.{number, Row, row, answer, after, Lent, sized}
+use Rattle.refusals.specs.declared.Refusal.{Refusal}
+use Rattle.refusals.specs.declared.Refusal.TheVariants.{WrongLength, PublicKeyRange, WrongHash}
+use Rattle.refusals.specs.declared.Refusal.TheVariants.{MaskRange, ShareRange, ShortStream}
+use Rattle.refusals.specs.declared.Refusal.TheVariants.{NoSuchStep, NoSuchRank, LimitRange, LimitReached}
+use Rattle.refusals.specs.Refusals.{Answer, Done, refusal_number, number, Row, row, answer, after, Lent, sized}
 use Rattle.refusals.specs.Same.{same}
 use Rattle.refusals.specs.SameLaws.{and_left, and_right}
 
 -- the answer is that of the first row whose test b fails
-module _ (a : Answer) (rs : List Row) {b : Bool} where
-  pub refused : b ≡ false → answer (row (not b) a ∷ rs) ≡ a
+module _ (r : Refusal) (rs : List Row) {b : Bool} where
+  pub refused : b ≡ false → answer (row (not b) r ∷ rs) ≡ Err r
   unfolding answer
   refused e = rw e
 
-  pub passed : {x : Answer} → b ≡ true → answer rs ≡ x → answer (row (not b) a ∷ rs) ≡ x
+  pub passed : {x : Answer} → b ≡ true → answer rs ≡ x → answer (row (not b) r ∷ rs) ≡ x
   unfolding answer
   passed e h = rw e h
 
@@ -25,28 +26,37 @@ pub no_row : answer [] ≡ Done
 unfolding answer
 no_row = refl
 
+-- no refusal has the number 0
+pub refusal_number-positive : (r : Refusal) → 0 < refusal_number r
+refusal_number-positive WrongLength = omega arith
+refusal_number-positive PublicKeyRange = omega arith
+refusal_number-positive WrongHash = omega arith
+refusal_number-positive MaskRange = omega arith
+refusal_number-positive ShareRange = omega arith
+refusal_number-positive ShortStream = omega arith
+refusal_number-positive NoSuchStep = omega arith
+refusal_number-positive NoSuchRank = omega arith
+refusal_number-positive LimitRange = omega arith
+refusal_number-positive LimitReached = omega arith
+
 -- a call that is carried out has passed each row
-pub done_passed : (b : Bool) (a : Answer) (rs : List Row) → 0 < number a → answer (row (not b) a ∷ rs) ≡ Done
+pub done_passed : (b : Bool) (r : Refusal) (rs : List Row) → answer (row (not b) r ∷ rs) ≡ Done
     → (b ≡ true) × (answer rs ≡ Done)
 unfolding answer
-done_passed true a rs n h = (refl, h)
-done_passed false a rs n h = absurd (omega (arith, ap number h))
+done_passed true r rs h = (refl, h)
+done_passed false r rs h = absurd (omega (arith, ap number h, refusal_number-positive r))
+
+-- what `?` returns of a refused call is its refusal
+pub handed_on : (a : Answer) {r : Refusal} → IsErrAnd a (λ x. x ≡ r) → a ≡ Err r
+handed_on (Ok tt) h = absurd h
+handed_on (Err x) h = ap Err h
 
 -- ---- what a call leaves
 
 -- the number is 0 for a call that is carried out, and for no other
-pub number-done : (r : Answer) → number r ≡ 0 → r ≡ Done
-number-done Done e = refl
-number-done WrongLength e = absurd (omega arith)
-number-done PublicKeyRange e = absurd (omega arith)
-number-done WrongHash e = absurd (omega arith)
-number-done MaskRange e = absurd (omega arith)
-number-done ShareRange e = absurd (omega arith)
-number-done ShortStream e = absurd (omega arith)
-number-done NoSuchStep e = absurd (omega arith)
-number-done NoSuchRank e = absurd (omega arith)
-number-done LimitRange e = absurd (omega arith)
-number-done LimitReached e = absurd (omega arith)
+pub number-done : (a : Answer) → number a ≡ 0 → a ≡ Done
+number-done (Ok tt) e = refl
+number-done (Err r) e = absurd (omega (arith, e, refusal_number-positive r))
 
 pub after_done : {A : Type 0} (n : ℕ) (new old : A) → n ≡ 0 → after n new old ≡ new
 after_done {A} n new old e = ap (λ (b : Bool). cond b new old) (eq-eqb n 0 e)
@@ -110,7 +120,7 @@ pub lengths_tested : (bs : List Lent) {w : List ℕ} {t : Bool} → t ≡ same (
 lengths_tested bs e h = record { is = sized_same bs ∙ ap (same (has bs)) (sym h) ∙ sym e }
 
 module _ {bs : List Lent} {t : Bool} (r : LengthsTested bs t) where
-  pub row1_refused : (rs : List Row) → not t ≡ true → answer (row (not (sized bs)) WrongLength ∷ rs) ≡ WrongLength
+  pub row1_refused : (rs : List Row) → not t ≡ true → answer (row (not (sized bs)) WrongLength ∷ rs) ≡ Err WrongLength
   row1_refused rs h = refused WrongLength rs (r.is ∙ not-true t h)
 
   pub row1_sized : not t ≡ false → sized bs ≡ true

@@ -1,37 +1,47 @@
 -- Document 01, Refusals by place, as asks 1, 2 and 5 of document 02 change it: answers, their numbers, rows, and the
 -- condition of row 1.
-use Rattle.std.specs.Prelude.{Bool, true, cond, ◌&&◌, List, [], ◌∷◌, ℕ, eqb, length}
-use Rattle.refusals.specs.declared.Answer.{Answer}
-use Rattle.refusals.specs.declared.Answer.TheVariants.{Done, WrongLength, PublicKeyRange, WrongHash}
-use Rattle.refusals.specs.declared.Answer.TheVariants.{MaskRange, ShareRange, ShortStream}
-use Rattle.refusals.specs.declared.Answer.TheVariants.{NoSuchStep, NoSuchRank, LimitRange, LimitReached}
+use Rattle.std.specs.Prelude.{Bool, true, cond, ◌&&◌, List, [], ◌∷◌, ℕ, eqb, length, Result, Ok, Err, ⊤}
+use Rattle.refusals.specs.declared.Refusal.{Refusal}
+use Rattle.refusals.specs.declared.Refusal.TheVariants.{WrongLength, PublicKeyRange, WrongHash}
+use Rattle.refusals.specs.declared.Refusal.TheVariants.{MaskRange, ShareRange, ShortStream}
+use Rattle.refusals.specs.declared.Refusal.TheVariants.{NoSuchStep, NoSuchRank, LimitRange, LimitReached}
+
+-- a call is carried out, or refused
+abbrev pub Answer : Type 0
+Answer = Result ⊤ Refusal
+
+abbrev pub Done : Answer
+Done = Ok tt
+
+abbrev pub refusal_number : Refusal → ℕ
+refusal_number WrongLength = 1
+refusal_number PublicKeyRange = 2
+refusal_number WrongHash = 3
+refusal_number MaskRange = 5
+refusal_number ShareRange = 6
+refusal_number ShortStream = 7
+refusal_number NoSuchStep = 8
+refusal_number NoSuchRank = 9
+refusal_number LimitRange = 10
+refusal_number LimitReached = 11
 
 -- the number of a refusal; 0 where the call is carried out
 abbrev pub number : Answer → ℕ
-number Done = 0
-number WrongLength = 1
-number PublicKeyRange = 2
-number WrongHash = 3
-number MaskRange = 5
-number ShareRange = 6
-number ShortStream = 7
-number NoSuchStep = 8
-number NoSuchRank = 9
-number LimitRange = 10
-number LimitReached = 11
+number (Ok _) = 0
+number (Err r) = refusal_number r
 
 -- a row of the table: its condition, and its refusal
 pub record Row : Type 0 where
   pub applies : Bool
-  pub refusal : Answer
+  pub refusal : Refusal
 
-abbrev pub row : Bool → Answer → Row
-row b a = record { applies = b; refusal = a }
+abbrev pub row : Bool → Refusal → Row
+row b r = record { applies = b; refusal = r }
 
 -- the rows are tried from top to bottom
 unfoldable pub answer : List Row → Answer
 answer [] = Done
-answer (r ∷ rs) = cond r.applies r.refusal (answer rs)
+answer (r ∷ rs) = cond r.applies (Err r.refusal) (answer rs)
 
 -- what a lent buffer holds after a call whose answer has the number n: the result where the call is carried out, else
 -- what it held before

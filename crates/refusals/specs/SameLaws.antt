@@ -1,5 +1,6 @@
--- The test of equality holds of equal lists alone, and a loop that compares place by place decides it.
-use Rattle.std.specs.Prelude.{◌≡◌, refl, Bool, true, false, ◌&&◌, List, [], ◌∷◌, ℕ, ◌≤◌, eqb, length, get_or}
+-- The test of equality holds of equal lists alone, and is the one that std makes.
+use Rattle.std.specs.Prelude.{◌≡◌, refl, Bool, true, false, ◌&&◌, List, [], ◌∷◌, ℕ, ◌≤◌, eqb, length, nat_eq, get_or}
+use Rattle.std.specs.Cmp.Lexicographic.{pointwise}
 use Rattle.std.proofs.Common.{sym, ap, ap₂, ◌∙◌, eq-eqb, eqb-true}
 use Rattle.words.specs.Walk.{Walked, walked_equal, refuted}
 use Rattle.refusals.specs.Same.{same}
@@ -29,6 +30,14 @@ same_true (x ∷ k) [] h = cc
 same_true (x ∷ k) (y ∷ l) h =
     ap₂ (λ (a : ℕ) (b : List ℕ). a ∷ b) (eqb-true x y (and_left (eqb x y) (same k l) h))
     (same_true k l (and_right (eqb x y) (same k l) h))
+
+-- as std compares two lists
+pub same-pointwise : (k l : List ℕ) → same k l ≡ pointwise nat_eq k l
+unfolding same
+same-pointwise [] [] = refl
+same-pointwise [] (y ∷ l) = refl
+same-pointwise (x ∷ k) [] = refl
+same-pointwise (x ∷ k) (y ∷ l) = ap (λ (b : Bool). eqb x y && b) (same-pointwise k l)
 
 -- ---- a loop that compares place by place
 

@@ -8,8 +8,8 @@ pub fn reduced(f: &[u16]) -> bool
     ensures { result ≡ reduced_of f.now }
 {
     let mut all = true;
-    for i in 0..f.len() {
-        all = all & (f[i] < 3329);
+    for x in f {
+        all &= *x < 3329;
     }
     all
 }
@@ -28,10 +28,5 @@ pub fn same(a: &[u8], b: &[u8]) -> bool
     requires { length a.now ≡ length b.now }
     ensures { result ≡ same_of a.now b.now }
 {
-    for i in 0..a.len() {
-        if a[i] != b[i] {
-            return false;
-        }
-    }
-    true
+    a == b
 }

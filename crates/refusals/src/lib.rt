@@ -7,20 +7,23 @@ ghost use Rattle.refusals.specs.Same.{same};
 
 pub mod conditions; // coefficients below q, and equal strings
 
-#[derive(Clone, Copy)]
-pub enum Answer {
-    Done,
-    WrongLength,
-    PublicKeyRange,
-    WrongHash,
-    MaskRange,
-    ShareRange,
-    ShortStream,
-    NoSuchStep,
-    NoSuchRank,
-    LimitRange,
-    LimitReached,
+// What a call refuses.
+#[derive(Clone, Copy, Debug, PartialEq, Eq)]
+pub enum Refusal {
+    WrongLength = 1,
+    PublicKeyRange = 2,
+    WrongHash = 3,
+    MaskRange = 5,
+    ShareRange = 6,
+    ShortStream = 7,
+    NoSuchStep = 8,
+    NoSuchRank = 9,
+    LimitRange = 10,
+    LimitReached = 11,
 }
+
+// A call is carried out, or refused and nothing changed.
+pub type Answer = Result<(), Refusal>;
 
 // 0 where the call is carried out.
 pub fn number(answer: Answer) -> u64
@@ -28,17 +31,8 @@ pub fn number(answer: Answer) -> u64
     ensures upper_bound { result ≤ 11 }
 {
     match answer {
-        Answer::Done => 0,
-        Answer::WrongLength => 1,
-        Answer::PublicKeyRange => 2,
-        Answer::WrongHash => 3,
-        Answer::MaskRange => 5,
-        Answer::ShareRange => 6,
-        Answer::ShortStream => 7,
-        Answer::NoSuchStep => 8,
-        Answer::NoSuchRank => 9,
-        Answer::LimitRange => 10,
-        Answer::LimitReached => 11,
+        Ok(()) => 0,
+        Err(refusal) => refusal as u64,
     }
 }
 
@@ -47,10 +41,5 @@ pub fn exact(has: &[usize], wants: &[usize]) -> bool
     requires { length has.now ≡ length wants.now }
     ensures { result ≡ same has.now wants.now }
 {
-    for i in 0..has.len() {
-        if has[i] != wants[i] {
-            return false;
-        }
-    }
-    true
+    has == wants
 }

@@ -1,6 +1,8 @@
 -- The laws of sums and differences of polynomials.
-use Rattle.std.specs.Prelude.{◌≡◌, ℕ, ◌+◌, ◌-◌, ◌*◌, ◌%◌, ◌<◌, ◌≤◌, List, ◌++◌, length, take, drop, replicate, slice_index, slice_set, refl}
-use Rattle.std.proofs.Common.{sym, ap, ap₂, ◌∙◌, mod-lt, arith, length-set, length-append, get_or-set_same, get_or-set_other, get_or-take, get_or-drop, get_or-append-add, ext_get_or}
+use Rattle.std.specs.Prelude.{◌≡◌, ℕ, ◌+◌, ◌-◌, ◌*◌, ◌%◌, ◌<◌, ◌≤◌, List, ◌++◌, length, take, drop, replicate}
+use Rattle.std.specs.Prelude.{slice_index, slice_set, refl}
+use Rattle.std.proofs.Common.{sym, ap, ap₂, ◌∙◌, mod-lt, arith, length-set, length-append, get_or-set_same}
+use Rattle.std.proofs.Common.{get_or-set_other, get_or-take, get_or-drop, get_or-append-add, ext_get_or}
 use Rattle.std.proofs.Math.Nat.{add-mod}
 use Rattle.std.proofs.Math.Decide.{dec_lt, ℕ_discrete}
 use Rattle.std.proofs.lemmas.List.{length-replicate, get_or-replicate}
@@ -40,7 +42,8 @@ below_sub f g = below-tab (length f) (omega arith) (λ i h. mod-lt _ (omega arit
 
 -- an operation that takes zeros to zero, coefficient by coefficient
 get_or_both : (op : ℕ → ℕ → ℕ) → op 0 0 ≡ 0 → (f g : List ℕ) (k : ℕ) → length f ≡ length g
-    → slice_index (tab (length f) (λ i. op (slice_index f i) (slice_index g i))) k ≡ op (slice_index f k) (slice_index g k)
+    → slice_index (tab (length f) (λ i. op (slice_index f i) (slice_index g i))) k
+    ≡ op (slice_index f k) (slice_index g k)
 get_or_both op z f g k e = go (dec_lt k (length f))
   where
     h : ℕ → ℕ
@@ -56,15 +59,18 @@ get_or_both op z f g k e = go (dec_lt k (length f))
         )
         (sym z)
 
-pub get_or_add : (f g : List ℕ) (k : ℕ) → length f ≡ length g → slice_index (add f g) k ≡ (slice_index f k + slice_index g k) % q
+pub get_or_add : (f g : List ℕ) (k : ℕ) → length f ≡ length g
+    → slice_index (add f g) k ≡ (slice_index f k + slice_index g k) % q
 unfolding add
 get_or_add f g k e = get_or_both (λ x y. (x + y) % q) refl f g k e
 
-pub get_or_add_lt : (f g : List ℕ) (k : ℕ) → k < length f → slice_index (add f g) k ≡ (slice_index f k + slice_index g k) % q
+pub get_or_add_lt : (f g : List ℕ) (k : ℕ) → k < length f
+    → slice_index (add f g) k ≡ (slice_index f k + slice_index g k) % q
 unfolding add
 get_or_add_lt f g k h = get_or-tab (length f) _ k 0 h
 
-pub get_or_sub : (f g : List ℕ) (k : ℕ) → length f ≡ length g → slice_index (sub f g) k ≡ minus (slice_index f k) (slice_index g k)
+pub get_or_sub : (f g : List ℕ) (k : ℕ) → length f ≡ length g
+    → slice_index (sub f g) k ≡ minus (slice_index f k) (slice_index g k)
 unfolding sub
 get_or_sub f g k e = get_or_both minus refl f g k e
 
@@ -87,13 +93,15 @@ pub add_set : (f g : List ℕ) (i x y : ℕ) → length f ≡ length g
     → add (slice_set f i x) (slice_set g i y) ≡ slice_set (add f g) i ((x + y) % q)
 add_set f g i x y e =
     ext_get_or 0 _ _
-    (length-add (slice_set f i x) (slice_set g i y) ∙ length-set f i x ∙ sym (length-set (add f g) i _ ∙ length-add f g))
+    (length-add (slice_set f i x) (slice_set g i y) ∙ length-set f i x
+    ∙ sym (length-set (add f g) i _ ∙ length-add f g))
     (λ k h.
     get_or_add (slice_set f i x) (slice_set g i y) k (length-set f i x ∙ e ∙ sym (length-set g i y))
     ∙ go k (omega (arith, length-add (slice_set f i x) (slice_set g i y), length-set f i x)) (ℕ_discrete k i))
   where
     go : (k : ℕ) → k < length f → Dec (k ≡ i)
-        → (slice_index (slice_set f i x) k + slice_index (slice_set g i y) k) % q ≡ slice_index (slice_set (add f g) i ((x + y) % q)) k
+        → (slice_index (slice_set f i x) k + slice_index (slice_set g i y) k) % q
+        ≡ slice_index (slice_set (add f g) i ((x + y) % q)) k
     go k h (yes p) =
         rw p
         (ap₂ (λ (m n : ℕ). (m + n) % q) (get_or-set_same f i x 0 (omega arith)) (get_or-set_same g i y 0 (omega arith))
@@ -122,7 +130,8 @@ part_add a n f g h =
     part_tab a n (length f) _ h
     ∙ tab_cong n (λ i l.
     ap₂ (λ (x y : ℕ). (x + y) % q)
-    (sym (get_or-take n (drop a f) i 0 l ∙ get_or-drop a f i 0)) (sym (get_or-take n (drop a g) i 0 l ∙ get_or-drop a g i 0)))
+    (sym (get_or-take n (drop a f) i 0 l ∙ get_or-drop a f i 0))
+    (sym (get_or-take n (drop a g) i 0 l ∙ get_or-drop a g i 0)))
     ∙ rw (length_part a n f h)
 
 -- what is taken away in turn is taken away at once

@@ -4,7 +4,7 @@
 mod polynomial;
 mod residue;
 
-pub use polynomial::{add_to, sub_from};
+pub use polynomial::{add_to, map_coefficients, sub_from};
 pub use residue::{
     difference, multiple, product, quotient, reduce, reduce_short, reduced_difference, reduced_sum,
     remainder, shoup_quotient,

@@ -1,6 +1,7 @@
 -- SampleNTT's loop: numbers are collected in 256 places, and those that find no place are dropped.
 use Rattle.std.specs.Prelude.{◌≡◌, refl, List, [], ◌∷◌, ◌++◌, ℕ, ◌+◌, ◌<◌, ◌≤◌, eqb, leb, length, take, set}
-use Rattle.std.proofs.Common.{sym, ap, ◌∙◌, subst, append-nil, add-one, arith, lt-ltb, le-ltb, le-leb, eq-eqb, ne_eqb, length-set, length-take, length-append, take_all, take-suc-set}
+use Rattle.std.proofs.Common.{sym, ap, ◌∙◌, subst, append-nil, add-one, arith, lt-ltb, le-ltb, le-leb, eq-eqb, ne_eqb}
+use Rattle.std.proofs.Common.{length-set, length-take, length-append, take_all, take-suc-set}
 use Rattle.std.proofs.Math.Decide.{dec_le}
 use Rattle.std.proofs.lemmas.Bool.{lt-leb}
 use Rattle.std.proofs.lemmas.List.{take-append-le}

@@ -1,5 +1,6 @@
 -- FIPS 203, section 4.2.2: SampleNTT and SamplePolyCBD.
-use Rattle.std.specs.Prelude.{List, [], ◌∷◌, ◌++◌, Bool, cond, ℕ, zero, suc, ◌+◌, ◌*◌, ◌/◌, ◌%◌, leb, ltb, length, get_or, take, drop}
+use Rattle.std.specs.Prelude.{List, [], ◌∷◌, ◌++◌, Bool, cond, ℕ, zero, suc, ◌+◌, ◌*◌, ◌/◌, ◌%◌, leb, ltb, length}
+use Rattle.std.specs.Prelude.{get_or, take, drop}
 use Rattle.words.specs.Residue.{q}
 use Rattle.words.specs.Tab.{tab}
 use Rattle.codec.specs.Bytes.{bits_of}

@@ -1,8 +1,8 @@
--- What the code of SampleNTT answers.
-use Rattle.std.specs.Prelude.{Bool, true, false}
-use Rattle.sampling.specs.declared.Sampled.{Sampled}
-use Rattle.sampling.specs.declared.Sampled.TheVariants.{Full, Short}
+-- What sampling from a stream answers, by whether the stream yields enough: refusal 7 where it doesn't.
+use Rattle.std.specs.Prelude.{Bool, true, false, Err}
+use Rattle.refusals.specs.declared.Refusal.TheVariants.{ShortStream}
+use Rattle.refusals.specs.Refusals.{Answer, Done}
 
-abbrev pub answer_of : Bool → Sampled
-answer_of true = Full
-answer_of false = Short
+abbrev pub answer_of : Bool → Answer
+answer_of true = Done
+answer_of false = Err ShortStream

@@ -1,5 +1,5 @@
 -- Sampling: how far SampleNTT has come after each group, and SamplePolyCBD made of decoded numbers one by one.
-use Rattle.std.specs.Prelude.{◌≡◌, ℕ, ◌+◌, ◌*◌, ◌/◌, ◌%◌, ◌^◌, ◌<◌, ◌≤◌, length, drop}
+use Rattle.std.specs.Prelude.{◌≡◌, refl, Bool, true, false, Err, ℕ, ◌+◌, ◌*◌, ◌/◌, ◌%◌, ◌^◌, ◌<◌, ◌≤◌, length, drop}
 use Rattle.std.proofs.Math.Path.{sym, ap, ap₂}
 use Rattle.std.proofs.Common.{◌∙◌, mod-lt, add-one, length-take, length-drop, length-append, take-add, drop-drop}
 use mathlib.Core.List.{List, ◌++◌, append_assoc, map}
@@ -17,6 +17,10 @@ use Rattle.words.specs.NumeralLaws.{length_digits, digits_split, digits_value}
 use Rattle.ring.specs.Polynomial.{minus}
 use Rattle.codec.specs.Bytes.{bits_of, byte_decode}
 use Rattle.codec.specs.BytesLaws.{length-bits_of, below-bits_of, get_or-numbers_of, length-byte_decode}
+use Rattle.refusals.specs.declared.Refusal.{Refusal}
+use Rattle.refusals.specs.Refusals.{Done, number}
+use Rattle.refusals.specs.RefusalLaws.{refusal_number-positive}
+use Rattle.sampling.specs.SampleAnswer.{answer_of}
 use Rattle.sampling.specs.Sample.{d₁, d₂, kept, accepted, sample_ntt, sum, sample_poly_cbd}
 
 -- ---- SampleNTT
@@ -29,6 +33,15 @@ accepted_turn n s = rw (add-one n) (sym (append_assoc (accepted n s) (kept (d₁
 pub length-sample_ntt : (s : List ℕ) → 256 ≤ length (accepted 280 s) → length (sample_ntt s) ≡ 256
 unfolding sample_ntt
 length-sample_ntt s h = length-take 256 (accepted 280 s) ∙ omega arith
+
+-- by what it answers
+pub answered_done : (b : Bool) → answer_of b ≡ Done → b ≡ true
+answered_done true e = refl
+answered_done false e = absurd (omega (arith, ap number e))
+
+pub answered_err : (b : Bool) {r : Refusal} → Err r ≡ answer_of b → b ≡ false
+answered_err true {r} e = absurd (omega (arith, ap number e, refusal_number-positive r))
+answered_err false e = refl
 
 -- ---- SamplePolyCBD
 

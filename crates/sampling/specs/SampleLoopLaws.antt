@@ -2,7 +2,8 @@
 -- exactly where they yield 256 coefficients, and returns what the definition says, whatever follows them.
 use Rattle.std.specs.Prelude.{◌≡◌, Bool, true, false, cond, ◌&&◌, List, [], ◌∷◌, ◌++◌, ltb}
 use Rattle.std.proofs.Math.Path.{refl, sym, ap}
-use Rattle.std.proofs.Common.{◌∙◌, append-nil, append_assoc, add-zero, add-suc, arith, lt-ltb, le-ltb, le-leb, leb-true, length-append, take_all}
+use Rattle.std.proofs.Common.{◌∙◌, append-nil, append_assoc, add-zero, add-suc, arith, lt-ltb, le-ltb, le-leb, leb-true}
+use Rattle.std.proofs.Common.{length-append, take_all}
 use Prim.Native.Nat.{ℕ, zero, suc, ◌+◌, ◌-◌, ◌*◌, ◌<◌, ◌≤◌}
 use Rattle.std.proofs.Math.Decide.{dec_lt, dec_le}
 use Rattle.std.proofs.Math.ListN.{length, take, length-take, get_or-append}

@@ -12,13 +12,8 @@ ghost use Rattle.sampling.specs.Results.{KeptCount, BitCount, Sampling};
 
 use codec::bits::{high, low, wide16};
 use codec::byte_decode;
+use refusals::{Answer, Refusal};
 use ring::difference;
-
-#[derive(Clone, Copy)]
-pub enum Sampled {
-    Full,
-    Short,
-}
 
 // Algorithm 7, line 6
 fn d1_of(b0: u8, b1: u8) -> u16
@@ -47,9 +42,9 @@ fn count_accepted(stream: &[u8]) -> usize
     ensures { result ≡ length (accepted 280 stream.now) }
 {
     let mut n = 0;
-    for i in 0..280 {
-        n += accepts(d1_of(stream[3 * i], stream[3 * i + 1]));
-        n += accepts(d2_of(stream[3 * i + 1], stream[3 * i + 2]));
+    for b in stream.chunks_exact(3) {
+        n += accepts(d1_of(b[0], b[1]));
+        n += accepts(d2_of(b[1], b[2]));
     }
     n
 }
@@ -68,31 +63,34 @@ fn keep(f: &mut [u16], k: usize, x: u16) -> usize
     k
 }
 
-// Algorithm 7, SampleNTT: whether the stream fills f, which then holds what SampleNTT gives.
-pub fn fill_ntt(stream: &[u8], f: &mut [u16]) -> bool
+// Algorithm 7, SampleNTT: f then holds what SampleNTT gives, unless the stream is too short to fill it.
+pub fn fill_ntt(stream: &[u8], f: &mut [u16]) -> Answer
     requires { (length stream.now ≡ 840) × (length f.old ≡ 256) }
     ensures { Sampling (full stream.now) (sample_ntt stream.now) result f.new }
 {
     let mut k = 0;
-    for i in 0..280 {
-        k = keep(f, k, d1_of(stream[3 * i], stream[3 * i + 1]));
-        k = keep(f, k, d2_of(stream[3 * i + 1], stream[3 * i + 2]));
+    for b in stream.chunks_exact(3) {
+        k = keep(f, k, d1_of(b[0], b[1]));
+        k = keep(f, k, d2_of(b[1], b[2]));
     }
-    k == 256
+    if k == 256 {
+        Ok(())
+    } else {
+        Err(Refusal::ShortStream)
+    }
 }
 
 // Algorithm 7 on a stream that may be short: f then stays as it is.
-pub fn sample_ntt(stream: &[u8], f: &mut [u16]) -> Sampled
+pub fn sample_ntt(stream: &[u8], f: &mut [u16]) -> Answer
     requires { (length stream.now ≡ 840) × (length f.old ≡ 256) }
     ensures value { result ≡ answer_of (full stream.now) }
     ensures f_after { f.new
         ≡ cond (full stream.now) (sample_ntt stream.now) f.old }
 {
     if count_accepted(stream) < 256 {
-        return Sampled::Short;
+        return Err(Refusal::ShortStream);
     }
-    fill_ntt(stream, f);
-    Sampled::Full
+    fill_ntt(stream, f)
 }
 
 // how many of the three bits of v are 1
@@ -118,8 +116,8 @@ fn centre_all(f: &mut [u16], eta: u32)
     requires { (eta ≤ 3) × Below (2 ^ (2 * eta)) f.old }
     ensures { f.new ≡ map (centred eta) f.old }
 {
-    for i in 0..f.len() {
-        f[i] = centred_at(f[i], eta);
+    for x in f.iter_mut() {
+        *x = centred_at(*x, eta);
     }
 }
 

@@ -2,8 +2,7 @@
 -- decapsulation raises it by one, a refreshing sets it to 0, and nothing else changes it.
 use Rattle.std.specs.Prelude.{◌≡◌, refl, Bool, true, false, cond, List, [], ◌∷◌, ℕ, ◌+◌, ◌≤◌, eqb}
 use Rattle.std.proofs.Common.{ap, ◌∙◌, arith, eqb-true}
-use Rattle.refusals.specs.declared.Answer.{Answer}
-use Rattle.refusals.specs.Refusals.{number}
+use Rattle.refusals.specs.Refusals.{Answer, number}
 use Rattle.refusals.specs.RefusalLaws.{number-done}
 use Rattle.parameters.specs.declared.Parameters.{Parameters}
 use Rattle.parameters.specs.Ranks.{of_rank}

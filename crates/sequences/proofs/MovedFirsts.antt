@@ -15,8 +15,7 @@ use Rattle.worksheet.specs.Count.{tally}
 use Rattle.worksheet.specs.InRange.{tally-below}
 use Rattle.worksheet.specs.Matching.{by_xor, by_adding}
 use Rattle.worksheet.specs.MovedLists.{tally_moved}
-use Rattle.refusals.specs.declared.Answer.{Answer}
-use Rattle.refusals.specs.Refusals.{number, after, sized}
+use Rattle.refusals.specs.Refusals.{Answer, number, after, sized}
 use Rattle.refusals.specs.RefusalLaws.{number-done}
 use Rattle.refusals.specs.Reduced.{reduced}
 use Rattle.refusals.specs.ReducedLaws.{reduced-below, below-reduced}

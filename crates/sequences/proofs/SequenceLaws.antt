@@ -1,11 +1,10 @@
 -- What holds of every call holds of every list of calls: the limit stays, and what a call's own record says of the
 -- lent buffers and numbers is the state that it leaves in the sequence.
-use Rattle.std.specs.Prelude.{◌≡◌, refl, Bool, true, false, cond, List, [], ◌∷◌, ℕ, ◌+◌, eqb}
+use Rattle.std.specs.Prelude.{◌≡◌, refl, Bool, true, false, cond, List, [], ◌∷◌, ℕ, ◌+◌, eqb, Err}
 use Rattle.std.proofs.Common.{sym, ap, ◌∙◌, arith, eqb-true}
 use Rattle.worksheet.specs.SharedList.{SharedList}
-use Rattle.refusals.specs.declared.Answer.{Answer}
-use Rattle.refusals.specs.declared.Answer.TheVariants.{Done, NoSuchRank}
-use Rattle.refusals.specs.Refusals.{number, after}
+use Rattle.refusals.specs.declared.Refusal.TheVariants.{NoSuchRank}
+use Rattle.refusals.specs.Refusals.{Answer, Done, number, after}
 use Rattle.refusals.specs.RefusalLaws.{after_refused}
 use Rattle.parameters.specs.declared.Edition.{Edition}
 use Rattle.parameters.specs.declared.Parameters.{Parameters}
@@ -30,7 +29,7 @@ after_same {A} {B} f n new old h = go (eqb n 0) refl
 pub by_rank_answered : (rank : ℕ) (f : Parameters → Answer) → by_rank rank f ≡ Done → f (of_rank rank) ≡ Done
 by_rank_answered rank f e = go (is_rank rank) e
   where
-    go : (b : Bool) → cond b (f (of_rank rank)) NoSuchRank ≡ Done → f (of_rank rank) ≡ Done
+    go : (b : Bool) → cond b (f (of_rank rank)) (Err NoSuchRank) ≡ Done → f (of_rank rank) ≡ Done
     go true e = e
     go false e = absurd (omega (arith, ap number e))
 
@@ -58,7 +57,7 @@ module _ {rank n : ℕ} {Told : Parameters → Type 0} {Kept : Type 0} (b : ByRa
   told-number : (f : Parameters → Answer) → ((p : Parameters) → Told p → n ≡ number (f p)) → n ≡ number (by_rank rank f)
   told-number f h = go (is_rank rank) refl
     where
-      go : (t : Bool) → is_rank rank ≡ t → n ≡ number (cond t (f (of_rank rank)) NoSuchRank)
+      go : (t : Bool) → is_rank rank ≡ t → n ≡ number (cond t (f (of_rank rank)) (Err NoSuchRank))
       go true e = h (of_rank rank) (b.called e)
       go false e = (b.refused e).0
 

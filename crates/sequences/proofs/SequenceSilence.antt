@@ -1,7 +1,7 @@
 -- The silence of every run in a sequence: over all first shares the calls before a run leave each split as often as
 -- import alone does (`moved_firsts`), and of the run on import's split demand 3 speaks; whether it is carried out no
 -- choice decides, and neither does the key.
-use Rattle.std.specs.Prelude.{◌≡◌, true, false, not, List, [], ◌∷◌, ℕ, ◌*◌, ltb, replicate}
+use Rattle.std.specs.Prelude.{◌≡◌, true, false, not, List, [], ◌∷◌, ℕ, ◌*◌, ltb, replicate, Err}
 use Rattle.std.proofs.Math.Path.{refl, ap, ap₂}
 use Rattle.std.proofs.Common.{sym, ◌∙◌, subst, arith, eqb-true}
 use Rattle.std.proofs.Math.Bool.{Bool, cond}
@@ -10,10 +10,9 @@ use Rattle.std.proofs.lemmas.List.{length-replicate}
 use Rattle.words.specs.BoundedLaws.{below_zeros}
 use Rattle.worksheet.specs.Sum.{when}
 use Rattle.worksheet.specs.Count.{strips, hit}
-use Rattle.refusals.specs.declared.Answer.{Answer}
-use Rattle.refusals.specs.declared.Answer.TheVariants.{Done, WrongLength, ShortStream, NoSuchStep, NoSuchRank}
-use Rattle.refusals.specs.declared.Answer.TheVariants.{LimitReached}
-use Rattle.refusals.specs.Refusals.{number, answer, row, lent, sized}
+use Rattle.refusals.specs.declared.Refusal.TheVariants.{WrongLength, ShortStream, NoSuchStep, NoSuchRank}
+use Rattle.refusals.specs.declared.Refusal.TheVariants.{LimitReached}
+use Rattle.refusals.specs.Refusals.{Answer, Done, number, answer, row, lent, sized}
 use Rattle.refusals.specs.RefusalLaws.{number-done, done_passed}
 use Rattle.parameters.specs.declared.Edition.{Edition}
 use Rattle.parameters.specs.declared.Parameters.{Parameters}
@@ -128,10 +127,11 @@ module _ (rank limit : ℕ) (before : List Call) (typed : AllTyped before) (e : 
   -- ---- the two runs
 
   -- told another number than a rank, no run is carried out
-  by_rank_full : (f : Answer) (b : Bool) → (f ≡ Done → b ≡ true) → cond (is_rank rank) f NoSuchRank ≡ Done → b ≡ true
+  by_rank_full : (f : Answer) (b : Bool) → (f ≡ Done → b ≡ true) → cond (is_rank rank) f (Err NoSuchRank) ≡ Done
+      → b ≡ true
   by_rank_full f b h = go (is_rank rank)
     where
-      go : (t : Bool) → cond t f NoSuchRank ≡ Done → b ≡ true
+      go : (t : Bool) → cond t f (Err NoSuchRank) ≡ Done → b ≡ true
       go true d = h d
       go false d = absurd (omega (arith, ap number d))
 
@@ -145,12 +145,12 @@ module _ (rank limit : ℕ) (before : List Call) (typed : AllTyped before) (e : 
 
   decaps_verdict_full : (k0 k1 : List ℕ) (b : Bool) (n : ℕ) → decaps_verdict k0 k1 b n ≡ Done → b ≡ true
   decaps_verdict_full k0 k1 b n d =
-      let r₁ = done_passed (sized (lent k0 4 ∷ lent k1 4 ∷ [])) WrongLength _ (omega arith) d in
-      let r₁₁ = done_passed (ltb n limit) LimitReached _ (omega arith) r₁.1 in
-      (done_passed b ShortStream [] (omega arith) r₁₁.1).0
+      let r₁ = done_passed (sized (lent k0 4 ∷ lent k1 4 ∷ [])) WrongLength _ d in
+      let r₁₁ = done_passed (ltb n limit) LimitReached _ r₁.1 in
+      (done_passed b ShortStream [] r₁₁.1).0
 
   abbrev trace_verdict : ℕ → Bool → Answer
-  trace_verdict step b = cond b (cond (ltb step (steps e p)) Done NoSuchStep) ShortStream
+  trace_verdict step b = cond b (cond (ltb step (steps e p)) Done (Err NoSuchStep)) (Err ShortStream)
 
   trace_verdict_full : (step : ℕ) (b : Bool) → trace_verdict step b ≡ Done → b ≡ true
   trace_verdict_full step true d = refl
@@ -163,19 +163,19 @@ module _ (rank limit : ℕ) (before : List Call) (typed : AllTyped before) (e : 
       record {
         decapsulation = λ {dk} {dk'} {c} key key' ct same k0 k1 t v.
             silent ct (λ ws cs. decaps rank e c ws cs k0 k1)
-            (λ b n. cond (is_rank rank) (decaps_verdict k0 k1 b n) NoSuchRank)
+            (λ b n. cond (is_rank rank) (decaps_verdict k0 k1 b n) (Err NoSuchRank))
             (λ b n. by_rank_full (decaps_verdict k0 k1 b n) b (decaps_verdict_full k0 k1 b n))
             (λ dk₁ key₁ n a w ws cs h.
-            ap (λ (r : Answer). cond (is_rank rank) r NoSuchRank)
+            ap (λ (r : Answer). cond (is_rank rank) r (Err NoSuchRank))
             (imported_decaps_answer e key₁ ct a w ws cs h limit n k0 k1))
             (λ dk n a w ws cs t v. refl)
             key key' same t v;
         traced = λ {dk} {dk'} {c} key key' ct same step t v.
             silent ct (λ ws cs. trace rank e c ws cs step)
-            (λ b n. cond (is_rank rank) (trace_verdict step b) NoSuchRank)
+            (λ b n. cond (is_rank rank) (trace_verdict step b) (Err NoSuchRank))
             (λ b n. by_rank_full (trace_verdict step b) b (trace_verdict_full step b))
             (λ dk₁ key₁ n a w ws cs h.
-            ap (λ (r : Answer). cond (is_rank rank) r NoSuchRank) (imported_trace e key₁ ct a w ws cs h step))
+            ap (λ (r : Answer). cond (is_rank rank) r (Err NoSuchRank)) (imported_trace e key₁ ct a w ws cs h step))
             (λ dk n a w ws cs t v. refl)
             key key' same t v;
       }

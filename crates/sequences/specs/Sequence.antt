@@ -1,9 +1,8 @@
 -- Document 02, ask 5: calls on one split key, each given what the last one left. A call is told a rank, as the outward
 -- calls are; what it answers is the call's own definition.
-use Rattle.std.specs.Prelude.{cond, List, [], ◌∷◌, ℕ, ◌+◌}
-use Rattle.refusals.specs.declared.Answer.{Answer}
-use Rattle.refusals.specs.declared.Answer.TheVariants.{NoSuchRank}
-use Rattle.refusals.specs.Refusals.{number, after}
+use Rattle.std.specs.Prelude.{cond, List, [], ◌∷◌, ℕ, ◌+◌, Err}
+use Rattle.refusals.specs.declared.Refusal.TheVariants.{NoSuchRank}
+use Rattle.refusals.specs.Refusals.{Answer, number, after}
 use Rattle.parameters.specs.declared.Edition.{Edition}
 use Rattle.parameters.specs.declared.Parameters.{Parameters}
 use Rattle.parameters.specs.Ranks.{is_rank, of_rank}
@@ -23,7 +22,7 @@ pub data Call : Type 0 where
 
 -- refusal 9, or what the call with the rank's set answers
 abbrev pub by_rank : ℕ → (Parameters → Answer) → Answer
-by_rank rank answer = cond (is_rank rank) (answer (of_rank rank)) NoSuchRank
+by_rank rank answer = cond (is_rank rank) (answer (of_rank rank)) (Err NoSuchRank)
 
 -- what decapsulation and trace are lent to be read, in the state h
 abbrev pub input_of : KeyState → List ℕ → List ℕ → List ℕ → Input

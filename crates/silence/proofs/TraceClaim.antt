@@ -1,16 +1,15 @@
 -- Demand 3 in terms of the trace call: counted over the same choices, what the trace hands back. Where the matrix
 -- streams are full and the step is the worksheet's, the trace is carried out and hands back the worksheet's entry; else
 -- no choice counts.
-use Rattle.std.specs.Prelude.{◌≡◌, refl, Bool, true, false, cond, List, ℕ, ◌*◌, ◌<◌, eqb, ltb, get_or}
+use Rattle.std.specs.Prelude.{◌≡◌, refl, Bool, true, false, cond, List, ℕ, ◌*◌, ◌<◌, eqb, ltb, get_or, Err}
 use Rattle.std.proofs.Common.{sym, ◌∙◌, arith, lt-ltb, le-ltb}
 use Rattle.std.proofs.Math.Path.{ap}
 use Rattle.std.proofs.Math.Decide.{dec_lt}
 use Rattle.std.proofs.Math.ListN.{length}
 use Rattle.worksheet.specs.Sum.{when}
 use Rattle.worksheet.specs.CountLaws.{hit-get_or}
-use Rattle.refusals.specs.declared.Answer.{Answer}
-use Rattle.refusals.specs.declared.Answer.TheVariants.{Done, ShortStream, NoSuchStep}
-use Rattle.refusals.specs.Refusals.{number}
+use Rattle.refusals.specs.declared.Refusal.TheVariants.{ShortStream, NoSuchStep}
+use Rattle.refusals.specs.Refusals.{Answer, Done, number}
 use Rattle.parameters.specs.declared.Edition.{Edition}
 use Rattle.parameters.specs.declared.Parameters.{Parameters}
 use Rattle.parameters.specs.Fits.{Fits}
@@ -42,7 +41,7 @@ module _ (e : Edition) {p : Parameters} {dk c : List ℕ} (key : Key p dk) (ct :
         long = imported_steps e key ct a w ws cs h
 
         go : (b : Bool) → Dec (t < steps e p)
-            → when (eqb (number (cond b (cond (ltb t (steps e p)) Done NoSuchStep) ShortStream)) 0)
+            → when (eqb (number (cond b (cond (ltb t (steps e p)) Done (Err NoSuchStep)) (Err ShortStream))) 0)
             (when (eqb (get_or (sheet e p g).entries t 0) v) 1)
             ≡ when b (gives e p dk c t v a w ws cs)
         go false d = refl

@@ -4,7 +4,7 @@ use Rattle.std.specs.Prelude.{ℕ, ◌+◌, ◌≡◌, Bool, true, List, length,
 use Rattle.std.proofs.Common.{add-zero, arith}
 use Rattle.std.proofs.Math.ListN.{get_or}
 use Rattle.words.specs.Bounded.{Below}
-use Rattle.worksheet.specs.declared.Shares.{Shares}
+use Rattle.worksheet.specs.Shares.{Shares}
 use Rattle.worksheet.specs.Prog.{Prog, ret, ◌>>=◌}
 use Rattle.worksheet.specs.Stage.{Stage, Beside, and_then, and_beside, and_also, moves, rearrange, comap}
 use Rattle.worksheet.specs.Sharing.{none}

@@ -1,7 +1,7 @@
 -- Stage 8 of the worksheet: the words of the planes with the ciphertext's, folded to the equal bit.
 use Rattle.std.specs.Prelude.{ℕ, List, get_or}
 use Rattle.std.proofs.Common.{arith}
-use Rattle.worksheet.specs.declared.Shares.{Shares}
+use Rattle.worksheet.specs.Shares.{Shares}
 use Rattle.worksheet.specs.Stage.{Stage, comap}
 use Rattle.worksheet.specs.Sharing.{none}
 use Rattle.worksheet.specs.Choice.{Kept, KeptList}

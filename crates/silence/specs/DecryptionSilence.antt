@@ -4,7 +4,7 @@ use Rattle.std.proofs.Math.Path.{ap}
 use mathlib.Core.List.{List, flatten}
 use Rattle.ring.specs.Polynomial.{sub}
 use Rattle.transform.specs.Transform.{ntt, inverse_ntt}
-use Rattle.worksheet.specs.declared.Shares.{Shares}
+use Rattle.worksheet.specs.Shares.{Shares}
 use Rattle.worksheet.specs.Couple.{Coupled, coupled_map}
 use Rattle.worksheet.specs.CoupleLoops.{coupled-times}
 use Rattle.worksheet.specs.Flatten.{turns-flatten}

@@ -1,7 +1,7 @@
 -- Stages 4 to 7 of the worksheet, re-encryption, as one: nothing is asked of m' and the coins, and each word of the
 -- planes can keep either share.
 use Rattle.std.specs.Prelude.{ℕ, ◌+◌, true, List}
-use Rattle.worksheet.specs.declared.Shares.{Shares}
+use Rattle.worksheet.specs.Shares.{Shares}
 use Rattle.worksheet.specs.Prog.{Prog, ◌>>=◌}
 use Rattle.worksheet.specs.Stage.{Stage, Beside, and_then, and_also, comap}
 use Rattle.worksheet.specs.SharedList.{SharedList}

@@ -1,11 +1,11 @@
 -- What trace and decapsulation answer on an imported key, whatever choice is made: import's split and the strip have
 -- their lengths and ranges, so that no row but those of the step, of the limit and of the matrix streams is left.
-use Rattle.std.specs.Prelude.{◌≡◌, Bool, true, not, cond, ◌&&◌, ℕ, ◌*◌, ltb, length}
+use Rattle.std.specs.Prelude.{◌≡◌, Bool, true, not, cond, ◌&&◌, ℕ, ◌*◌, ltb, length, Err}
 use Rattle.std.proofs.Math.Path.{ap, ap₂}
 use Rattle.std.proofs.Common.{◌∙◌, take_at}
 use mathlib.Core.List.{List, [], ◌∷◌}
-use Rattle.refusals.specs.declared.Answer.TheVariants.{Done, ShortStream, NoSuchStep, LimitReached}
-use Rattle.refusals.specs.Refusals.{row, answer, lent}
+use Rattle.refusals.specs.declared.Refusal.TheVariants.{ShortStream, NoSuchStep, LimitReached}
+use Rattle.refusals.specs.Refusals.{Done, row, answer, lent}
 use Rattle.refusals.specs.Reduced.{reduced}
 use Rattle.refusals.specs.ReducedLaws.{below-reduced}
 use Rattle.parameters.specs.declared.Edition.{Edition}
@@ -69,10 +69,11 @@ module _ (e : Edition) {p : Parameters} {dk c : List ℕ} (key : Key p dk) (ct :
   shares_reduced = ap₂ (λ (x y : Bool). x && y) (below-reduced a h.firsts_below) (second_reduced key a)
 
   pub imported_trace : (t : ℕ)
-      → trace_answer e p g t ≡ cond (full p dk) (cond (ltb t (steps e p)) Done NoSuchStep) ShortStream
+      → trace_answer e p g t ≡ cond (full p dk) (cond (ltb t (steps e p)) Done (Err NoSuchStep)) (Err ShortStream)
   imported_trace t =
       trace_rows_lem e p g t all_long (below-reduced cs h.coeffs_below) shares_reduced
-      ∙ ap (λ (b : Bool). cond b (cond (ltb t (steps e p)) Done NoSuchStep) ShortStream) (full-split key a w)
+      ∙ ap (λ (b : Bool). cond b (cond (ltb t (steps e p)) Done (Err NoSuchStep)) (Err ShortStream))
+      (full-split key a w)
 
   pub imported_decaps_answer : (limit count : ℕ) (k0 k1 : List ℕ)
       → decaps_answer e p g limit count k0 k1

@@ -11,7 +11,7 @@ use Rattle.std.proofs.Math.Dec.{ltb}
 use Rattle.std.proofs.Math.ListN.{get_or}
 use Rattle.ring.specs.Polynomial.{add}
 use Rattle.transform.specs.Transform.{ntt, inverse_ntt}
-use Rattle.worksheet.specs.declared.Shares.{Shares}
+use Rattle.worksheet.specs.Shares.{Shares}
 use Rattle.worksheet.specs.CoupleLoops.{coupled-times}
 use Rattle.worksheet.specs.Flatten.{turns_append, turns-flatten}
 use Rattle.worksheet.specs.Stage.{Stage, comap, times-stage}

@@ -11,7 +11,7 @@ use Rattle.words.specs.Bounded.{Below}
 use Rattle.words.specs.BoundedLaws.{below-take, below-drop}
 use Rattle.words.specs.Residue.{q}
 use Rattle.words.specs.TabLaws.{get_or-tab, tab_of, tab_cong}
-use Rattle.worksheet.specs.declared.Shares.{Shares}
+use Rattle.worksheet.specs.Shares.{Shares}
 use Rattle.worksheet.specs.Prog.{word, coeff, mask, times}
 use Rattle.worksheet.specs.Couple.{Coupled, ret_c, draw_c, coupled_weaken, coupled_recount}
 use Rattle.worksheet.specs.CoupleLoops.{coupled-times}

@@ -1,10 +1,9 @@
 -- Import answers done for accepted keys alone, and for each of them where its other arguments are in order. What it
 -- stores of an accepted key follows from the public part.
-use Rattle.std.specs.Prelude.{◌≡◌, true, List, [], ◌++◌, ℕ, ◌<◌}
+use Rattle.std.specs.Prelude.{◌≡◌, true, List, [], ◌++◌, ℕ}
 use Rattle.std.proofs.Common.{sym, ap, ap₂, ◌∙◌}
-use native.Mathlib.Omega.{arith}
-use Rattle.refusals.specs.declared.Answer.TheVariants.{Done, WrongLength, WrongHash, LimitRange, MaskRange}
-use Rattle.refusals.specs.Refusals.{number, sized}
+use Rattle.refusals.specs.declared.Refusal.TheVariants.{WrongLength, WrongHash, LimitRange, MaskRange}
+use Rattle.refusals.specs.Refusals.{Done, sized}
 use Rattle.refusals.specs.Reduced.{reduced}
 use Rattle.refusals.specs.Same.{same}
 use Rattle.refusals.specs.SameLaws.{same_refl, same_true}
@@ -22,14 +21,13 @@ module _ (p : Parameters) (dk mask_coeffs mask_words : List ℕ) (limit : ℕ) (
   pub import_exact : import_answer p dk mask_coeffs mask_words limit key ≡ Done
       → Exact (import_lengths p dk mask_coeffs mask_words key)
   unfolding import_answer
-  import_exact e = sized-exact _ (done_passed _ WrongLength _ (omega arith) e).0
+  import_exact e = sized-exact _ (done_passed _ WrongLength _ e).0
 
   pub import_accepted : import_answer p dk mask_coeffs mask_words limit key ≡ Done → Accepted p dk
   unfolding import_answer
   import_accepted e =
-      let n : (0 < number WrongLength) × (0 < number WrongHash) = (omega arith, omega arith) in
-      let r₁ = done_passed (sized (import_lengths p dk mask_coeffs mask_words key)) WrongLength _ n.0 e in
-      let r₃ = done_passed (same (hash_part p dk) (H (public_part p dk))) WrongHash _ n.1 r₁.1 in
+      let r₁ = done_passed (sized (import_lengths p dk mask_coeffs mask_words key)) WrongLength _ e in
+      let r₃ = done_passed (same (hash_part p dk) (H (public_part p dk))) WrongHash _ r₁.1 in
       record { long = (import_exact e).0; hash = same_true (hash_part p dk) (H (public_part p dk)) r₃.0 }
 
   pub accepted_import : Accepted p dk → ImportSized p dk mask_coeffs mask_words key → is_limit limit ≡ true

@@ -2,9 +2,8 @@
 -- was lent (₀ where it changes), the answer's number n, and the split key with its limit and count as they are then
 -- (₁).
 use Rattle.std.specs.Prelude.{◌≡◌, not, List, [], ◌∷◌, ℕ, ◌*◌, length}
-use Rattle.refusals.specs.declared.Answer.{Answer}
-use Rattle.refusals.specs.declared.Answer.TheVariants.{WrongLength, WrongHash, LimitRange, MaskRange}
-use Rattle.refusals.specs.Refusals.{number, Row, row, answer, after, Lent, lent, sized}
+use Rattle.refusals.specs.declared.Refusal.TheVariants.{WrongLength, WrongHash, LimitRange, MaskRange}
+use Rattle.refusals.specs.Refusals.{Answer, number, Row, row, answer, after, Lent, lent, sized}
 use Rattle.refusals.specs.Same.{same}
 use Rattle.refusals.specs.Reduced.{reduced}
 use Rattle.parameters.specs.declared.Parameters.{Parameters}

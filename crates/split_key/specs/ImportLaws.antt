@@ -2,7 +2,7 @@
 use Rattle.std.specs.Prelude.{◌≡◌, List, ℕ, ◌^◌}
 use Rattle.std.proofs.Common.{sym}
 use Rattle.words.specs.Bounded.{Below}
-use Rattle.refusals.specs.declared.Answer.TheVariants.{Done}
+use Rattle.refusals.specs.Refusals.{Done}
 use Rattle.refusals.specs.RefusalLaws.{number-done}
 use Rattle.parameters.specs.declared.Parameters.{Parameters}
 use Rattle.split_key.specs.Import.{import_answer, Imported}

@@ -1,7 +1,9 @@
 pub mod SplitKey
+pub mod Lent
 pub mod SplitLaws
 pub mod KeyState
 pub mod Import
+pub mod LentToWrite
 pub mod Refresh
 pub mod Sized
 pub mod RefreshAnswerLaws

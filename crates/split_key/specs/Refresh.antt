@@ -5,9 +5,8 @@ use Rattle.words.specs.Word.{xor}
 use Rattle.words.specs.Tab.{tab}
 use Rattle.ring.specs.Polynomial.{add, sub}
 use Rattle.worksheet.specs.SharedList.{SharedList, shared_list}
-use Rattle.refusals.specs.declared.Answer.{Answer}
-use Rattle.refusals.specs.declared.Answer.TheVariants.{WrongLength, MaskRange, ShareRange}
-use Rattle.refusals.specs.Refusals.{number, Row, row, answer, after, Lent, lent, sized}
+use Rattle.refusals.specs.declared.Refusal.TheVariants.{WrongLength, MaskRange, ShareRange}
+use Rattle.refusals.specs.Refusals.{Answer, number, Row, row, answer, after, Lent, lent, sized}
 use Rattle.refusals.specs.Reduced.{reduced}
 use Rattle.parameters.specs.declared.Parameters.{Parameters}
 use Rattle.parameters.specs.ByRank.{ByRank}

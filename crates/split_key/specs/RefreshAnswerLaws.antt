@@ -1,13 +1,14 @@
 -- Refreshing's answer and what it leaves: lengths that are exact pass row 1, so that the other rows decide; a refused
 -- call leaves each lent buffer and the count as they were; one that is carried out has passed each row.
-use Rattle.std.specs.Prelude.{◌≡◌, true, ◌&&◌, List, ℕ, ◌*◌, ◌<◌}
-use Rattle.std.proofs.Common.{sym, ap, arith}
+use Rattle.std.specs.Prelude.{◌≡◌, true, ◌&&◌, List, ℕ, ◌*◌, Err}
+use Rattle.std.proofs.Common.{sym, ap}
 use Rattle.worksheet.specs.SharedList.{SharedList}
-use Rattle.refusals.specs.declared.Answer.{Answer}
-use Rattle.refusals.specs.declared.Answer.TheVariants.{Done, WrongLength, MaskRange, ShareRange}
-use Rattle.refusals.specs.Refusals.{number, answer, sized}
+use Rattle.refusals.specs.declared.Refusal.{Refusal}
+use Rattle.refusals.specs.declared.Refusal.TheVariants.{WrongLength, MaskRange, ShareRange}
+use Rattle.refusals.specs.Refusals.{Answer, Done, refusal_number, number, answer, sized}
 use Rattle.refusals.specs.Reduced.{reduced}
-use Rattle.refusals.specs.RefusalLaws.{Exact, passed, done_passed, sized-exact, exact-sized, after_kept}
+use Rattle.refusals.specs.RefusalLaws.{refusal_number-positive, Exact, passed, done_passed}
+use Rattle.refusals.specs.RefusalLaws.{sized-exact, exact-sized, after_kept}
 use Rattle.parameters.specs.declared.Parameters.{Parameters}
 use Rattle.split_key.specs.Sized.{RefreshSized}
 use Rattle.split_key.specs.Refresh.{refresh_lengths, refresh_rows, refresh_answer, Refreshed}
@@ -45,20 +46,21 @@ module _ (p : Parameters) {mask_coeffs mask_words : List ℕ} {s z : SharedList}
   unfolding refresh_answer
   refresh_answer_lem l h = passed WrongLength _ (exact-sized _ (refresh_exact l)) h
 
-  pub refresh_refused : (r : Answer) (count : ℕ) → 0 < number r → refresh_answer p mask_coeffs mask_words s z ≡ r
-      → Refreshed p mask_coeffs mask_words s z count (number r) s z count
-  refresh_refused r count h e =
+  pub refresh_refused : (r : Refusal) (count : ℕ) → refresh_answer p mask_coeffs mask_words s z ≡ Err r
+      → Refreshed p mask_coeffs mask_words s z count (refusal_number r) s z count
+  refresh_refused r count e =
+      let h = refusal_number-positive r in
       record {
         answer = ap number (sym e);
-        s = after_kept r _ _ h;
-        z = after_kept r _ _ h;
-        count = after_kept r _ _ h;
+        s = after_kept (Err r) _ _ h;
+        z = after_kept (Err r) _ _ h;
+        count = after_kept (Err r) _ _ h;
       }
 
   pub refresh_tested : refresh_answer p mask_coeffs mask_words s z ≡ Done → Refreshable p mask_coeffs mask_words s z
   unfolding refresh_answer
   refresh_tested e =
-      let r₁ = done_passed (sized (refresh_lengths p mask_coeffs mask_words s z)) WrongLength _ (omega arith) e in
-      let r₅ = done_passed (reduced mask_coeffs) MaskRange _ (omega arith) r₁.1 in
-      let r₆ = done_passed (reduced s.s0 && reduced s.s1) ShareRange _ (omega arith) r₅.1 in
+      let r₁ = done_passed (sized (refresh_lengths p mask_coeffs mask_words s z)) WrongLength _ e in
+      let r₅ = done_passed (reduced mask_coeffs) MaskRange _ r₁.1 in
+      let r₆ = done_passed (reduced s.s0 && reduced s.s1) ShareRange _ r₅.1 in
       record { long = exact_refresh (sized-exact _ r₁.0); masks = r₅.0; shares = r₆.0 }

@@ -7,19 +7,18 @@ ghost use Rattle.parameters.specs.Lengths.{dk_bytes};
 ghost use Rattle.parameters.specs.Fits.{Fits};
 ghost use Rattle.hash_functions.specs.Functions.{H as hash_of};
 ghost use Rattle.mlkem.specs.MlKem.{public_part, hash_part};
-ghost use Rattle.split_key.specs.SplitKey.{split_key, split};
-ghost use Rattle.split_key.specs.KeyState.{key_state};
-ghost use Rattle.split_key.specs.Import.{Imported, ImportedBy};
+ghost use Rattle.split_key.specs.Import.{imported_state, Imported, ImportedBy};
+ghost use Rattle.split_key.specs.LentToWrite.{key_lent, state_lent, StateStaysLent};
 ghost use Rattle.split_key.specs.Sized.{ImportSized};
 ghost use Rattle.refusals.specs.Refusals.{number};
 ghost use Rattle.refusals.specs.Same.{same as same_of};
 
 use hash_functions::hash_h;
-use parameters::{Parameters, dk_bytes, ek_bytes, is_rank, of_rank, vector_bytes};
+use parameters::{Parameters, dk_bytes, ek_bytes, vector_bytes};
 use refusals::conditions::{reduced, same};
-use refusals::{Answer, exact};
-use split_key::is_limit;
+use refusals::{Answer, Refusal, exact};
 use split_key::splitting::{copy_public, split_coefficients, split_words};
+use split_key::{KeyStateMut, is_limit};
 
 // Section 7.3, the hash check: h is the public key's hash.
 fn hash_matches(p: Parameters, dk: &[u8]) -> bool
@@ -34,30 +33,28 @@ fn hash_matches(p: Parameters, dk: &[u8]) -> bool
     same(&dk[h..e], &t)
 }
 
-// The split key.
+// The split key, not yet used.
 fn write_split(
     p: Parameters,
     dk: &[u8],
     mask_coeffs: &[u16],
     mask_words: &[u64],
-    s0: &mut [u16],
-    s1: &mut [u16],
-    z0: &mut [u64],
-    z1: &mut [u64],
-    public: &mut [u8],
+    limit: u32,
+    state: &mut KeyStateMut,
 )
     requires { Fits p
-        × ImportSized p dk.now mask_coeffs.now mask_words.now
-        (split_key s0.old s1.old z0.old z1.old public.old) }
-    ensures { split_key s0.new s1.new z0.new z1.new public.new
-        ≡ split p dk.now mask_coeffs.now mask_words.now }
+        × ImportSized p dk.now mask_coeffs.now mask_words.now (key_lent state.old) }
+    ensures kept { StateStaysLent state.old state.new }
+    ensures imported { state_lent state.new ≡ imported_state p dk.now mask_coeffs.now mask_words.now limit }
 {
     let n = vector_bytes(p);
     let z = n + ek_bytes(p) + 32;
     let e = z + 32;
-    split_coefficients(&dk[0..n], p.k, mask_coeffs, s0, s1);
-    split_words(&dk[z..e], mask_words, z0, z1);
-    copy_public(dk, n, z, public);
+    split_coefficients(&dk[0..n], p.k, mask_coeffs, state.s0, state.s1);
+    split_words(&dk[z..e], mask_words, state.z0, state.z1);
+    copy_public(dk, n, z, state.public);
+    *state.limit = limit;
+    *state.count = 0;
 }
 
 // Import, row 1 passed.
@@ -67,39 +64,25 @@ fn import_sized(
     mask_coeffs: &[u16],
     mask_words: &[u64],
     limit: u32,
-    s0: &mut [u16],
-    s1: &mut [u16],
-    z0: &mut [u64],
-    z1: &mut [u64],
-    public: &mut [u8],
-    limit_out: &mut u32,
-    count: &mut u32,
+    state: &mut KeyStateMut,
 ) -> Answer
     requires { Fits p
-        × ImportSized p dk.now mask_coeffs.now mask_words.now
-        (split_key s0.old s1.old z0.old z1.old public.old) }
-    ensures { Imported p dk.now mask_coeffs.now mask_words.now limit
-        (key_state
-        (split_key s0.old s1.old z0.old z1.old public.old)
-        limit_out.old count.old)
-        (number result)
-        (key_state
-        (split_key s0.new s1.new z0.new z1.new public.new)
-        limit_out.new count.new) }
+        × ImportSized p dk.now mask_coeffs.now mask_words.now (key_lent state.old) }
+    ensures kept { StateStaysLent state.old state.new }
+    ensures imported { Imported p dk.now mask_coeffs.now mask_words.now limit
+        (state_lent state.old) (number result) (state_lent state.new) }
 {
     if !hash_matches(p, dk) {
-        return Answer::WrongHash;
+        return Err(Refusal::WrongHash);
     }
     if !is_limit(limit) {
-        return Answer::LimitRange;
+        return Err(Refusal::LimitRange);
     }
     if !reduced(mask_coeffs) {
-        return Answer::MaskRange;
+        return Err(Refusal::MaskRange);
     }
-    write_split(p, dk, mask_coeffs, mask_words, s0, s1, z0, z1, public);
-    *limit_out = limit;
-    *count = 0;
-    Answer::Done
+    write_split(p, dk, mask_coeffs, mask_words, limit, state);
+    Ok(())
 }
 
 // Import for a parameter set.
@@ -109,23 +92,12 @@ fn import_at(
     mask_coeffs: &[u16],
     mask_words: &[u64],
     limit: u32,
-    s0: &mut [u16],
-    s1: &mut [u16],
-    z0: &mut [u64],
-    z1: &mut [u64],
-    public: &mut [u8],
-    limit_out: &mut u32,
-    count: &mut u32,
+    state: &mut KeyStateMut,
 ) -> Answer
     requires { Fits p }
-    ensures { Imported p dk.now mask_coeffs.now mask_words.now limit
-        (key_state
-        (split_key s0.old s1.old z0.old z1.old public.old)
-        limit_out.old count.old)
-        (number result)
-        (key_state
-        (split_key s0.new s1.new z0.new z1.new public.new)
-        limit_out.new count.new) }
+    ensures kept { StateStaysLent state.old state.new }
+    ensures imported { Imported p dk.now mask_coeffs.now mask_words.now limit
+        (state_lent state.old) (number result) (state_lent state.new) }
 {
     let n = 256 * p.k;
     let m = ek_bytes(p) + 32;
@@ -133,30 +105,17 @@ fn import_at(
         dk.len(),
         mask_coeffs.len(),
         mask_words.len(),
-        s0.len(),
-        s1.len(),
-        z0.len(),
-        z1.len(),
-        public.len(),
+        state.s0.len(),
+        state.s1.len(),
+        state.z0.len(),
+        state.z1.len(),
+        state.public.len(),
     ];
     let wants = [dk_bytes(p), n, 4, n, n, 4, 4, m];
     if !exact(&has, &wants) {
-        return Answer::WrongLength;
+        return Err(Refusal::WrongLength);
     }
-    import_sized(
-        p,
-        dk,
-        mask_coeffs,
-        mask_words,
-        limit,
-        s0,
-        s1,
-        z0,
-        z1,
-        public,
-        limit_out,
-        count,
-    )
+    import_sized(p, dk, mask_coeffs, mask_words, limit, state)
 }
 
 // Import for the parameter set of a rank.
@@ -166,38 +125,18 @@ pub fn import(
     mask_coeffs: &[u16],
     mask_words: &[u64],
     limit: u32,
-    s0: &mut [u16],
-    s1: &mut [u16],
-    z0: &mut [u64],
-    z1: &mut [u64],
-    public: &mut [u8],
-    limit_out: &mut u32,
-    count: &mut u32,
+    state: &mut KeyStateMut,
 ) -> Answer
-    ensures { ImportedBy rank dk.now mask_coeffs.now mask_words.now limit
-        (key_state
-        (split_key s0.old s1.old z0.old z1.old public.old)
-        limit_out.old count.old)
-        (number result)
-        (key_state
-        (split_key s0.new s1.new z0.new z1.new public.new)
-        limit_out.new count.new) }
+    ensures kept { StateStaysLent state.old state.new }
+    ensures imported { ImportedBy rank dk.now mask_coeffs.now mask_words.now limit
+        (state_lent state.old) (number result) (state_lent state.new) }
 {
-    if !is_rank(rank) {
-        return Answer::NoSuchRank;
-    }
     import_at(
-        of_rank(rank),
+        Parameters::try_from(rank)?,
         dk,
         mask_coeffs,
         mask_words,
         limit,
-        s0,
-        s1,
-        z0,
-        z1,
-        public,
-        limit_out,
-        count,
+        state,
     )
 }

@@ -9,7 +9,7 @@ use lib.Seq.{length-take-le, get_or-take, get_or-drop, get_or-append-add, drop-a
 use Rattle.words.specs.Part.{part_take, part_append, part_fits}
 use Rattle.words.specs.Tab.{tab}
 use Rattle.words.specs.TabLaws.{get_or-tab, tab_add, tab_cong}
-use Rattle.worksheet.specs.declared.Shares.{Shares}
+use Rattle.worksheet.specs.Shares.{Shares}
 use Rattle.worksheet.specs.Sharing.{shares}
 use Rattle.worksheet.specs.SharedList.{SharedList, shared_list, shared_at}
 use Rattle.worksheet.specs.Zip.{zip}

@@ -3,7 +3,7 @@ use Rattle.std.specs.Prelude.{List, [], ◌++◌, ℕ, ◌+◌, ◌/◌, ◌%◌
 use Rattle.words.specs.Digit.{digit}
 use Rattle.words.specs.LittleEndian.{words_to_bytes}
 use Rattle.words.specs.Tab.{tab}
-use Rattle.worksheet.specs.declared.Shares.{Shares}
+use Rattle.worksheet.specs.Shares.{Shares}
 use Rattle.worksheet.specs.Sharing.{shares}
 use Rattle.worksheet.specs.SharedList.{SharedList, shared_list, shared_at, unzip}
 

@@ -8,7 +8,7 @@ use Rattle.words.specs.Tab.{tab}
 use Rattle.codec.specs.Bytes.{byte_decode, byte_decode12}
 use Rattle.ring.specs.Polynomial.{add, sub}
 use Rattle.transform.specs.Transform.{ntt, inverse_ntt}
-use Rattle.worksheet.specs.declared.Shares.{Shares}
+use Rattle.worksheet.specs.Shares.{Shares}
 use Rattle.worksheet.specs.Prog.{Prog, ret, ◌>>=◌, times}
 use Rattle.worksheet.specs.Sharing.{none}
 use Rattle.worksheet.specs.SharedList.{SharedList, shared_at, unzip}

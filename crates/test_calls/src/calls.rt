@@ -1,35 +1,69 @@
 // The outward calls, by the kind of their records.
 use crate::left::Left;
-use crate::{decapsulations, hashes, keys, left, splits};
-use test_memory::memory::{BYTES, COEFFICIENTS, WORDS};
-use test_memory::operands;
+use crate::{decapsulations, hashes, keys, splits};
+use test_memory::failure::{Failure, Outcome, wanted};
+use test_memory::memory::Memory;
+use test_memory::record::Record;
 
-fn call(kind: u32, r: &[u8], b: &[u8], c: &[u16], w: &[u64]) -> Left {
-    match kind {
-        32 => keys::keygen(r, b),
-        33 => keys::encaps(r, b),
-        34 => keys::sample(r, b, c),
-        35 => splits::import(r, b, c, w),
-        36 => splits::refresh(r, c, w),
-        37 => decapsulations::decaps(r, b, c, w),
-        38 => decapsulations::trace(r, b, c, w),
-        39 => hashes::hash(r, b),
-        40 => hashes::masked_hash(r, b, w),
-        _ => left::of_bytes(0xffff_ffff_ffff, [0u8; 4096], [0u8; 4096]),
+#[derive(Clone, Copy, Debug, PartialEq, Eq)]
+enum Call {
+    Keygen,
+    Encaps,
+    Sample,
+    Import,
+    Refresh,
+    Decaps,
+    Trace,
+    Hash,
+    MaskedHash,
+}
+
+impl TryFrom<u32> for Call {
+    type Error = Failure;
+
+    fn try_from(kind: u32) -> Result<Call, Failure> {
+        match kind {
+            32 => Ok(Call::Keygen),
+            33 => Ok(Call::Encaps),
+            34 => Ok(Call::Sample),
+            35 => Ok(Call::Import),
+            36 => Ok(Call::Refresh),
+            37 => Ok(Call::Decaps),
+            38 => Ok(Call::Trace),
+            39 => Ok(Call::Hash),
+            40 => Ok(Call::MaskedHash),
+            _ => Err(Failure::NoSuchKind),
+        }
     }
 }
 
-// Holds where the answer's number is operand 0 and what the call leaves could be put back.
-pub(crate) fn answers(
-    kind: u32,
-    r: &[u8],
-    b: &mut [u8; BYTES],
-    c: &mut [u16; COEFFICIENTS],
-    w: &mut [u64; WORDS],
-) -> bool {
-    let left = call(kind, r, b, c, w);
-    let bytes = left::put_bytes(r, left, b);
-    let coefficients = left::put_coefficients(r, left, c);
-    let words = left::put_words(r, left, w);
-    (left.answer == operands::low(r, 0) as u64) & bytes & coefficients & words
+impl Call {
+    // The number of its answer.
+    fn answer(self, r: Record, m: &Memory, left: &mut Left) -> u64 {
+        match self {
+            Call::Keygen => keys::keygen(r, m, left),
+            Call::Encaps => keys::encaps(r, m, left),
+            Call::Sample => keys::sample(r, m, left),
+            Call::Import => splits::import(r, m, left),
+            Call::Refresh => splits::refresh(r, m, left),
+            Call::Decaps => decapsulations::decaps(r, m, left),
+            Call::Trace => decapsulations::trace(r, m, left),
+            Call::Hash => hashes::hash(r, m, left),
+            Call::MaskedHash => hashes::masked_hash(r, m, left),
+        }
+    }
+}
+
+// Whether the call's answer is the wanted one, operand 0's first number.
+fn made(r: Record, m: &Memory, left: &mut Left) -> Outcome {
+    let call = Call::try_from(r.kind())?;
+    wanted(call.answer(r, m, left) == r.low(0) as u64)
+}
+
+// Holds where the answer is the wanted one and what the call leaves could be put back. A call that there isn't leaves
+// zeros.
+pub(crate) fn carry_out(r: Record, m: &mut Memory) -> Outcome {
+    let mut left = Left::new();
+    let answered = made(r, m, &mut left);
+    answered.and(left.put(r, m))
 }

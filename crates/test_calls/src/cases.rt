@@ -1,86 +1,55 @@
-// Cases: records one after the other. The records that are repeated stand in a function of their own, since none of
-// them repeats others.
-use crate::calls::answers;
-use test_memory::memory::{BYTES, COEFFICIENTS, WORDS, number, part, place};
-use test_memory::operands;
+// Cases: records one after the other, all of which are carried out, whether one before them holds or not. The records
+// that are repeated repeat none themselves.
+use crate::calls;
+use test_memory::Kind;
+use test_memory::failure::Outcome;
+use test_memory::memory::Memory;
+use test_memory::record::{Record, Records};
+
+// The kind of a record that repeats others, and that of the first call. An enum over all kinds would be no plainer: it
+// needs a case for calls that aren't there, since they put zeros back.
+const REPEAT: u32 = 17;
+
+const FIRST_CALL: u32 = 32;
 
 // ---- a record
 
-// From kind 32 on it makes a call.
-fn holds(r: &[u8], b: &mut [u8; BYTES], c: &mut [u16; COEFFICIENTS], w: &mut [u64; WORDS]) -> bool {
-    let kind = number(r, 4);
-    if kind < 32 {
-        return test_memory::holds(r, b, c, w);
+fn carry_out(r: Record, m: &mut Memory) -> Outcome {
+    if r.kind() >= FIRST_CALL {
+        return calls::carry_out(r, m);
     }
-    answers(kind, r, b, c, w)
+    Kind::try_from(r.kind())?.carry_out(r, m)
 }
 
-// ---- records that none repeats
-
-fn body(
-    records: &[u8],
-    b: &mut [u8; BYTES],
-    c: &mut [u16; COEFFICIENTS],
-    w: &mut [u64; WORDS],
-) -> bool {
-    let mut at: usize = 0;
-    let mut good = true;
-    for _ in 0..records.len() {
-        if at >= records.len() {
-            return good & (at == records.len());
-        }
-        let n = number(records, at) as usize;
-        good = good & holds(part(records, at, n), b, c, w);
-        at = place(at, n);
+fn carry_out_or_repeat(r: Record, m: &mut Memory) -> Outcome {
+    if r.kind() == REPEAT {
+        return repeat(r.records(), r.low(0), m);
     }
-    good & (at == records.len())
+    carry_out(r, m)
 }
 
-// ---- REPEAT
+// ---- records
 
-fn repeat(
-    records: &[u8],
-    times: u32,
-    b: &mut [u8; BYTES],
-    c: &mut [u16; COEFFICIENTS],
-    w: &mut [u64; WORDS],
-) -> bool {
-    let mut good = true;
+fn all<F: Fn(Record, &mut Memory) -> Outcome>(records: Records, m: &mut Memory, f: F) -> Outcome
+    requires { F.IsAlwaysCallable f }
+{
+    let mut all = Ok(());
+    for r in records {
+        all = all.and(f(r, m)).and(r.whole());
+    }
+    all
+}
+
+fn repeat(records: Records, times: u32, m: &mut Memory) -> Outcome {
+    let mut all_times = Ok(());
     for _ in 0..times {
-        good = good & body(records, b, c, w);
+        all_times = all_times.and(all(records, m, carry_out));
     }
-    good
-}
-
-fn repeats_or_holds(
-    r: &[u8],
-    b: &mut [u8; BYTES],
-    c: &mut [u16; COEFFICIENTS],
-    w: &mut [u64; WORDS],
-) -> bool {
-    if number(r, 4) == 17 {
-        return repeat(part(r, 16, r.len()), operands::low(r, 0), b, c, w);
-    }
-    holds(r, b, c, w)
+    all_times
 }
 
 // ---- a case
 
-pub fn case(
-    records: &[u8],
-    b: &mut [u8; BYTES],
-    c: &mut [u16; COEFFICIENTS],
-    w: &mut [u64; WORDS],
-) -> bool {
-    let mut at: usize = 0;
-    let mut good = true;
-    for _ in 0..records.len() {
-        if at >= records.len() {
-            return good & (at == records.len());
-        }
-        let n = number(records, at) as usize;
-        good = good & repeats_or_holds(part(records, at, n), b, c, w);
-        at = place(at, n);
-    }
-    good & (at == records.len())
+pub fn case(records: &[u8], m: &mut Memory) -> Outcome {
+    all(Records::new(records), m, carry_out_or_repeat)
 }

@@ -1,67 +1,51 @@
 // Decapsulation and trace. Edition and rank are operand 9; s0, s1, z0, z1, the public part, the ciphertext and the
 // strip are operands 11 to 18.
-use crate::left;
 use crate::left::Left;
-use crate::splits::number_at;
+use crate::splits::number_of;
+use decapsulation::{Input, SplitKey};
 use refusals::number;
-use test_memory::memory::{word, words_at};
-use test_memory::operands;
+use test_memory::memory::{Memory, element};
+use test_memory::record::Record;
 
-// The limit is operand 10.
-fn decaps_on(
-    r: &[u8],
-    b: &[u8],
-    c: &[u16],
-    w: &[u64],
-    count: &mut u32,
-    k0: &mut [u64],
-    k1: &mut [u64],
-) -> u64 {
-    number(decapsulation::decaps(
-        operands::edition(r, 9),
-        operands::high(r, 9),
-        operands::coefficients(r, 11, c),
-        operands::coefficients(r, 12, c),
-        operands::words(r, 13, w),
-        operands::words(r, 14, w),
-        operands::bytes(r, 15, b),
-        operands::low(r, 10),
-        count,
-        operands::bytes(r, 16, b),
-        operands::words(r, 17, w),
-        operands::coefficients(r, 18, c),
-        k0,
-        k1,
-    ))
+fn input_at<'a>(r: Record, m: &'a Memory) -> Input<'a> {
+    Input {
+        key: SplitKey {
+            s0: r.lent(11, &m.coefficients),
+            s1: r.lent(12, &m.coefficients),
+            z0: r.lent(13, &m.words),
+            z1: r.lent(14, &m.words),
+            public: r.lent(15, &m.bytes),
+        },
+        ct: r.lent(16, &m.bytes),
+        words: r.lent(17, &m.words),
+        coeffs: r.lent(18, &m.coefficients),
+    }
 }
 
-// The shares of K are operands 5 and 6, the count is operand 8.
-pub(crate) fn decaps(r: &[u8], b: &[u8], c: &[u16], w: &[u64]) -> Left {
-    let mut k0 = words_at(w, operands::start(r, 5));
-    let mut k1 = words_at(w, operands::start(r, 6));
-    let mut count = number_at(w, operands::start(r, 8));
-    let n = operands::count_within(r, 5, 512);
-    let m = operands::count_within(r, 6, 512);
-    let answer = decaps_on(r, b, c, w, &mut count, &mut k0[0..n], &mut k1[0..m]);
-    left::of_words(answer, k0, k1, 0, count as u64)
+// The shares of K are operands 5 and 6, the count is operand 8, the limit operand 10.
+pub(crate) fn decaps(r: Record, m: &Memory, left: &mut Left) -> u64 {
+    let mut count = number_of(r, 8, m);
+    let answer = number(decapsulation::decaps(
+        r.edition(9),
+        r.high(9),
+        &input_at(r, m),
+        r.low(10),
+        &mut count,
+        r.taken(5, &m.words, &mut left.w0),
+        r.taken(6, &m.words, &mut left.w1),
+    ));
+    left.n1 = count as u64;
+    answer
 }
 
 // The value is operand 7, and operand 10 is where the step's number stands.
-pub(crate) fn trace(r: &[u8], b: &[u8], c: &[u16], w: &[u64]) -> Left {
-    let mut value = word(w, operands::start(r, 7));
-    let answer = decapsulation::trace(
-        operands::edition(r, 9),
-        operands::high(r, 9),
-        operands::coefficients(r, 11, c),
-        operands::coefficients(r, 12, c),
-        operands::words(r, 13, w),
-        operands::words(r, 14, w),
-        operands::bytes(r, 15, b),
-        operands::bytes(r, 16, b),
-        operands::words(r, 17, w),
-        operands::coefficients(r, 18, c),
-        word(w, operands::start(r, 10)),
-        &mut value,
-    );
-    left::of_words(number(answer), [0u64; 512], [0u64; 512], value, 0)
+pub(crate) fn trace(r: Record, m: &Memory, left: &mut Left) -> u64 {
+    left.n0 = element(&m.words, r.start(7));
+    number(decapsulation::trace(
+        r.edition(9),
+        r.high(9),
+        &input_at(r, m),
+        element(&m.words, r.start(10)),
+        &mut left.n0,
+    ))
 }

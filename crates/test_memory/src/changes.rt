@@ -1,40 +1,26 @@
 // Records that change the memory. They hold where what they change is in it.
-use crate::memory::{byte, bytes_at, part, place, set_byte, set_word, store_bytes, word};
-use crate::wants::text;
-use crate::{digest, memory, operands};
-use buffers::little_endian;
+use crate::elements::Element;
+use crate::failure::{Failure, Outcome};
+use crate::hashes::HashFunction;
+use crate::memory::{Memory, element, load, part, part_mut, place, set, store, whole_part};
+use crate::record::Record;
 use buffers::values::reduce;
 
 // ---- WRITE: a buffer; then the bytes
 
-pub(crate) fn write(r: &[u8], b: &mut [u8]) -> bool {
-    store_bytes(text(r), b, operands::start(r, 0))
+pub(crate) fn write(r: Record, m: &mut Memory) -> Outcome {
+    store(r.text(), &mut m.bytes, r.start(0))
 }
 
 // ---- FILL: a buffer, a byte
-
-fn fill_all(v: u8, out: &mut [u8]) {
-    for i in 0..out.len() {
-        out[i] = v;
-    }
-}
 
 fn low_byte(x: u32) -> u8 {
     (x % 256) as u8
 }
 
-pub(crate) fn fill(r: &[u8], b: &mut [u8]) -> bool {
-    let at = operands::start(r, 0);
-    let n = operands::count(r, 0);
-    if at > b.len() {
-        return false;
-    }
-    if n > b.len() - at {
-        return false;
-    }
-    let e = at + n;
-    fill_all(low_byte(operands::low(r, 1)), &mut b[at..e]);
-    true
+pub(crate) fn fill(r: Record, m: &mut Memory) -> Outcome {
+    part_mut(&mut m.bytes, r.start(0), r.count(0))?.fill(low_byte(r.low(1)));
+    Ok(())
 }
 
 // ---- COPY: a buffer, a stride and a counter, from where and its stride
@@ -53,225 +39,155 @@ fn place_at(at: usize, stride: u32, t: u64) -> usize {
     place(at, strides(low_half(stride as u64), low_half(t)))
 }
 
-pub(crate) fn copy(r: &[u8], b: &mut [u8], w: &[u64]) -> bool {
-    let t = word(w, operands::count(r, 1));
-    let to = place_at(operands::start(r, 0), operands::low(r, 1), t);
-    let from = place_at(operands::start(r, 2), operands::high(r, 2), t);
-    let held = bytes_at(b, from);
-    store_bytes(operands::lent_bytes(r, 0, &held), b, to)
+pub(crate) fn copy(r: Record, m: &mut Memory) -> Outcome {
+    let t = element(&m.words, r.count(1));
+    let to = place_at(r.start(0), r.low(1), t);
+    let from = place_at(r.start(2), r.high(2), t);
+    let mut held = [0u8; 4096];
+    load(&m.bytes, from, &mut held);
+    store(r.first(0, &held), &mut m.bytes, to)
 }
 
 // ---- JOIN: a buffer, another
 
-fn joined(a: &[u8], b: &[u8]) -> [u8; 4096] {
-    let mut out = [0u8; 4096];
-    for i in 0..4096usize {
-        out[i] = byte(a, i) ^ byte(b, i);
+pub(crate) fn join(r: Record, m: &mut Memory) -> Outcome {
+    let mut both = [0u8; 4096];
+    load(r.lent(0, &m.bytes), 0, &mut both);
+    for (x, y) in both.iter_mut().zip(part(&m.bytes, r.start(1), r.count(0))) {
+        *x ^= *y;
     }
-    out
-}
-
-pub(crate) fn join(r: &[u8], b: &mut [u8]) -> bool {
-    let other = part(b, operands::start(r, 1), operands::count(r, 0));
-    let both = joined(operands::bytes(r, 0, b), other);
-    store_bytes(operands::lent_bytes(r, 0, &both), b, operands::start(r, 0))
+    store(r.first(0, &both), &mut m.bytes, r.start(0))
 }
 
 // ---- SET: a place and the width of an element, a counter and the value, a modulus
 
+// An element's bits.
+enum Width {
+    Eight,
+    Twelve,
+    Sixteen,
+}
+
+impl TryFrom<u32> for Width {
+    type Error = Failure;
+
+    fn try_from(bits: u32) -> Result<Width, Failure> {
+        match bits {
+            8 => Ok(Width::Eight),
+            12 => Ok(Width::Twelve),
+            16 => Ok(Width::Sixteen),
+            _ => Err(Failure::NoSuchKind),
+        }
+    }
+}
+
 // Bytes 0 and 1 of an element of 16 bits.
-fn set_wide(b: &mut [u8], at: usize, v: u32) -> bool {
-    let first = set_byte(b, at, low_byte(v));
-    let second = set_byte(b, place(at, 1), low_byte(v / 256));
-    first & second
+fn set_wide(b: &mut [u8], at: usize, v: u32) -> Outcome {
+    let first = set(b, at, low_byte(v));
+    first.and(set(b, place(at, 1), low_byte(v / 256)))
 }
 
 // Of the three bytes of two elements of 12 bits, those of the first or of the second.
-fn set_even(b: &mut [u8], at: usize, v: u32) -> bool {
-    let middle = byte(b, place(at, 1)) & 0xf0 | low_byte(v / 256 % 16);
-    let first = set_byte(b, at, low_byte(v));
-    let second = set_byte(b, place(at, 1), middle);
-    first & second
+fn set_even(b: &mut [u8], at: usize, v: u32) -> Outcome {
+    let middle = element(b, place(at, 1)) & 0xf0 | low_byte(v / 256 % 16);
+    let first = set(b, at, low_byte(v));
+    first.and(set(b, place(at, 1), middle))
 }
 
-fn set_odd(b: &mut [u8], at: usize, v: u32) -> bool {
-    let middle = byte(b, place(at, 1)) & 0x0f | low_byte(v % 16 * 16);
-    let first = set_byte(b, place(at, 1), middle);
-    let second = set_byte(b, place(at, 2), low_byte(v / 16));
-    first & second
+fn set_odd(b: &mut [u8], at: usize, v: u32) -> Outcome {
+    let middle = element(b, place(at, 1)) & 0x0f | low_byte(v % 16 * 16);
+    let first = set(b, place(at, 1), middle);
+    first.and(set(b, place(at, 2), low_byte(v / 16)))
 }
 
 // Element i of the string that begins at a place.
-fn set_element(b: &mut [u8], bits: u32, at: usize, i: usize, v: u32) -> bool {
+fn set_element(b: &mut [u8], width: Width, at: usize, i: usize, v: u32) -> Outcome {
     let j = i % 65536;
-    match bits {
-        8 => set_byte(b, place(at, j), low_byte(v)),
-        16 => set_wide(b, place(at, 2 * j), v),
-        12 => {
-            if j % 2 == 0 {
-                return set_even(b, place(at, j / 2 * 3), v);
-            }
-            set_odd(b, place(at, j / 2 * 3), v)
-        }
-        _ => false,
+    match width {
+        Width::Eight => set(b, place(at, j), low_byte(v)),
+        Width::Twelve if j % 2 == 0 => set_even(b, place(at, j / 2 * 3), v),
+        Width::Twelve => set_odd(b, place(at, j / 2 * 3), v),
+        Width::Sixteen => set_wide(b, place(at, 2 * j), v),
     }
 }
 
-fn remainder(x: u64, modulus: u32) -> usize {
-    if modulus == 0 {
-        return 0;
-    }
-    (x % (modulus as u64)) as usize
-}
-
-pub(crate) fn set(r: &[u8], b: &mut [u8], w: &[u64]) -> bool {
-    let i = remainder(word(w, operands::start(r, 1)), operands::low(r, 2));
-    set_element(
-        b,
-        operands::high(r, 0),
-        operands::start(r, 0),
-        i,
-        operands::high(r, 1),
-    )
+pub(crate) fn set_in_string(r: Record, m: &mut Memory) -> Outcome {
+    let counter = element(&m.words, r.start(1));
+    let i = counter.checked_rem(r.low(2) as u64).unwrap_or(0) as usize;
+    let width = Width::try_from(r.high(0))?;
+    set_element(&mut m.bytes, width, r.start(0), i, r.high(1))
 }
 
 // ---- SQUEEZE: a buffer, the hash, the message
 
-fn squeeze_into(r: &[u8], b: &mut [u8], out: &mut [u8]) -> bool {
-    digest(operands::low(r, 1), operands::bytes(r, 2, b), out);
-    store_bytes(out, b, operands::start(r, 0))
-}
-
-pub(crate) fn squeeze(r: &[u8], b: &mut [u8]) -> bool {
-    let mut out = [0u8; 170000];
-    let n = operands::count_within(r, 0, 170000);
-    squeeze_into(r, b, &mut out[0..n])
+pub(crate) fn squeeze(r: Record, m: &mut Memory) -> Outcome {
+    let mut buffer = [0u8; 170000];
+    let out = r.first_mut(0, &mut buffer);
+    HashFunction::from(r.low(1)).digest(r.lent(2, &m.bytes), out);
+    store(out, &mut m.bytes, r.start(0))
 }
 
 // ---- LOAD: a buffer of coefficients or words, from which byte on; coefficients modulo q where that is asked
 
-fn get_coefficients(s: &[u8], modulo: bool, out: &mut [u16]) -> bool {
-    if out.len() > 65536 {
-        return false;
-    }
-    if s.len() != 2 * out.len() {
-        return false;
-    }
-    little_endian::get_coefficients(s, out);
-    if modulo {
-        reduce(out);
-    }
-    true
+fn load_elements<T: Element>(r: Record, bytes: &[u8], memory: &mut [T]) -> Outcome {
+    let out = part_mut(memory, r.start(0), r.count(0))?;
+    let length = T::BYTES.checked_mul(out.len()).ok_or(Failure::Outside)?;
+    T::get(whole_part(bytes, r.start(1), length)?, out);
+    Ok(())
 }
 
-pub(crate) fn load_coefficients(r: &[u8], b: &[u8], c: &mut [u16]) -> bool {
-    let at = operands::start(r, 0);
-    let n = operands::count(r, 0);
-    if at > c.len() {
-        return false;
+pub(crate) fn load_coefficients(r: Record, m: &mut Memory) -> Outcome {
+    load_elements(r, &m.bytes, &mut m.coefficients)?;
+    if r.high(1) == 1 {
+        reduce(part_mut(&mut m.coefficients, r.start(0), r.count(0))?);
     }
-    if n > c.len() - at {
-        return false;
-    }
-    let e = at + n;
-    let s = part(b, operands::start(r, 1), 2 * (n % 0x1_0000_0000));
-    get_coefficients(s, operands::high(r, 1) == 1, &mut c[at..e])
+    Ok(())
 }
 
-fn get_words(s: &[u8], out: &mut [u64]) -> bool {
-    if out.len() > 65536 {
-        return false;
-    }
-    if s.len() != 8 * out.len() {
-        return false;
-    }
-    little_endian::get_words(s, out);
-    true
-}
-
-pub(crate) fn load_words(r: &[u8], b: &[u8], w: &mut [u64]) -> bool {
-    let at = operands::start(r, 0);
-    let n = operands::count(r, 0);
-    if at > w.len() {
-        return false;
-    }
-    if n > w.len() - at {
-        return false;
-    }
-    let e = at + n;
-    get_words(
-        part(b, operands::start(r, 1), 8 * (n % 0x1_0000_0000)),
-        &mut w[at..e],
-    )
+pub(crate) fn load_words(r: Record, m: &mut Memory) -> Outcome {
+    load_elements(r, &m.bytes, &mut m.words)
 }
 
 // ---- STORE: to which byte, a buffer of coefficients or words
 
-fn put_coefficients(f: &[u16], out: &mut [u8]) -> bool {
-    if f.len() > 65536 {
-        return false;
+// A number of elements is taken modulo 65,537.
+fn store_elements<T: Element>(r: Record, bytes: &mut [u8], memory: &[T]) -> Outcome {
+    let elements = r.lent(1, memory);
+    if elements.len() != r.count(1) % 65537 {
+        return Err(Failure::Outside);
     }
-    if out.len() != 2 * f.len() {
-        return false;
-    }
-    little_endian::put_coefficients(f, out);
-    true
+    let length = T::BYTES
+        .checked_mul(elements.len())
+        .ok_or(Failure::Outside)?;
+    T::put(elements, part_mut(bytes, r.start(0), length)?);
+    Ok(())
 }
 
-pub(crate) fn store_coefficients(r: &[u8], b: &mut [u8], c: &[u16]) -> bool {
-    let at = operands::start(r, 0);
-    let n = 2 * (operands::count(r, 1) % 65537);
-    if at > b.len() {
-        return false;
-    }
-    if n > b.len() - at {
-        return false;
-    }
-    let e = at + n;
-    put_coefficients(operands::coefficients(r, 1, c), &mut b[at..e])
+pub(crate) fn store_coefficients(r: Record, m: &mut Memory) -> Outcome {
+    store_elements(r, &mut m.bytes, &m.coefficients)
 }
 
-fn put_words(f: &[u64], out: &mut [u8]) -> bool {
-    if f.len() > 65536 {
-        return false;
-    }
-    if out.len() != 8 * f.len() {
-        return false;
-    }
-    little_endian::put_words(f, out);
-    true
-}
-
-pub(crate) fn store_words(r: &[u8], b: &mut [u8], w: &[u64]) -> bool {
-    let at = operands::start(r, 0);
-    let n = 8 * (operands::count(r, 1) % 65537);
-    if at > b.len() {
-        return false;
-    }
-    if n > b.len() - at {
-        return false;
-    }
-    let e = at + n;
-    put_words(operands::words(r, 1, w), &mut b[at..e])
+pub(crate) fn store_words(r: Record, m: &mut Memory) -> Outcome {
+    store_elements(r, &mut m.bytes, &m.words)
 }
 
 // ---- COUNT: a word's place and what is added to it
 
-pub(crate) fn count(r: &[u8], w: &mut [u64]) -> bool {
-    let at = operands::start(r, 0);
-    let sum = word(w, at) % 0x1_0000_0000 + operands::high(r, 0) as u64;
-    set_word(w, at, sum % 0x1_0000_0000)
+pub(crate) fn count(r: Record, m: &mut Memory) -> Outcome {
+    let at = r.start(0);
+    let sum = element(&m.words, at) % 0x1_0000_0000 + r.high(0) as u64;
+    set(&mut m.words, at, sum % 0x1_0000_0000)
 }
 
 // ---- ABSORB: a digest, a buffer
 
-pub(crate) fn absorb(r: &[u8], b: &mut [u8]) -> bool {
+pub(crate) fn absorb(r: Record, m: &mut Memory) -> Outcome {
     let mut feed = [0u8; 16032];
     let mut digest = [0u8; 32];
-    let at = operands::start(r, 0);
-    let first = store_bytes(part(b, at, 32), &mut feed, 0);
-    let second = store_bytes(operands::bytes(r, 1, b), &mut feed, 32);
-    let n = place(operands::count(r, 1), 32);
-    fips202::sha3_256(part(&feed, 0, n), &mut digest);
-    first & second & store_bytes(&digest, b, at)
+    let at = r.start(0);
+    let first = store(part(&m.bytes, at, 32), &mut feed, 0);
+    let second = store(r.lent(1, &m.bytes), &mut feed, 32);
+    let n = place(r.count(1), 32);
+    let _ = fips202::sha3_256(part(&feed, 0, n), &mut digest);
+    first.and(second).and(store(&digest, &mut m.bytes, at))
 }

@@ -1,8 +1,7 @@
-// The memory: bytes, coefficients and words. What isn't in it isn't read or written; where a part of it that is to be
-// written isn't in it, the answer is false.
-ghost use Rattle.std.specs.Prelude.{◌≡◌, length};
+// The memory: bytes, coefficients and words. What isn't in it isn't read or written.
+ghost use Rattle.std.specs.Prelude.{◌≡◌, ◌≤◌, length, IfOk};
 
-use buffers::little_endian::get_number;
+use crate::failure::{Failure, Outcome};
 
 // How much of each it has.
 pub const BYTES: usize = 655360;
@@ -11,206 +10,81 @@ pub const COEFFICIENTS: usize = 65536;
 
 pub const WORDS: usize = 65536;
 
-// ---- parts, which are cut at the memory's end
+#[derive(Drop)]
+pub struct Memory {
+    pub bytes: [u8; BYTES],
+    pub coefficients: [u16; COEFFICIENTS],
+    pub words: [u64; WORDS],
+}
 
-fn first(b: &[u8], n: usize) -> &[u8] {
-    if n <= b.len() {
-        return &b[0..n];
+impl Memory {
+    // All zero.
+    pub fn new() -> Memory {
+        Memory {
+            bytes: [0u8; BYTES],
+            coefficients: [0u16; COEFFICIENTS],
+            words: [0u64; WORDS],
+        }
     }
-    b
 }
 
-fn from(b: &[u8], at: usize) -> &[u8] {
-    if at <= b.len() {
-        return &b[at..];
-    }
-    first(b, 0)
+// ---- parts, which are cut at the end, or whole
+
+pub fn part<T>(s: &[T], at: usize, n: usize) -> &[T]
+    ensures { length result.now ≤ n }
+{
+    let rest = s.get(at..).unwrap_or(&[]);
+    rest.get(..n).unwrap_or(rest)
 }
 
-pub fn part(b: &[u8], at: usize, n: usize) -> &[u8] {
-    first(from(b, at), n)
+pub fn whole_part<T>(s: &[T], at: usize, n: usize) -> Result<&[T], Failure>
+    ensures { IfOk result (λ p. length p.now ≡ n) }
+{
+    let rest = s.get(at..).ok_or(Failure::Outside)?;
+    rest.get(..n).ok_or(Failure::Outside)
 }
 
-fn first_coefficients(c: &[u16], n: usize) -> &[u16] {
-    if n <= c.len() {
-        return &c[0..n];
-    }
-    c
+pub fn part_mut<T>(s: &mut [T], at: usize, n: usize) -> Result<&mut [T], Failure>
+    ensures { IfOk result (λ p. length p.now ≡ n) }
+{
+    let rest = s.get_mut(at..).ok_or(Failure::Outside)?;
+    rest.get_mut(..n).ok_or(Failure::Outside)
 }
 
-fn coefficients_from(c: &[u16], at: usize) -> &[u16] {
-    if at <= c.len() {
-        return &c[at..];
-    }
-    first_coefficients(c, 0)
+// What stands from a place on; past the memory's end out keeps what it has.
+pub fn load<T: Copy>(s: &[T], at: usize, out: &mut [T]) {
+    let from = part(s, at % 0x1_0000_0000, out.len());
+    let n = from.len();
+    out[..n].copy_from_slice(from);
 }
 
-pub fn coefficients(c: &[u16], at: usize, n: usize) -> &[u16] {
-    first_coefficients(coefficients_from(c, at), n)
+// Nothing is stored where there isn't room for all.
+pub fn store<T: Copy>(from: &[T], s: &mut [T], at: usize) -> Outcome {
+    part_mut(s, at, from.len())?.copy_from_slice(from);
+    Ok(())
 }
 
-fn first_words(w: &[u64], n: usize) -> &[u64] {
-    if n <= w.len() {
-        return &w[0..n];
-    }
-    w
+// ---- single elements
+
+// 0 past the end.
+pub fn element<T: Copy + Default>(s: &[T], at: usize) -> T {
+    s.get(at).copied().unwrap_or_default()
 }
 
-fn words_from(w: &[u64], at: usize) -> &[u64] {
-    if at <= w.len() {
-        return &w[at..];
-    }
-    first_words(w, 0)
+pub fn set<T: Copy>(s: &mut [T], at: usize, v: T) -> Outcome {
+    *s.get_mut(at).ok_or(Failure::Outside)? = v;
+    Ok(())
 }
 
-pub fn words(w: &[u64], at: usize, n: usize) -> &[u64] {
-    first_words(words_from(w, at), n)
-}
-
-// ---- single elements, which are 0 past the memory's end
-
-pub fn byte(b: &[u8], at: usize) -> u8 {
-    if at < b.len() {
-        return b[at];
-    }
-    0
-}
-
-pub fn coefficient(c: &[u16], at: usize) -> u16 {
-    if at < c.len() {
-        return c[at];
-    }
-    0
-}
-
-pub fn word(w: &[u64], at: usize) -> u64 {
-    if at < w.len() {
-        return w[at];
-    }
-    0
-}
-
-fn number_in(p: &[u8]) -> u32 {
-    if p.len() != 4 {
-        return 0;
-    }
-    get_number(p)
-}
-
-// Four bytes, the lowest first.
+// Four bytes, the lowest first; 0 where not all are there.
 pub fn number(b: &[u8], at: usize) -> u32 {
-    number_in(part(b, at, 4))
-}
-
-pub fn set_byte(b: &mut [u8], at: usize, v: u8) -> bool {
-    if at < b.len() {
-        b[at] = v;
-        return true;
-    }
-    false
-}
-
-pub fn set_word(w: &mut [u64], at: usize, v: u64) -> bool {
-    if at < w.len() {
-        w[at] = v;
-        return true;
-    }
-    false
+    part(b, at, 4)
+        .first_chunk()
+        .map_or(0, |p| u32::from_le_bytes(*p))
 }
 
 // ---- places, and sums of them that don't overflow
 
 pub fn place(at: usize, i: usize) -> usize {
     at % 0x1_0000_0000 + i % 0x1_0000_0000
-}
-
-// ---- as many elements as a call may change, from a place on
-
-pub fn bytes_at(b: &[u8], at: usize) -> [u8; 4096]
-    ensures { 4096 ≡ length result }
-{
-    let mut out = [0u8; 4096];
-    for i in 0..4096usize {
-        out[i] = byte(b, place(at, i));
-    }
-    out
-}
-
-pub fn coefficients_at(c: &[u16], at: usize) -> [u16; 4096]
-    ensures { 4096 ≡ length result }
-{
-    let mut out = [0u16; 4096];
-    for i in 0..4096usize {
-        out[i] = coefficient(c, place(at, i));
-    }
-    out
-}
-
-pub fn words_at(w: &[u64], at: usize) -> [u64; 512]
-    ensures { 512 ≡ length result }
-{
-    let mut out = [0u64; 512];
-    for i in 0..512usize {
-        out[i] = word(w, place(at, i));
-    }
-    out
-}
-
-// ---- into the memory
-
-fn copy_bytes(s: &[u8], out: &mut [u8]) {
-    for i in 0..out.len() {
-        out[i] = byte(s, i);
-    }
-}
-
-pub fn store_bytes(s: &[u8], b: &mut [u8], at: usize) -> bool {
-    let n = s.len();
-    if at > b.len() {
-        return false;
-    }
-    if n > b.len() - at {
-        return false;
-    }
-    let e = at + n;
-    copy_bytes(s, &mut b[at..e]);
-    true
-}
-
-fn copy_coefficients(s: &[u16], out: &mut [u16]) {
-    for i in 0..out.len() {
-        out[i] = coefficient(s, i);
-    }
-}
-
-pub fn store_coefficients(s: &[u16], c: &mut [u16], at: usize) -> bool {
-    let n = s.len();
-    if at > c.len() {
-        return false;
-    }
-    if n > c.len() - at {
-        return false;
-    }
-    let e = at + n;
-    copy_coefficients(s, &mut c[at..e]);
-    true
-}
-
-fn copy_words(s: &[u64], out: &mut [u64]) {
-    for i in 0..out.len() {
-        out[i] = word(s, i);
-    }
-}
-
-pub fn store_words(s: &[u64], w: &mut [u64], at: usize) -> bool {
-    let n = s.len();
-    if at > w.len() {
-        return false;
-    }
-    if n > w.len() - at {
-        return false;
-    }
-    let e = at + n;
-    copy_words(s, &mut w[at..e]);
-    true
 }

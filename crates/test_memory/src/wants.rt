@@ -1,40 +1,28 @@
 // What must hold of the memory's bytes.
-use crate::memory::part;
-use crate::operands;
+use crate::failure::{Outcome, wanted};
+use crate::memory::{Memory, part};
+use crate::record::Record;
 
-fn same(a: &[u8], b: &[u8]) -> bool {
-    if a.len() != b.len() {
-        return false;
-    }
-    refusals::conditions::same(a, b)
+// Operand 0, and whether it is a part of the memory as long as it says.
+fn buffer<'a>(r: Record, m: &'a Memory) -> (&'a [u8], bool) {
+    let bytes = r.lent(0, &m.bytes);
+    (bytes, bytes.len() == r.count(0))
 }
 
-fn hashes_to(a: &[u8], h: &[u8]) -> bool {
-    let mut out = [0u8; 32];
-    fips202::sha3_256(a, &mut out);
-    same(&out, h)
+pub(crate) fn want(r: Record, m: &Memory) -> Outcome {
+    let (bytes, is_whole) = buffer(r, m);
+    wanted(is_whole && bytes == r.text())
 }
 
-// Operand 0 is a part of the memory as long as it says.
-fn is_whole(r: &[u8], b: &[u8]) -> bool {
-    operands::bytes(r, 0, b).len() == operands::count(r, 0)
-}
-
-// The bytes that a record ends with, behind its first operand.
-pub(crate) fn text(r: &[u8]) -> &[u8] {
-    part(r, 16, operands::count(r, 0))
-}
-
-pub(crate) fn want(r: &[u8], b: &[u8]) -> bool {
-    is_whole(r, b) & same(operands::bytes(r, 0, b), text(r))
-}
-
-pub(crate) fn want_hash(r: &[u8], b: &[u8]) -> bool {
-    is_whole(r, b) & hashes_to(operands::bytes(r, 0, b), part(r, 16, 32))
+pub(crate) fn want_hash(r: Record, m: &Memory) -> Outcome {
+    let mut hash = [0u8; 32];
+    let (bytes, is_whole) = buffer(r, m);
+    let _ = fips202::sha3_256(bytes, &mut hash);
+    wanted(is_whole && hash.as_slice() == r.hash())
 }
 
 // The bytes at operand 1 are those of operand 0.
-pub(crate) fn want_same(r: &[u8], b: &[u8]) -> bool {
-    let other = part(b, operands::start(r, 1), operands::count(r, 0));
-    is_whole(r, b) & same(operands::bytes(r, 0, b), other)
+pub(crate) fn want_same(r: Record, m: &Memory) -> Outcome {
+    let (bytes, is_whole) = buffer(r, m);
+    wanted(is_whole && bytes == part(&m.bytes, r.start(1), r.count(0)))
 }

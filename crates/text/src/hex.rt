@@ -2,6 +2,7 @@
 ghost use Rattle.std.specs.Prelude.{◌≡◌, ◌*◌, ◌/◌, ◌%◌, ◌≤◌, ◌<◌, length};
 ghost use Rattle.text.specs.Hex.{glyph as glyph_of, hex as hex_of, digit_at};
 
+use slices::tabulate;
 use std::io;
 
 fn glyph(d: u8) -> u8
@@ -27,9 +28,7 @@ fn spell(b: &[u8], out: &mut [u8])
     requires { length out.old ≡ 2 * length b.now }
     ensures { out.new ≡ hex_of b.now }
 {
-    for i in 0..out.len() {
-        out[i] = digit(b, i);
-    }
+    tabulate(out, |i| digit(b, i));
 }
 
 // At most 2,048 bytes, by way of text.
@@ -44,13 +43,10 @@ fn print_some(rt: &impl Print, b: &[u8], text: &mut [u8]) -> io::Result<()>
 fn print_all(rt: &impl Print, b: &[u8], text: &mut [u8]) -> io::Result<()>
     requires { length text.old ≡ 4096 }
 {
-    let mut at: usize = 0;
-    while b.len() - at > 2048 {
-        let e = at + 2048;
-        print_some(rt, &b[at..e], text)?;
-        at = e;
+    for part in b.chunks(2048) {
+        print_some(rt, part, text)?;
     }
-    print_some(rt, &b[at..], text)
+    Ok(())
 }
 
 // All the digits, and a line end; an error where standard output doesn't take them.

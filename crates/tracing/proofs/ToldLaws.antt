@@ -1,6 +1,6 @@
 -- Told no step, a run answers as its rows alone; told a step, it answers and hands back what its trace does: where a
 -- row refuses both answers are that row's, and where none does both are row 8's.
-use Rattle.std.specs.Prelude.{◌≡◌, Bool, not, List, [], ◌∷◌, ◌++◌, ℕ, ◌+◌, ◌<◌, ◌≤◌, leb, ltb}
+use Rattle.std.specs.Prelude.{◌≡◌, Bool, not, List, [], ◌∷◌, ◌++◌, ℕ, ◌+◌, ◌<◌, ◌≤◌, leb, ltb, Err}
 use Rattle.std.proofs.Math.Path.{refl, ap}
 use Rattle.std.proofs.Common.{sym, ◌∙◌, add-one, arith, lt-ltb, le-ltb, le-leb}
 use Rattle.std.proofs.Math.Bool.{true, false, cond}
@@ -12,11 +12,10 @@ use Rattle.worksheet.specs.Prog.{Prog}
 use Rattle.worksheet.specs.Recording.{noted}
 use Rattle.worksheet.specs.Run.{run}
 use Rattle.worksheet.specs.Ran.{Ran}
-use Rattle.refusals.specs.declared.Answer.{Answer}
-use Rattle.refusals.specs.declared.Answer.TheVariants.{Done, NoSuchStep}
-use Rattle.refusals.specs.Refusals.{number, Row, row, answer, after}
-use Rattle.refusals.specs.RefusalLaws.{number-done, after_refused}
-use Rattle.tracing.specs.Refusing.{Refusing}
+use Rattle.refusals.specs.declared.Refusal.{Refusal}
+use Rattle.refusals.specs.declared.Refusal.TheVariants.{NoSuchStep}
+use Rattle.refusals.specs.Refusals.{Answer, Done, number, Row, row, answer, after}
+use Rattle.refusals.specs.RefusalLaws.{refusal_number-positive, number-done, after_refused}
 use Rattle.tracing.specs.Told.{told_answer, told_value, left_of}
 use Rattle.tracing.specs.Trace.{step_answer, step_value}
 
@@ -29,27 +28,27 @@ answer_refused [] more h = absurd (omega arith)
 answer_refused (r ∷ rows) more h = go r.applies (answer_refused rows more) h
   where
     go : (b : Bool) → (0 < number (answer rows) → answer (rows ++ more) ≡ answer rows)
-        → 0 < number (cond b r.refusal (answer rows))
-        → cond b r.refusal (answer (rows ++ more)) ≡ cond b r.refusal (answer rows)
+        → 0 < number (cond b (Err r.refusal) (answer rows))
+        → cond b (Err r.refusal) (answer (rows ++ more)) ≡ cond b (Err r.refusal) (answer rows)
     go true f h = refl
     go false f h = f h
 
 -- where none refuses, those behind decide
-answer_passed : (rows more : List Row) → Refusing rows → answer rows ≡ Done → answer (rows ++ more) ≡ answer more
+answer_passed : (rows more : List Row) → answer rows ≡ Done → answer (rows ++ more) ≡ answer more
 unfolding answer
-answer_passed [] more h e = refl
-answer_passed (r ∷ rows) more h e = go r.applies (answer_passed rows more h.1) e
+answer_passed [] more e = refl
+answer_passed (r ∷ rows) more e = go r.applies (answer_passed rows more) e
   where
     go : (b : Bool) → (answer rows ≡ Done → answer (rows ++ more) ≡ answer more)
-        → cond b r.refusal (answer rows) ≡ Done → cond b r.refusal (answer (rows ++ more)) ≡ answer more
-    go true f e = absurd (omega (arith, ap number e, h.0))
+        → cond b (Err r.refusal) (answer rows) ≡ Done → cond b (Err r.refusal) (answer (rows ++ more)) ≡ answer more
+    go true f e = absurd (omega (arith, ap number e, refusal_number-positive r.refusal))
     go false f e = f e
 
 -- a row that doesn't apply changes nothing
-answer_idle : (rows : List Row) (a : Answer) → answer (rows ++ row false a ∷ []) ≡ answer rows
+answer_idle : (rows : List Row) (r : Refusal) → answer (rows ++ row false r ∷ []) ≡ answer rows
 unfolding answer
-answer_idle [] a = refl
-answer_idle (r ∷ rows) a = ap (cond r.applies r.refusal) (answer_idle rows a)
+answer_idle [] r = refl
+answer_idle (x ∷ rows) r = ap (cond x.applies (Err x.refusal)) (answer_idle rows r)
 
 -- ---- told a step or none
 
@@ -67,23 +66,23 @@ module _ (rows : List Row) (n : ℕ) where
   unfolding told_answer
   told_refused left e h = answer_refused rows _ (rw e h) ∙ e
 
-  module _ (refusing : Refusing rows) (passed : answer rows ≡ Done) where
+  module _ (passed : answer rows ≡ Done) where
     -- none does
-    told_passed : (left : ℕ) → told_answer rows n left ≡ cond (leb left n) Done NoSuchStep
+    told_passed : (left : ℕ) → told_answer rows n left ≡ cond (leb left n) Done (Err NoSuchStep)
     unfolding told_answer answer
-    told_passed left = answer_passed rows _ refusing passed ∙ go (leb left n)
+    told_passed left = answer_passed rows _ passed ∙ go (leb left n)
       where
-        go : (b : Bool) → cond (not b) NoSuchStep Done ≡ cond b Done NoSuchStep
+        go : (b : Bool) → cond (not b) (Err NoSuchStep) Done ≡ cond b Done (Err NoSuchStep)
         go true = refl
         go false = refl
 
     pub told_done : (left : ℕ) → left ≤ n → told_answer rows n left ≡ Done
     told_done left h = told_passed left ∙ rw (le-leb left n h)
 
-    pub told_over : (left : ℕ) → n < left → told_answer rows n left ≡ NoSuchStep
+    pub told_over : (left : ℕ) → n < left → told_answer rows n left ≡ Err NoSuchStep
     told_over left h = told_passed left ∙ rw (lt-leb left n h)
 
-    pub trace_passed : (t : ℕ) → step_answer rows n t ≡ cond (ltb t n) Done NoSuchStep
+    pub trace_passed : (t : ℕ) → step_answer rows n t ≡ cond (ltb t n) Done (Err NoSuchStep)
     trace_passed t = sym (told_step t) ∙ told_passed (t + 1) ∙ rw (add-one t)
 
 -- ---- what the recorder keeps is the trace's entry
@@ -104,7 +103,7 @@ record Refused (a b : Answer) : Type 0 where
   same : a ≡ b
   refusal : 0 < number b
 
-module _ (rows : List Row) (n m t : ℕ) (refusing : Refusing rows) (steps : answer rows ≡ Done → n ≡ m) where
+module _ (rows : List Row) (n m t : ℕ) (steps : answer rows ≡ Done → n ≡ m) where
   -- a step past the end is told as one past it
   past : m ≤ t → Refused (told_answer rows n (m + 1)) (step_answer rows n t)
   past h = go (dec_lt 0 (number (answer rows)))
@@ -116,9 +115,9 @@ module _ (rows : List Row) (n m t : ℕ) (refusing : Refusing rows) (steps : ans
       go (no r) =
           let d = number-done (answer rows) (omega arith) in
           let w = steps d in
-          let e : step_answer rows n t ≡ NoSuchStep =
-          sym (told_step rows n t) ∙ told_over rows n refusing d (t + 1) (omega arith) in
-          record { same = told_over rows n refusing d (m + 1) (omega arith) ∙ sym e; refusal = rw e (omega arith) }
+          let e : step_answer rows n t ≡ Err NoSuchStep =
+          sym (told_step rows n t) ∙ told_over rows n d (t + 1) (omega arith) in
+          record { same = told_over rows n d (m + 1) (omega arith) ∙ sym e; refusal = rw e (omega arith) }
 
   pub left_answer : told_answer rows n (left_of t m) ≡ step_answer rows n t
   left_answer = go (dec_lt t m)

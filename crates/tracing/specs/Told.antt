@@ -2,9 +2,8 @@
 -- hands back, for any rows of refusals before the run, any entries and any count n of steps.
 use Rattle.std.specs.Prelude.{not, cond, List, [], ◌∷◌, ◌++◌, ℕ, ◌+◌, leb, ltb}
 use Rattle.worksheet.specs.Recording.{note_all}
-use Rattle.refusals.specs.declared.Answer.{Answer}
-use Rattle.refusals.specs.declared.Answer.TheVariants.{NoSuchStep}
-use Rattle.refusals.specs.Refusals.{Row, row, answer}
+use Rattle.refusals.specs.declared.Refusal.TheVariants.{NoSuchStep}
+use Rattle.refusals.specs.Refusals.{Answer, Row, row, answer}
 
 -- the rows, then row 8, which applies where `left` is above n
 unfoldable pub told_answer : List Row → ℕ → ℕ → Answer

@@ -2,3 +2,4 @@ pub mod Transform
 pub mod Lent
 pub mod Linear
 pub mod MultiplyLaws
+pub mod Passes

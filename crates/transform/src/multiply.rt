@@ -38,9 +38,9 @@ fn gammas_of(zetas: &[u16], gammas: &mut [u16])
     requires { GammaInput zetas.now gammas.old }
     ensures { gammas.new ≡ tab 128 gamma }
 {
-    for j in 0..64 {
-        gammas[2 * j] = zetas[64 + j];
-        gammas[2 * j + 1] = 3329 - zetas[64 + j];
+    for (j, z) in zetas[64..].iter().enumerate() {
+        gammas[2 * j] = *z;
+        gammas[2 * j + 1] = 3329 - *z;
     }
 }
 
@@ -52,7 +52,7 @@ pub fn multiply_add(s: &mut [u16], f: &[u16], g: &[u16])
     let zetas = ZETAS;
     let mut gammas = [0u16; 128];
     gammas_of(&zetas, &mut gammas);
-    for i in 0..128 {
-        base_case_multiply(s, f, g, i, gammas[i]);
+    for (i, z) in gammas.iter().enumerate() {
+        base_case_multiply(s, f, g, i, *z);
     }
 }

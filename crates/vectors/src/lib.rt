@@ -1,4 +1,5 @@
 // Vectors of k polynomials (FIPS 203, section 2.4.6): the k parts of 256 coefficients of one slice.
+// Their loops count the parts, since the contract of std's chunks_exact_mut doesn't say what the slice ends as.
 #![tactic(auto)]
 
 ghost use Rattle.std.specs.Prelude.{◌≡◌, ◌+◌, ◌*◌, length, replicate};
@@ -16,9 +17,7 @@ pub fn ntt_all(v: &mut [u16], k: usize)
     ensures { v.new ≡ concat k (λ i. ntt_of (parts 256 v.old i)) }
 {
     for i in 0..k {
-        let a = 256 * i;
-        let e = a + 256;
-        ntt(&mut v[a..e]);
+        ntt(&mut v[256 * i..256 * i + 256]);
     }
 }
 
@@ -26,12 +25,11 @@ pub fn ntt_all(v: &mut [u16], k: usize)
 pub fn clear(f: &mut [u16])
     ensures { f.new ≡ replicate (length f.old) 0 }
 {
-    for i in 0..f.len() {
-        f[i] = 0;
-    }
+    f.fill(0);
 }
 
-// The sum of MultiplyNTTs (algorithm 11) of a's parts start, start + step, .. with b's parts (2.4.7).
+// The sum of MultiplyNTTs (algorithm 11) of a's parts start, start + step, .. with b's parts (2.4.7). By part, since
+// those of a are a stride apart.
 pub fn dot(a: &[u16], start: usize, step: usize, b: &[u16], k: usize, out: &mut [u16])
     requires { DotInput a.now start step b.now k out.old }
     ensures { out.new ≡ dot_of k (λ j. parts 256 a.now (start + step * j)) (parts 256 b.now) }
@@ -39,10 +37,7 @@ pub fn dot(a: &[u16], start: usize, step: usize, b: &[u16], k: usize, out: &mut 
     clear(out);
     for j in 0..k {
         let x = 256 * (start + step * j);
-        let xe = x + 256;
-        let y = 256 * j;
-        let ye = y + 256;
-        multiply_add(out, &a[x..xe], &b[y..ye]);
+        multiply_add(out, &a[x..x + 256], &b[256 * j..256 * j + 256]);
     }
 }
 
@@ -53,11 +48,7 @@ pub fn encode_all(v: &[u16], d: u32, k: usize, out: &mut [u8])
 {
     let n = 32 * (d as usize);
     for i in 0..k {
-        let a = 256 * i;
-        let e = a + 256;
-        let b = n * i;
-        let be = b + n;
-        byte_encode(&v[a..e], d, &mut out[b..be]);
+        byte_encode(&v[256 * i..256 * i + 256], d, &mut out[n * i..n * i + n]);
     }
 }
 
@@ -67,11 +58,11 @@ pub fn decode_all(b: &[u8], k: usize, v: &mut [u16])
     ensures { v.new ≡ coefficients k b.now }
 {
     for i in 0..k {
-        let a = 256 * i;
-        let e = a + 256;
-        let c = 384 * i;
-        let ce = c + 384;
-        byte_decode(&b[c..ce], 12, &mut v[a..e]);
+        byte_decode(
+            &b[384 * i..384 * i + 384],
+            12,
+            &mut v[256 * i..256 * i + 256],
+        );
     }
 }
 
@@ -81,10 +72,6 @@ pub fn decode12_all(b: &[u8], k: usize, v: &mut [u16])
     ensures { v.new ≡ concat k (λ i. byte_decode12 (parts 384 b.now i)) }
 {
     for i in 0..k {
-        let a = 256 * i;
-        let e = a + 256;
-        let c = 384 * i;
-        let ce = c + 384;
-        byte_decode12(&b[c..ce], &mut v[a..e]);
+        byte_decode12(&b[384 * i..384 * i + 384], &mut v[256 * i..256 * i + 256]);
     }
 }

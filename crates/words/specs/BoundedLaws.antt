@@ -1,6 +1,7 @@
 -- Laws of lists whose elements are all below a bound.
 use Rattle.std.proofs.Common.{subst, arith, get_or-take, get_or-drop}
-use Rattle.std.specs.Prelude.{List, [], ◌∷◌, ◌++◌, map, ℕ, zero, suc, ◌+◌, ◌<◌, length, get_or, take, drop, set, replicate}
+use Rattle.std.specs.Prelude.{List, [], ◌∷◌, ◌++◌, map, ℕ, zero, suc, ◌+◌, ◌<◌, length, get_or, take, drop, set}
+use Rattle.std.specs.Prelude.{replicate}
 use Rattle.std.proofs.Math.Decide.{dec_lt}
 use Rattle.std.proofs.Math.ListN.{get_or-eq_default}
 use Rattle.words.specs.Tab.{tab}

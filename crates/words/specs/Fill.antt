@@ -8,7 +8,8 @@
 --                      filled_copy 0 says out ≡ s, and where f is constant, filled_constant says out ≡ replicate n x
 use Rattle.std.specs.Prelude.{◌≡◌, List, ◌++◌, map, ℕ, ◌+◌, ◌-◌, ◌<◌, ◌≤◌, get_or, take, drop, set, replicate}
 use Rattle.std.proofs.Math.Path.{refl}
-use Rattle.std.proofs.Common.{sym, ap, ◌∙◌, append_assoc, add-one, length-append, length-drop, take_all, take_at, get_or-take, get_or-set_other}
+use Rattle.std.proofs.Common.{sym, ap, ◌∙◌, append_assoc, add-one, length-append, length-drop, take_all, take_at}
+use Rattle.std.proofs.Common.{get_or-take, get_or-set_other}
 use Rattle.std.proofs.Math.Decide.{dec_lt}
 use native.Mathlib.Omega.{arith}
 use Rattle.std.proofs.Math.ListN.{length, length-set}
@@ -70,7 +71,8 @@ module _ {A : Type 0} where
   filled_constant {n} {x} a h =
       filled_end a h ∙ sym (tab_of x (replicate n x) n (length-replicate n x) (λ k g. get_or-replicate n k x x g))
 
-  pub filled_at : {n : ℕ} {f : ℕ → A} {i : ℕ} {l : List A} → Filled n f i l → (d : A) (k : ℕ) → k < i → get_or l k d ≡ f k
+  pub filled_at : {n : ℕ} {f : ℕ → A} {i : ℕ} {l : List A} → Filled n f i l → (d : A) (k : ℕ) → k < i
+      → get_or l k d ≡ f k
   filled_at {f = f} {i} {l} a d k h = sym (get_or-take i l k d h) ∙ tabulated_at i f a.front k d h
 
   -- the first i of the n elements are in place, and the others are still those of l₀

@@ -1,7 +1,8 @@
 -- Laws of words as bytes: n bytes for each word, the lowest first.
 use Rattle.std.specs.Prelude.{◌≡◌, get_or, drop}
 use Rattle.std.proofs.Math.Path.{refl, sym, ap, ap₂}
-use Rattle.std.proofs.Common.{◌∙◌, subst, mul-zero, zero-mul, arith, take-append-drop, length-take-le, take_at, drop_at, take-add, take_all}
+use Rattle.std.proofs.Common.{◌∙◌, subst, mul-zero, zero-mul, arith, take-append-drop, length-take-le, take_at, drop_at}
+use Rattle.std.proofs.Common.{take-add, take_all}
 use mathlib.Core.List.{List, [], ◌∷◌, ◌++◌, append-nil, append_assoc}
 use Prim.Native.Nat.{ℕ, zero, suc, ◌+◌, ◌-◌, ◌*◌, ◌/◌, ◌%◌, ◌^◌, ◌<◌, ◌≤◌}
 use Rattle.std.proofs.Math.Nat.{mul-suc, zero-div}
@@ -26,7 +27,8 @@ module _ (n : ℕ) where
   pub below-words_to_bytes : (l : List ℕ) → Below 256 (words_to_bytes n l)
   unfolding words_to_bytes
   below-words_to_bytes [] = below_nil (omega arith)
-  below-words_to_bytes (w ∷ l) = below_append (digits 256 n w) (below-digits 256 n w (omega arith)) (below-words_to_bytes l)
+  below-words_to_bytes (w ∷ l) =
+      below_append (digits 256 n w) (below-digits 256 n w (omega arith)) (below-words_to_bytes l)
 
   words_to_bytes_append : (l m : List ℕ) → words_to_bytes n (l ++ m) ≡ words_to_bytes n l ++ words_to_bytes n m
   unfolding words_to_bytes
@@ -52,7 +54,8 @@ module _ (n : ℕ) where
   pub words_to_bytes-tab : (l : List ℕ)
       → words_to_bytes n l ≡ tab (n * length l) (λ i. get_or l (i / n) 0 / 256 ^ (i % n) % 256)
   words_to_bytes-tab l =
-      tab_of 0 (words_to_bytes n l) (n * length l) (length-words_to_bytes l) (λ i h. get_or-words_to_bytes l i (positive n h))
+      tab_of 0 (words_to_bytes n l) (n * length l) (length-words_to_bytes l)
+      (λ i h. get_or-words_to_bytes l i (positive n h))
     where
       positive : (k : ℕ) {i : ℕ} → i < k * length l → 0 < k
       positive zero {i} h = absurd (omega (arith, subst (λ (z : ℕ). i < z) (zero-mul (length l)) h))

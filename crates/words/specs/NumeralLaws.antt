@@ -1,8 +1,12 @@
 -- Laws of numerals.
-use Rattle.std.specs.Prelude.{◌≡◌, refl, List, [], ◌∷◌, ◌++◌, ℕ, zero, suc, ◌+◌, ◌-◌, ◌*◌, ◌/◌, ◌%◌, ◌^◌, ◌<◌, ◌≤◌, length, get_or, replicate}
-use Rattle.std.proofs.Common.{sym, ap, ap₂, ◌∙◌, subst, add-zero, zero-add, suc-add, zero-mul, mul-one, mul_assoc, add-mul, div-one, div-lt_iff_lt-mul, mod-lt, mod-eq_of_lt, pow-suc, add-one, arith, length-append, get_or-append-add}
+use Rattle.std.specs.Prelude.{◌≡◌, refl, List, [], ◌∷◌, ◌++◌, ℕ, zero, suc, ◌+◌, ◌-◌, ◌*◌, ◌/◌, ◌%◌, ◌^◌, ◌<◌, ◌≤◌}
+use Rattle.std.specs.Prelude.{length, get_or, replicate}
+use Rattle.std.proofs.Common.{sym, ap, ap₂, ◌∙◌, subst, add-zero, zero-add, suc-add, zero-mul, mul-one, mul_assoc}
+use Rattle.std.proofs.Common.{add-mul, div-one, div-lt_iff_lt-mul, mod-lt, mod-eq_of_lt, pow-suc, add-one, arith}
+use Rattle.std.proofs.Common.{length-append, get_or-append-add}
 use Rattle.std.proofs.Math.Decide.{dec_lt}
-use Rattle.std.proofs.Math.Nat.{div-eq_of_lt, div-eq-sub-div, div-div-eq-div-mul, add-mul-div_right, mod-one, mod-eq-sub-mod, mod-add-div', mul-add-mod_self_right, pow-zero, pow-succ', one-le-pow}
+use Rattle.std.proofs.Math.Nat.{div-eq_of_lt, div-eq-sub-div, div-div-eq-div-mul, add-mul-div_right, mod-one}
+use Rattle.std.proofs.Math.Nat.{mod-eq-sub-mod, mod-add-div', mul-add-mod_self_right, pow-zero, pow-succ', one-le-pow}
 use Rattle.std.proofs.Math.Arith.{digits_div, digits_mod, digits_lt, mod-mul}
 use Rattle.std.proofs.lemmas.List.{length-replicate}
 use Rattle.std.proofs.Math.ListN.{get_or-append}

@@ -1,6 +1,8 @@
 -- Parts of a list: the n elements from a on, and k parts of n elements each.
-use Rattle.std.specs.Prelude.{◌≡◌, refl, List, [], ◌∷◌, ◌++◌, ℕ, zero, suc, ◌+◌, ◌-◌, ◌*◌, ◌<◌, ◌≤◌, length, get_or, take, drop}
-use Rattle.std.proofs.Common.{ap, ◌∙◌, le_trans, mul-suc, mul-le-mul_left, arith, length-take, length-drop, length-take-le, take_all, take-take}
+use Rattle.std.specs.Prelude.{◌≡◌, refl, List, [], ◌∷◌, ◌++◌, ℕ, zero, suc, ◌+◌, ◌-◌, ◌*◌, ◌<◌, ◌≤◌, length, get_or}
+use Rattle.std.specs.Prelude.{take, drop}
+use Rattle.std.proofs.Common.{ap, ◌∙◌, le_trans, mul-suc, mul-le-mul_left, arith, length-take, length-drop}
+use Rattle.std.proofs.Common.{length-take-le, take_all, take-take}
 use Rattle.std.proofs.Math.ListN.{get_or-eq_default}
 use Rattle.std.proofs.lemmas.List.{take-append-le, drop-append-le}
 

@@ -3,7 +3,7 @@
 -- How a proof cites it, where the loop compares a with b and returns false at the first difference:
 --     the invariant    Walked (length a) (λ k. get_or a k 0 ≡ get_or b k 0) i
 --     before the loop  walked_start
---     a turn           walked_turn INVARIANT (omega arith) c.if1.left
+--     a turn           walked_turn INVARIANT (omega arith) TEST, as c.if-a-i.false
 --     after the loop   walked_equal 0 INVARIANT (omega arith) LENGTHS says a ≡ b; where the test is another,
 --                      walked-every
 --     inside it        refuted or every-false says that the test of the whole is false

@@ -3,7 +3,7 @@ use Rattle.std.specs.Prelude.{ℕ, ◌<◌, ◌≡◌, Bool, true, false, List, 
 use Rattle.std.proofs.Common.{ap}
 use Rattle.words.specs.Bits.{Bits}
 use Rattle.words.specs.TabLaws.{tab_cong}
-use Rattle.worksheet.specs.declared.Shares.{Shares}
+use Rattle.worksheet.specs.Shares.{Shares}
 use Rattle.worksheet.specs.Prog.{Prog}
 use Rattle.worksheet.specs.Couple.{Coupled, coupled_weaken}
 use Rattle.worksheet.specs.Turns.{Turns}

@@ -1,5 +1,6 @@
 -- The number of strips that give a value at an entry, by recursion on the program.
-use Rattle.std.specs.Prelude.{ℕ, zero, suc, ◌<◌, ◌≡◌, refl, Bool, true, false, List, [], ◌∷◌, ◌++◌, eqb, length, get_or, replicate}
+use Rattle.std.specs.Prelude.{ℕ, zero, suc, ◌<◌, ◌≡◌, refl, Bool, true, false, List, [], ◌∷◌, ◌++◌, eqb, length, get_or}
+use Rattle.std.specs.Prelude.{replicate}
 use Rattle.std.proofs.Common.{sym, ap, ◌∙◌, add-one, arith}
 use Rattle.std.proofs.lemmas.List.{replicate-append-replicate}
 use Rattle.worksheet.specs.Prog.{Mask, word, coeff, bound, Prog, ret, draw, enter, ◌>>=◌, mask, loop, snoc, times}

@@ -1,7 +1,7 @@
 -- Complement, exclusive or and Or of sharings, at any width w (document 01, The gadgets).
 use Rattle.std.specs.Prelude.{ℕ}
 use Rattle.words.specs.Word.{xor, complement}
-use Rattle.worksheet.specs.declared.Shares.{Shares}
+use Rattle.worksheet.specs.Shares.{Shares}
 use Rattle.worksheet.specs.Prog.{Prog, ret, ◌>>=◌, entry}
 use Rattle.worksheet.specs.Sharing.{shares}
 use Rattle.worksheet.specs.MaskedAnd.{masked_and}

@@ -1,6 +1,6 @@
 -- The gates: how many entries they make and how many masks they draw. What they join to is said in GatesSharing.
 use Rattle.std.specs.Prelude.{ℕ}
-use Rattle.worksheet.specs.declared.Shares.{Shares}
+use Rattle.worksheet.specs.Shares.{Shares}
 use Rattle.worksheet.specs.Prog.{◌>>=◌, entry}
 use Rattle.worksheet.specs.Uses.{Uses, ret_u, enter_u, uses_bind}
 use Rattle.worksheet.specs.MaskedAndLaws.{uses-masked_and}

@@ -3,7 +3,7 @@ use Rattle.std.specs.Prelude.{ℕ}
 use Rattle.words.specs.Word.{xor, and, complement}
 use Rattle.words.specs.Bits.{or}
 use Rattle.words.specs.WordLaws.{low_bits}
-use Rattle.worksheet.specs.declared.Shares.{Shares}
+use Rattle.worksheet.specs.Shares.{Shares}
 use Rattle.worksheet.specs.Prog.{◌>>=◌, mask, mask_low, entry}
 use Rattle.worksheet.specs.Gives.{Gives, ret_g, draw_g, enter_g, gives_bind}
 use Rattle.worksheet.specs.SharingLaws.{Sharing, sharing-xor_shares, sharing-not_shares}

@@ -5,7 +5,7 @@ use Rattle.std.proofs.Common.{ap, arith}
 use Rattle.words.specs.Word.{xor, and, complement}
 use Rattle.words.specs.Bits.{Bits, or}
 use Rattle.words.specs.WordLaws.{xor-bits, and-bits, zero_bits}
-use Rattle.worksheet.specs.declared.Shares.{Shares}
+use Rattle.worksheet.specs.Shares.{Shares}
 use Rattle.worksheet.specs.Prog.{Prog, ◌>>=◌, entry}
 use Rattle.worksheet.specs.Couple.{Coupled, ret_c, enter_c, Like, SameAt, here, there, coupled_bind, same_at_left}
 use Rattle.worksheet.specs.Couple.{same_at_right}
@@ -84,7 +84,8 @@ module _ {n X Y X' Y' : ℕ} {u v u' v' : Shares} (h : n ≤ 64)
   same_at_masked_and_bind : {m : ℕ} {t t' : Shares → Prog Shares} → ((z z' : Shares) → Like m (t z) (t' z'))
       → ((i : ℕ) → i < m → Settled n (and X Y) (and X' Y') i t t')
       → (i : ℕ) → i < and_entries + m → share (reads_left i) u ≡ share (reads_left i) u'
-      → share (reads_right i) v ≡ share (reads_right i) v' → SameAt i (masked_and n u v >>= t) (masked_and n u' v' >>= t')
+      → share (reads_right i) v ≡ share (reads_right i) v'
+      → SameAt i (masked_and n u v >>= t) (masked_and n u' v' >>= t')
   same_at_masked_and_bind {m} {t} {t'} l e =
       cut
       (λ i. share (reads_left i) u ≡ share (reads_left i) u' → share (reads_right i) v ≡ share (reads_right i) v'

@@ -22,6 +22,7 @@ pub mod CoupleLoops
 pub mod Stage
 pub mod Matching
 pub mod Straight
+pub mod Shares
 pub mod Sharing
 pub mod BitShares
 pub mod SharingLaws

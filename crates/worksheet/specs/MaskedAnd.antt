@@ -1,7 +1,7 @@
 -- And of two sharings, at any width (document 01, The gadgets: And).
 use Rattle.std.specs.Prelude.{ℕ}
 use Rattle.words.specs.Word.{xor, and}
-use Rattle.worksheet.specs.declared.Shares.{Shares}
+use Rattle.worksheet.specs.Shares.{Shares}
 use Rattle.worksheet.specs.Prog.{Prog, ret, ◌>>=◌, mask_low, entry}
 use Rattle.worksheet.specs.Sharing.{shares}
 

@@ -2,7 +2,7 @@
 use Rattle.std.specs.Prelude.{ℕ, ◌≡◌, [], ◌∷◌}
 use Rattle.words.specs.Word.{xor, and}
 use Rattle.words.specs.Formula.{boole, at, ◌⊕◌, ◌⊗◌}
-use Rattle.worksheet.specs.declared.Shares.{Shares}
+use Rattle.worksheet.specs.Shares.{Shares}
 use Rattle.worksheet.specs.Prog.{◌>>=◌, mask, mask_low, entry}
 use Rattle.worksheet.specs.Uses.{Uses, ret_u, word_u, enter_u}
 use Rattle.worksheet.specs.MaskedAnd.{masked_and}
@@ -10,7 +10,8 @@ use Rattle.worksheet.specs.EntryCounts.{and_entries}
 
 pub uses-masked_and : (w : ℕ) (u v : Shares) → Uses and_entries 1 0 (masked_and w u v)
 unfolding masked_and mask_low mask entry ◌>>=◌
-uses-masked_and w u v = word_u (λ x. enter_u (enter_u (enter_u (enter_u (enter_u (enter_u (enter_u (enter_u ret_u))))))))
+uses-masked_and w u v =
+    word_u (λ x. enter_u (enter_u (enter_u (enter_u (enter_u (enter_u (enter_u (enter_u ret_u))))))))
 
 -- whatever the mask r is
 pub joined_and : (u₀ u₁ v₀ v₁ r : ℕ)

@@ -7,7 +7,7 @@ use Rattle.words.specs.Word.{xor, and}
 use Rattle.words.specs.Bits.{Bits}
 use Rattle.words.specs.WordLaws.{xor-bits, and-bits, zero_bits}
 use Rattle.words.specs.Formula.{boole, at, ◌⊕◌}
-use Rattle.worksheet.specs.declared.Shares.{Shares}
+use Rattle.worksheet.specs.Shares.{Shares}
 use Rattle.worksheet.specs.Prog.{◌>>=◌, mask, mask_low, entry}
 use Rattle.worksheet.specs.Couple.{Coupled, ret_c, draw_c, Like, SameAt}
 use Rattle.worksheet.specs.Matching.{identity, coupled-mask_low, same_at_mask_low}
@@ -31,7 +31,8 @@ result r u v = shares (get_or (entries r u v) 3 0) (get_or (entries r u v) 7 0)
 
 pub like-masked_and : (w : ℕ) (u v u' v' : Shares) → Like and_entries (masked_and w u v) (masked_and w u' v')
 unfolding masked_and mask_low mask entry ◌>>=◌ identity
-like-masked_and w u v u' v' = draw_c identity (λ x h. coupled-enter_all (entries _ u v) (entries _ u' v') refl (ret_c tt))
+like-masked_and w u v u' v' =
+    draw_c identity (λ x h. coupled-enter_all (entries _ u v) (entries _ u' v') refl (ret_c tt))
 
 pub sharing-result : {n X Y r : ℕ} {u v : Shares} → Sharing n X u → Sharing n Y v → Bits n r
     → Sharing n (and X Y) (result r u v)

@@ -1,7 +1,7 @@
 -- A sum over all lists in range stays the same where the element at each place is moved by a permutation of the range:
 -- each place's own sum does.
-use Rattle.std.specs.Prelude.{ℕ, zero, suc, ◌≡◌, refl, List, [], ◌∷◌, length, get_or, replicate}
-use Rattle.std.proofs.Common.{sym, ap, ◌∙◌, arith}
+use Rattle.std.specs.Prelude.{ℕ, zero, suc, ◌≡◌, refl, List, ◌∷◌, get_or, replicate}
+use Rattle.std.proofs.Common.{ap, ◌∙◌}
 use Rattle.words.specs.Tab.{tab}
 use Rattle.words.specs.TabLaws.{tab_cons}
 use Rattle.worksheet.specs.SumLaws.{Perm, sum_cong, sum-perm}

@@ -63,7 +63,8 @@ pub enters : {v : ℕ} {r : Recorder} {ws cs : List ℕ} → Ran (entry v) r ws 
 unfolding run note_all entry
 enters = record { value = refl; seen = refl; words = refl; coeffs = refl }
 
-pub draws_word : {r : Recorder} {ws cs : List ℕ} {x : ℕ} → get_or ws 0 0 ≡ x → Ran (mask word) r ws cs x r (drop 1 ws) cs
+pub draws_word : {r : Recorder} {ws cs : List ℕ} {x : ℕ} → get_or ws 0 0 ≡ x
+    → Ran (mask word) r ws cs x r (drop 1 ws) cs
 unfolding run note_all mask
 draws_word e = record { value = e; seen = refl; words = refl; coeffs = refl }
 
@@ -91,7 +92,8 @@ next_low n ws i {cs} m = rw (drop-drop 1 i ws) at (m (drop i ws) cs (ap (low n) 
 
 -- of a mask that has n bits as it stands
 pub next_bits : {A : Type 0} (n : ℕ) {p : Prog A} {r r' : Recorder} {a : A} (ws : List ℕ) (i : ℕ) {cs : List ℕ}
-    → Bits n (get_or ws i 0) → MakesWithLow n p (get_or ws i 0) r a r' → Ran p r (drop i ws) cs a r' (drop (i + 1) ws) cs
+    → Bits n (get_or ws i 0) → MakesWithLow n p (get_or ws i 0) r a r'
+    → Ran p r (drop i ws) cs a r' (drop (i + 1) ws) cs
 next_bits n ws i b m = next_low n ws i (rw (low_of_bits b) m)
 
 pub next_coeff : {A : Type 0} {p : Prog A} {r r' : Recorder} {a : A} (cs : List ℕ) (i : ℕ) {ws : List ℕ}

@@ -32,7 +32,8 @@ module _ {S : Type 0} (f : ℕ → S → Prog S) (s : S) (r : Recorder) (ws cs :
       let q = run (f n (state_after n)) o.words o.coeffs in
       let h : Ran (chain (n + 1) f s) r ws cs (tab (suc n) state_after ++ q.value ∷ [])
       (note_all (note_all r o.entries) q.entries) q.words q.coeffs =
-      chain_turn f s n (chain-loop n) (get_or-tab (suc n) state_after n s (omega arith)) (as_run (f n (state_after n))) in
+      chain_turn f s n (chain-loop n) (get_or-tab (suc n) state_after n s (omega arith))
+      (as_run (f n (state_after n))) in
       subst
       (λ (u : Run S). Ran (chain (suc n) f s) r ws cs (tab (suc n) state_after ++ u.value ∷ []) (note_all r u.entries)
       u.words u.coeffs)

@@ -1,12 +1,12 @@
 -- Two shares of a list of numbers: of a state's lanes, a string's bytes or a polynomial's coefficients.
 use Rattle.std.specs.Prelude.{List, ℕ, length, get_or}
 use Rattle.words.specs.Tab.{tab}
-use Rattle.worksheet.specs.declared.Shares.{Shares}
+use Rattle.worksheet.specs.declared.Shared.{Shared}
+use Rattle.worksheet.specs.Shares.{Shares}
 use Rattle.worksheet.specs.Sharing.{shares, joined}
 
-pub record SharedList : Type 0 where
-  pub s0 : List ℕ
-  pub s1 : List ℕ
+abbrev pub SharedList : Type 0
+SharedList = Shared (List ℕ)
 
 abbrev pub shared_list : List ℕ → List ℕ → SharedList
 shared_list a b = record { s0 = a; s1 = b }

@@ -1,7 +1,7 @@
 -- Words in two shares.
 use Rattle.std.specs.Prelude.{ℕ}
 use Rattle.words.specs.Word.{xor}
-use Rattle.worksheet.specs.declared.Shares.{Shares}
+use Rattle.worksheet.specs.Shares.{Shares}
 
 abbrev pub shares : ℕ → ℕ → Shares
 shares a b = record { s0 = a; s1 = b }

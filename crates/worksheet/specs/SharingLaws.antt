@@ -6,7 +6,7 @@ use Rattle.words.specs.Bits.{Bits}
 use Rattle.words.specs.WordLaws.{xor-bits, complement-bits, zero_bits, xor_same, xor_zero, xor_cancel, xor_right_comm}
 use Rattle.words.specs.WordLaws.{xor_swap, complement-xor}
 use Rattle.words.specs.Formula.{boole, at, ◌⊕◌}
-use Rattle.worksheet.specs.declared.Shares.{Shares}
+use Rattle.worksheet.specs.Shares.{Shares}
 use Rattle.worksheet.specs.Sharing.{joined, none, shares}
 
 -- share 0 at false, share 1 at true
@@ -77,7 +77,8 @@ keep_same true X = xor_same X
 abbrev pub xor_shares : Shares → Shares → Shares
 xor_shares a b = shares (xor a.s0 b.s0) (xor a.s1 b.s1)
 
-pub sharing-xor_shares : {n X Y : ℕ} {a b : Shares} → Sharing n X a → Sharing n Y b → Sharing n (xor X Y) (xor_shares a b)
+pub sharing-xor_shares : {n X Y : ℕ} {a b : Shares} → Sharing n X a → Sharing n Y b
+    → Sharing n (xor X Y) (xor_shares a b)
 sharing-xor_shares {a = a} {b = b} s t =
     record {
       bits0 = xor-bits s.bits0 t.bits0;

@@ -49,7 +49,8 @@ unfolding loop
 loop-stage {m = m} zero h =
     rw (zero-mul m)
     (record { like = λ a b. ret_c tt; entry = λ i lt. absurd (omega arith); fresh = λ d. (d, λ a b r. ret_c r) })
-loop-stage {m = m} (suc n) h = rw (suc-mul n m) (and_then (loop-stage n (λ j lt. h j (omega arith))) (h n (omega arith)))
+loop-stage {m = m} (suc n) h =
+    rw (suc-mul n m) (and_then (loop-stage n (λ j lt. h j (omega arith))) (h n (omega arith)))
 
 -- a choice for what is worked on and one for what is kept beside it
 pub record Beside {A B E G H K : Type 0} (R : E → A → B → Type 0) (Q : K → G → H → Type 0)

@@ -18,9 +18,11 @@ module _ {A B : Type 0} {n : ℕ} {p : Prog A} {p' : Prog B} where
   coupled-enter_all (v ∷ vs) (v' ∷ vs') e c =
       rw (suc-add (length vs) n) (enter_c (coupled-enter_all vs vs' (omega arith) c))
 
-  pub same_at_enter_all : (vs vs' : List ℕ) (i : ℕ) → length vs' ≡ length vs → i < length vs → get_or vs i 0 ≡ get_or vs' i 0
+  pub same_at_enter_all : (vs vs' : List ℕ) (i : ℕ) → length vs' ≡ length vs → i < length vs
+      → get_or vs i 0 ≡ get_or vs' i 0
       → Like n p p' → SameAt i (enter_all vs p) (enter_all vs' p')
   same_at_enter_all [] vs' i e h q c = absurd (omega arith)
   same_at_enter_all (v ∷ vs) [] i e h q c = absurd (omega arith)
   same_at_enter_all (v ∷ vs) (v' ∷ vs') zero e h q c = here q (coupled-enter_all vs vs' (omega arith) c)
-  same_at_enter_all (v ∷ vs) (v' ∷ vs') (suc i) e h q c = there (same_at_enter_all vs vs' i (omega arith) (omega arith) q c)
+  same_at_enter_all (v ∷ vs) (v' ∷ vs') (suc i) e h q c =
+      there (same_at_enter_all vs vs' i (omega arith) (omega arith) q c)

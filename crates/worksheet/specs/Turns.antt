@@ -55,7 +55,8 @@ turns_snoc {A} {B} {R} {n} {ys} {ys'} {y} {y'} r q =
       at = λ d d' j h. go d d' j h (dec_lt j n);
     }
   where
-    go : (d : A) (d' : B) (j : ℕ) → j < suc n → Dec (j < n) → R j (get_or (ys ++ y ∷ []) j d) (get_or (ys' ++ y' ∷ []) j d')
+    go : (d : A) (d' : B) (j : ℕ) → j < suc n → Dec (j < n)
+        → R j (get_or (ys ++ y ∷ []) j d) (get_or (ys' ++ y' ∷ []) j d')
     go d d' j h (yes p) =
         rw (get_or-append ys (y ∷ []) d j (omega arith), get_or-append ys' (y' ∷ []) d' j (omega arith))
         (r.at d d' j p)

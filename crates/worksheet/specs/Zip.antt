@@ -1,7 +1,7 @@
 -- Two lists as n sharings.
 use Rattle.std.specs.Prelude.{List, ℕ}
 use Rattle.words.specs.Tab.{tab}
-use Rattle.worksheet.specs.declared.Shares.{Shares}
+use Rattle.worksheet.specs.Shares.{Shares}
 use Rattle.worksheet.specs.SharedList.{SharedList, shared_at}
 
 unfoldable pub zip : ℕ → SharedList → List Shares

@@ -18,24 +18,29 @@ pub struct Recorder {
     pub value: u64,
 }
 
+// A value, and the recorder behind it.
 #[derive(Clone, Copy)]
-pub struct Entered {
-    pub value: u64,
+pub struct Entered<T> {
+    pub value: T,
     pub rec: Recorder,
 }
+
+// Two shares of what stands for a T.
+#[derive(Clone, Copy)]
+pub struct Shared<T> {
+    pub s0: T,
+    pub s1: T,
+}
+
+pub type Shares = Shared<u64>;
 
 pub fn note(rec: Recorder, v: u64) -> Recorder
     ensures { result ≡ Recording.note rec v }
 {
-    if rec.left == 0 {
-        return rec;
-    }
-    if rec.left == 1 {
-        return Recorder { left: 0, value: v };
-    }
-    Recorder {
-        left: rec.left - 1,
-        value: rec.value,
+    match rec.left {
+        0 => rec,
+        1 => Recorder { left: 0, value: v },
+        n => Recorder { left: n - 1, ..rec },
     }
 }
 
@@ -46,7 +51,7 @@ pub fn enter(rec: Recorder, v: u64) -> Recorder
     note(rec, v)
 }
 
-pub fn enter_xor(rec: Recorder, x: u64, y: u64) -> Entered
+pub fn enter_xor(rec: Recorder, x: u64, y: u64) -> Entered<u64>
     ensures { Makes (entry (xor x y)) rec result.value result.rec }
 {
     let v = x ^ y;
@@ -56,7 +61,7 @@ pub fn enter_xor(rec: Recorder, x: u64, y: u64) -> Entered
     }
 }
 
-pub fn enter_and(rec: Recorder, x: u64, y: u64) -> Entered
+pub fn enter_and(rec: Recorder, x: u64, y: u64) -> Entered<u64>
     ensures { Makes (entry (and x y)) rec result.value result.rec }
 {
     let v = x & y;
@@ -67,20 +72,8 @@ pub fn enter_and(rec: Recorder, x: u64, y: u64) -> Entered
 }
 
 // The complement of x at the width of `ones`, whose bits are all 1.
-pub fn enter_complement(rec: Recorder, x: u64, ones: u64) -> Entered
+pub fn enter_complement(rec: Recorder, x: u64, ones: u64) -> Entered<u64>
     ensures { (w : ℕ) → ones ≡ ones_of w → Makes (entry (complement w x)) rec result.value result.rec }
 {
     enter_xor(rec, x, ones)
-}
-
-#[derive(Clone, Copy)]
-pub struct Shares {
-    pub s0: u64,
-    pub s1: u64,
-}
-
-#[derive(Clone, Copy)]
-pub struct EnteredShares {
-    pub value: Shares,
-    pub rec: Recorder,
 }

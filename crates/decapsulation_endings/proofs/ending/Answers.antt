@@ -6,7 +6,7 @@ use lib.ListN.{drop}
 use Rattle.parameters.specs.declared.Edition.{Edition}
 use Rattle.parameters.specs.declared.Parameters.{Parameters}
 use Rattle.worksheet.specs.declared.Recorder.{Recorder}
-use Rattle.worksheet.specs.declared.Shares.{Shares}
+use Rattle.worksheet.specs.Shares.{Shares}
 use Rattle.worksheet.specs.Ran.{Ran}
 use Rattle.worksheet.specs.SharedList.{SharedList}
 use Rattle.stages.specs.Counts.{ending_words}

@@ -1,22 +1,19 @@
 -- The loop is the definition's own iteration of round, and what it reads in the table is each round's constant.
-use Prim.Native.Nat.{◌-◌}
 use native.Mathlib.Omega.{arith}
 use Rattle.words.specs.IterateLaws.{reached_start, reached_turn, reached_end}
 use Rattle.keccak_constants.specs.RoundConstantLaws.{entry_constant}
 use Rattle.keccak.specs.KeccakP.{keccak_p}
 use Rattle.keccak.proofs.permute.Goals as goal
 
-pub round-t-requires : goal.round-t-requires
-round-t-requires c = let a = c.loop-i in entry_constant a.invariant.table a.i (omega arith)
+pub loop-k-init : goal.loop-k-init
+loop-k-init c = reached_start
 
-pub loop-i-preserved : goal.loop-i-preserved
-loop-i-preserved c =
-    let a = c.loop-i.invariant in
-    record { table = a.table; lanes = reached_turn a.lanes (omega arith) c.round-t.ensures }
+pub loop-k-preserved : goal.loop-k-preserved
+loop-k-preserved c =
+    let i = c.loop-k.k-index in
+    let h = c.loop-k-test.true in
+    reached_turn c.loop-k.invariant h (c.round-t.ensures i (entry_constant c.round_constants-k-items.ensures i h))
 
 pub returns : goal.returns
 unfolding keccak_p
-returns c = reached_end c.loop-i.invariant.lanes (omega arith)
-
-pub loop-i-init : goal.loop-i-init
-loop-i-init c = record { table = c.round_constants-constants.ensures; lanes = reached_start }
+returns c = reached_end c.loop-k.invariant (omega arith)

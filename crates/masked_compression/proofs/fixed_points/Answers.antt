@@ -18,11 +18,11 @@ pub loop-i-preserved : goal.loop-i-preserved
 loop-i-preserved c =
     let l = c.loop-i in
     let i = l.i in
-    let h : i < length l.v = omega arith in (
+    let h : i < length l.n-items = omega arith in (
       omega arith,
       simp length-set (omega arith),
       λ ws cs.
-          rw (add-one i, take-suc-set l.v i _ h)
+          rw (add-one i, take-suc-set l.n-items i _ h)
           (rw (add-one i) at (times_turn _ i (l.invariant.2 ws cs) (c.enter_fixed_point-e.ensures ws cs))),
     )
 
@@ -30,7 +30,7 @@ pub returns : goal.returns
 returns c ws cs =
     let l = c.loop-i in
     let e : l.i ≡ 64 = omega arith in
-    rw (e, take_all 64 l.v (omega arith)) at (l.invariant.2 ws cs)
+    rw (e, take_all 64 l.n-items (omega arith)) at (l.invariant.2 ws cs)
 
 pub loop-i-init : goal.loop-i-init
 loop-i-init c = (omega arith, refl, λ ws cs. times_start _)

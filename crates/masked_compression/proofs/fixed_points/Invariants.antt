@@ -10,7 +10,7 @@ use Rattle.masked_compression.proofs.fixed_points.Given as goal
 
 -- i coefficients entered
 abbrev pub invariant-loop-i : goal.invariant-loop-i
-invariant-loop-i l = (l.i ≤ 64) × (length l.v ≡ 64)
+invariant-loop-i l = (l.i ≤ 64) × (length l.n-items ≡ 64)
     × ((ws cs : List ℕ)
     → Ran (times l.i (λ k. entry (fixed_point l.d l.h (get_or l.x k 0)))) l.initial.rec ws cs
-    (take l.i l.v) l.rec ws cs)
+    (take l.i l.n-items) l.rec ws cs)

@@ -22,7 +22,9 @@ pub record Rounds (constants ws : List ℕ) (s : SharedList) (r : Recorder) (i :
 
 abbrev pub invariant-loop-i : goal.invariant-loop-i
 invariant-loop-i l =
-    Rounds l.constants l.ws (shared_state l.initial.s l.initial.t) l.initial.rec l.i (shared_state l.s l.t) l.rec
+    let a = l.initial.o in
+    Rounds l.constants l.ws (shared_state a.value.s0 a.value.s1) a.rec l.i
+    (shared_state l.o.value.s0 l.o.value.s1) l.o.rec
 
 abbrev pub decreases-loop-i : goal.decreases-loop-i
 decreases-loop-i l = 24 - l.i

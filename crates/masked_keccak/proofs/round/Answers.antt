@@ -14,8 +14,8 @@ returns c cs =
     let args = c.args in
     let pre = c.requires in
     let k = entry_constant pre.table args.i pre.inside in
-    let z = c.chi-o.result in
-    bind _ (pass-makes args.a.lanes c.pass-p.ensures c.enter_lanes-rec0.ensures _ _)
-    (bind _ (pass-makes args.b.lanes c.pass-q.ensures c.enter_lanes-rec1.ensures _ _)
+    let z = c.chi-o.result.value in
+    bind _ (pass-makes args.s.s0.lanes c.pass-p0.ensures c.enter_lanes-rec0.ensures _ _)
+    (bind _ (pass-makes args.s.s1.lanes c.pass-p1.ensures c.enter_lanes-rec1.ensures _ _)
     (bind _ (c.chi-o.ensures cs)
     (iota-ran args.i z.s0.lanes z.s1.lanes (search rules) (search rules) k c.enter_xor-e.ensures)))

@@ -4,8 +4,7 @@ use mathlib.Core.Bool.{Bool, not}
 use mathlib.Core.List.{List, [], ◌∷◌}
 use Prim.Native.Nat.{ℕ}
 use lib.ListN.{length}
-use native.Mathlib.Omega.{arith}
-use Rattle.refusals.specs.declared.Answer.TheVariants.{WrongLength}
+use Rattle.refusals.specs.declared.Refusal.TheVariants.{WrongLength}
 use Rattle.refusals.specs.Same.{same}
 use Rattle.refusals.specs.RefusalLaws.{LengthsTested, lengths_tested, row1_refused, row1_exact}
 use Rattle.parameters.specs.declared.Parameters.{Parameters}
@@ -25,7 +24,7 @@ unfolding encaps_answer
 returns-then-not-exact c =
     let s = c.args in
     let r = row1 s.p s.ek.now s.m.now s.ct.now s.k.now c.exact.ensures c.ek_bytes.ensures c.ct_bytes.ensures in
-    encaps_refused s.e s.p WrongLength (omega arith) _ _ _ _
+    encaps_refused s.e s.p WrongLength _ _ _ _
     (row1_refused r _ (ap not c.if-not-exact.true))
 
 pub encaps_sized-requires : goal.encaps_sized-requires

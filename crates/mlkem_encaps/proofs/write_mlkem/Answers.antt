@@ -19,4 +19,4 @@ returns c =
     let digest = c.hash_g.new.out in
     let coins = take_all 32 (drop 32 digest) (omega (arith, length-drop 32 digest)) ∙ ap (drop 32) e in
     let by-coins = ap (encrypt s.p s.ek.now s.m.now) coins in
-    record { ct = c.encrypt.ensures ∙ by-coins; k = c.copy_bytes.ensures ∙ ap (take 32) e }
+    record { ct = c.encrypt.ensures ∙ by-coins; k = c.copy_from_slice.ensures.after ∙ ap (take 32) e }

@@ -4,8 +4,7 @@ use mathlib.Core.Bool.{Bool, not}
 use mathlib.Core.List.{List, [], ◌∷◌}
 use Prim.Native.Nat.{ℕ}
 use lib.ListN.{length}
-use native.Mathlib.Omega.{arith}
-use Rattle.refusals.specs.declared.Answer.TheVariants.{WrongLength}
+use Rattle.refusals.specs.declared.Refusal.TheVariants.{WrongLength}
 use Rattle.refusals.specs.Same.{same}
 use Rattle.refusals.specs.RefusalLaws.{LengthsTested, lengths_tested, row1_refused, row1_exact}
 use Rattle.parameters.specs.declared.Parameters.{Parameters}
@@ -25,7 +24,7 @@ unfolding key_gen_answer
 returns-then-not-exact c =
     let s = c.args in
     let r = row1 s.p s.d.now s.z.now s.ek.now s.dk.now c.exact.ensures c.ek_bytes.ensures c.dk_bytes.ensures in
-    keygen_refused s.e s.p WrongLength (omega arith) _ _ _ _
+    keygen_refused s.e s.p WrongLength _ _ _ _
     (row1_refused r _ (ap not c.if-not-exact.true))
 
 pub keygen_sized-requires : goal.keygen_sized-requires

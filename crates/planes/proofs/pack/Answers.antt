@@ -1,5 +1,5 @@
 -- Turn i fills row i with the definition's word, in which And with 32 ones is the remainder by 2^32.
-use Prim.Native.Nat.{ℕ, ◌-◌, ◌*◌, ◌%◌, ◌^◌, ◌+◌}
+use Prim.Native.Nat.{ℕ, ◌*◌, ◌%◌, ◌^◌, ◌+◌}
 use mathlib.Core.Path.{ap}
 use native.Mathlib.Omega.{arith}
 use lib.Bits.{bit_xor, and_mask}

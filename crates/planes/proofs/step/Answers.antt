@@ -1,5 +1,5 @@
 -- A turn fills two rows of o, the even one with the lower word of an exchange and the odd one with the upper.
-use Prim.Native.Nat.{ℕ, ◌-◌, ◌*◌, ◌+◌}
+use Prim.Native.Nat.{ℕ, ◌*◌, ◌+◌}
 use mathlib.Core.Path.{◌≡◌, sym, ◌∙◌}
 use native.Mathlib.Omega.{arith}
 use lib.ListN.{get_or, length-set}
@@ -14,8 +14,8 @@ loop-i-preserved c =
     let i = l.i in
     let a = c.args in
     let w : ℕ → ℕ = λ k. get_or a.w.now k 0 in
-    let low = c.exchange-r.ensures.0 ∙ sym (stepped_even a.s a.m w i) in
-    let high = c.exchange-r.ensures.1 ∙ sym (stepped_odd a.s a.m w i) in
+    let low = c.exchange-low.ensures.0 ∙ sym (stepped_even a.s a.m w i) in
+    let high = c.exchange-low.ensures.1 ∙ sym (stepped_odd a.s a.m w i) in
     let e : 2 * i + 1 + 1 ≡ 2 * (i + 1) = omega arith in
     (omega arith, rw e at (filled_turn (filled_turn l.invariant.1 (omega arith) low) (omega arith) high))
 
@@ -23,7 +23,7 @@ loop-i-preserved c =
 pub bounds-o-i-in-loop-i : goal.bounds-o-i-in-loop-i
 bounds-o-i-in-loop-i c =
     let l = c.loop-i in
-    omega (arith, length-set l.o (2 * l.i) c.exchange-r.result.low, l.invariant.1.long)
+    omega (arith, length-set l.o (2 * l.i) c.exchange-low.result.0, l.invariant.1.long)
 
 pub loop-i-init : goal.loop-i-init
 loop-i-init c = (omega arith, filled_start (omega arith))

@@ -1,19 +1,7 @@
--- As long as no place differs the lengths agree up to it, and where all places agree the lists are equal.
-use mathlib.Core.Path.{refl}
-use Prim.Native.Nat.{◌-◌}
-use borrow.Author.Rules.{rules}
-use Rattle.words.specs.Walk.{walked_start, walked_turn}
-use Rattle.refusals.specs.SameLaws.{same_differ, same-walked}
+-- The comparison of slices goes place by place, as the definition does.
+use Rattle.std.proofs.Common.{◌∙◌, sym}
+use Rattle.refusals.specs.SameLaws.{same-pointwise}
 use Rattle.refusals.proofs.exact.Goals as goal
 
-pub loop-i-init : goal.loop-i-init
-loop-i-init c = (refl, walked_start)
-
-pub returns-then-has-i : goal.returns-then-has-i
-returns-then-has-i c = same_differ _ _ c.loop-i.i c.if-has-i.true
-
-pub loop-i-preserved : goal.loop-i-preserved
-loop-i-preserved c = (refl, search (rules, walked_turn))
-
 pub returns : goal.returns
-returns c = search (rules, same-walked)
+returns c = c.eq.ensures ∙ sym (same-pointwise _ _)

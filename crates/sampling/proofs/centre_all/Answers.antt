@@ -4,14 +4,14 @@ use native.Mathlib.Omega.{arith}
 use Rattle.words.specs.Fill.{mapped_start, mapped-below, mapped_turn, mapped_end}
 use Rattle.sampling.proofs.centre_all.Goals as goal
 
-pub loop-i-init : goal.loop-i-init
-loop-i-init c = mapped_start
+pub loop-x-init : goal.loop-x-init
+loop-x-init c = mapped_start
 
 pub centred_at-requires : goal.centred_at-requires
 centred_at-requires c = search (rules, mapped-below)
 
-pub loop-i-preserved : goal.loop-i-preserved
-loop-i-preserved c = mapped_turn c.loop-i.invariant (omega arith) c.centred_at.ensures
+pub loop-x-preserved : goal.loop-x-preserved
+loop-x-preserved c = mapped_turn c.loop-x.invariant (omega arith) c.centred_at.ensures
 
 pub returns : goal.returns
-returns c = mapped_end c.loop-i.invariant (omega arith)
+returns c = mapped_end c.loop-x.invariant (omega arith)

@@ -4,5 +4,5 @@ use Rattle.sampling.specs.SampleLaws.{centred}
 use Rattle.sampling.proofs.centre_all.Given as goal
 
 -- i coefficients done
-abbrev pub invariant-loop-i : goal.invariant-loop-i
-invariant-loop-i l = Mapped (centred l.eta) 0 l.initial.f l.i l.f
+abbrev pub invariant-loop-x : goal.invariant-loop-x
+invariant-loop-x l = Mapped (centred l.eta) 0 l.initial.f l.x-index l.f

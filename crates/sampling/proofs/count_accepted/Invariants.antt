@@ -3,8 +3,10 @@ use mathlib.Core.Path.{◌≡◌}
 use Prim.Native.Nat.{◌≤◌, ◌*◌}
 use lib.ListN.{length}
 use Rattle.sampling.specs.Sample.{accepted}
+use Rattle.sampling.proofs.Groups.{Reading}
 use Rattle.sampling.proofs.count_accepted.Given as goal
 
--- i groups read, n numbers counted
-abbrev pub invariant-loop-i : goal.invariant-loop-i
-invariant-loop-i l = (l.i ≤ 280) × (l.n ≤ 2 * l.i) × (l.n ≡ length (accepted l.i l.stream))
+-- n numbers counted
+abbrev pub invariant-loop-b : goal.invariant-loop-b
+invariant-loop-b l =
+    Reading l.stream (λ i. (l.n ≤ 2 * i) × (l.n ≡ length (accepted i l.stream))) l.b-iterator.size l.b-iterator.rest.now

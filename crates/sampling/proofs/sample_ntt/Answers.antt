@@ -28,7 +28,4 @@ returns c =
     let s = c.args.stream.now in
     let enough : full s ≡ true =
     le-leb 256 (length (accepted 280 s)) (omega (arith, c.count_accepted.ensures)) in
-    record {
-      value = sym (ap answer_of enough);
-      f_after = fill.holds (fill.answer ∙ enough) ∙ sym (ap (stored s c.args.f.now) enough);
-    }
+    record { value = fill.answer; f_after = fill.holds enough ∙ sym (ap (stored s c.args.f.now) enough) }

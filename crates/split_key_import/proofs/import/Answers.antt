@@ -1,16 +1,16 @@
 -- A rank that isn't accepted is refused before anything else; else the call is that with the rank's set.
-use mathlib.Core.Path.{refl, ap}
-use mathlib.Core.Bool.{not}
-use Rattle.parameters.specs.ByRankLaws.{by_rank_refused, by_rank_called}
+use mathlib.Core.Path.{refl}
+use Rattle.parameters.specs.ByRankLaws.{fits-set, by_rank_ok, by_rank_err}
 use Rattle.split_key_import.proofs.import.Goals as goal
 
-pub returns-then-not-is_rank : goal.returns-then-not-is_rank
-returns-then-not-is_rank c = by_rank_refused _ c.is_rank.ensures (ap not c.if-not-is_rank.true) refl refl
+pub returns-in_err-try_from-clause-imported : goal.returns-in_err-try_from-clause-imported
+returns-in_err-try_from-clause-imported c =
+    by_rank_err _ c.try_from.ensures c.in_err-try_from.was c.from_residual.result c.from_residual.ensures.1
+    refl
 
 pub import_at-requires : goal.import_at-requires
-import_at-requires c = c.of_rank.ensures.fits
+import_at-requires c = fits-set c.args.rank c.try_from.ensures c.in_ok-try_from.was
 
-pub returns : goal.returns
-returns c =
-    by_rank_called _ c.is_rank.ensures (ap not c.if-not-is_rank.false) c.of_rank.ensures.value
-    c.import_at.ensures
+pub returns-clause-imported : goal.returns-clause-imported
+returns-clause-imported c =
+    by_rank_ok _ c.try_from.ensures c.in_ok-try_from.was c.import_at.ensures.imported

@@ -4,12 +4,13 @@ use mathlib.Core.Bool.{Bool, not}
 use mathlib.Core.List.{List, [], ◌∷◌}
 use Prim.Native.Nat.{ℕ, ◌+◌, ◌*◌}
 use native.Mathlib.Omega.{arith}
-use Rattle.refusals.specs.declared.Answer.TheVariants.{WrongLength}
+use Rattle.refusals.specs.declared.Refusal.TheVariants.{WrongLength}
 use Rattle.refusals.specs.RefusalLaws.{LengthsTested, lengths_tested, has, row1_refused, row1_exact}
 use Rattle.refusals.specs.Same.{same}
 use Rattle.parameters.specs.declared.Parameters.{Parameters}
 use Rattle.parameters.specs.Lengths.{ek_bytes, dk_bytes}
-use Rattle.split_key.specs.SplitKey.{SplitKey, split_key}
+use Rattle.split_key.specs.SplitKey.{SplitKey}
+use Rattle.split_key.specs.LentToWrite.{key_lent}
 use Rattle.split_key.specs.Import.{import_lengths, import_answer}
 use Rattle.split_key.specs.ImportAnswerLaws.{import_refused}
 use Rattle.split_key_import.proofs.import_at.Goals as goal
@@ -24,19 +25,19 @@ row1 p dk mask_coeffs mask_words key f g h =
     let n = 256 * p.k in
     lengths_tested _ h (ap₂ (λ (d e : ℕ). d ∷ n ∷ 4 ∷ n ∷ n ∷ 4 ∷ 4 ∷ (e + 32) ∷ []) f g)
 
-pub returns-then-not-exact : goal.returns-then-not-exact
+pub returns-then-not-exact-clause-imported : goal.returns-then-not-exact-clause-imported
 unfolding import_answer
-returns-then-not-exact c =
+returns-then-not-exact-clause-imported c =
     let s = c.args in
-    let key = split_key s.s0.now s.s1.now s.z0.now s.z1.now s.public.now in
+    let key = key_lent s.state.now in
     let sizes = row1 s.p s.dk.now s.mask_coeffs.now s.mask_words.now key in
     let tested = sizes c.dk_bytes.ensures c.ek_bytes-m.ensures c.exact.ensures in
-    import_refused s.p WrongLength (omega arith) _ _ _ _ _ (row1_refused tested _ (ap not c.if-not-exact.true))
+    import_refused s.p WrongLength _ _ _ _ _ (row1_refused tested _ (ap not c.if-not-exact.true))
 
 pub import_sized-requires : goal.import_sized-requires
 import_sized-requires c =
     let s = c.args in
-    let key = split_key s.s0.now s.s1.now s.z0.now s.z1.now s.public.now in
+    let key = key_lent s.state.now in
     let sizes = row1 s.p s.dk.now s.mask_coeffs.now s.mask_words.now key in
     let tested = sizes c.dk_bytes.ensures c.ek_bytes-m.ensures c.exact.ensures in
     let e = row1_exact tested (ap not c.if-not-exact.false) in
@@ -50,8 +51,8 @@ import_sized-requires c =
       },
     )
 
-pub returns : goal.returns
-returns c = c.import_sized.ensures
+pub returns-clause-imported : goal.returns-clause-imported
+returns-clause-imported c = c.import_sized.ensures.imported
 
 pub overflow_mul-n : goal.overflow_mul-n
 overflow_mul-n c = record { fits = omega (arith, c.requires.rank.most) }

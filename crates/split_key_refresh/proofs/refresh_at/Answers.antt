@@ -6,8 +6,8 @@ use mathlib.Core.List.{List, [], ◌∷◌}
 use Prim.Native.Nat.{ℕ, ◌*◌}
 use native.Mathlib.Omega.{arith}
 use Rattle.worksheet.specs.SharedList.{shared_list}
-use Rattle.refusals.specs.declared.Answer.TheVariants.{Done, WrongLength, MaskRange, ShareRange}
-use Rattle.refusals.specs.Refusals.{number}
+use Rattle.refusals.specs.declared.Refusal.TheVariants.{WrongLength, MaskRange, ShareRange}
+use Rattle.refusals.specs.Refusals.{Done, number}
 use Rattle.refusals.specs.RefusalLaws.{LengthsTested, lengths_tested, has, row1_refused, row1_exact}
 use Rattle.refusals.specs.Same.{same}
 use Rattle.parameters.specs.declared.Parameters.{Parameters}
@@ -28,25 +28,25 @@ module _ (p : Parameters) (mask_coeffs mask_words s0 s1 z0 z1 : List ℕ) {t : B
   long : not t ≡ false → RefreshSized (256 * p.k) mask_coeffs mask_words (shared_list s0 s1) (shared_list z0 z1)
   long h = exact_refresh p (row1_exact row1 h)
 
-pub returns-then-not-exact : goal.returns-then-not-exact
+pub returns-then-not-exact-clause-refreshed : goal.returns-then-not-exact-clause-refreshed
 unfolding refresh_answer
-returns-then-not-exact c =
+returns-then-not-exact-clause-refreshed c =
     let a = c.args in
-    refresh_refused a.p WrongLength a.count.now (omega arith)
+    refresh_refused a.p WrongLength a.count.now
     (row1_refused (row1 a.p _ _ _ _ _ _ c.exact.ensures) _ (ap not c.if-not-exact.true))
 
-pub returns-then-not-reduced : goal.returns-then-not-reduced
-returns-then-not-reduced c =
+pub returns-then-not-reduced-clause-refreshed : goal.returns-then-not-reduced-clause-refreshed
+returns-then-not-reduced-clause-refreshed c =
     let a = c.args in
     let row5 = refused MaskRange _ (sym c.reduced.ensures ∙ c.if-not-reduced.true) in
-    refresh_refused a.p MaskRange a.count.now (omega arith)
+    refresh_refused a.p MaskRange a.count.now
     (refresh_answer_lem a.p (long a.p _ _ _ _ _ _ c.exact.ensures (ap not c.if-not-exact.false)) row5)
 
-pub returns-then-not-both_reduced : goal.returns-then-not-both_reduced
-returns-then-not-both_reduced c =
+pub returns-then-not-are_reduced-clause-refreshed : goal.returns-then-not-are_reduced-clause-refreshed
+returns-then-not-are_reduced-clause-refreshed c =
     let a = c.args in
-    let row6 = refused ShareRange _ (sym c.both_reduced.ensures ∙ c.if-not-both_reduced.true) in
-    refresh_refused a.p ShareRange a.count.now (omega arith)
+    let row6 = refused ShareRange _ (sym c.are_reduced.ensures ∙ c.if-not-are_reduced.true) in
+    refresh_refused a.p ShareRange a.count.now
     (refresh_answer_lem a.p (long a.p _ _ _ _ _ _ c.exact.ensures (ap not c.if-not-exact.false))
     (passed MaskRange _ (sym c.reduced.ensures ∙ c.if-not-reduced.false) row6))
 
@@ -63,10 +63,10 @@ move_shares-requires c =
       z1 = l.z1;
     }
 
-pub returns : goal.returns
-returns c =
+pub returns-clause-refreshed : goal.returns-clause-refreshed
+returns-clause-refreshed c =
     let a = c.args in
-    let row6 = passed ShareRange _ (sym c.both_reduced.ensures ∙ c.if-not-both_reduced.false) no_row in
+    let row6 = passed ShareRange _ (sym c.are_reduced.ensures ∙ c.if-not-are_reduced.false) no_row in
     let rows = passed MaskRange _ (sym c.reduced.ensures ∙ c.if-not-reduced.false) row6 in
     let l = long a.p _ _ _ _ _ _ c.exact.ensures (ap not c.if-not-exact.false) in
     record {

@@ -3,7 +3,6 @@ use borrow.Author.Rules.{rules}
 use native.Mathlib.Omega.{arith}
 use Rattle.codec.specs.Bytes.{byte_decode}
 use Rattle.vectors.specs.Vector.{coefficients}
-use Rattle.words.specs.Part.{length_span}
 use Rattle.vectors.proofs.Concatenated.{concatenated_start, concatenated_read, concatenated_end}
 use Rattle.vectors.proofs.decode_all.Goals as goal
 
@@ -13,9 +12,6 @@ returns c = concatenated_end c.loop-i.invariant (omega arith)
 
 pub loop-i-init : goal.loop-i-init
 loop-i-init c = search (rules, concatenated_start)
-
-pub byte_decode-requires : goal.byte_decode-requires
-byte_decode-requires c = search (rules, length_span)
 
 pub loop-i-preserved : goal.loop-i-preserved
 loop-i-preserved c = search (rules, concatenated_read (byte_decode 12) 384 c.args.b.now)

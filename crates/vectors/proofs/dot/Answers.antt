@@ -1,6 +1,5 @@
 -- out starts as 0, and turn j adds the product of a's part start + step * j and b's part j, so that k turns add up
 -- dot's sum.
-use borrow.Author.Rules.{rules}
 use mathlib.Core.Path.{refl, ap₂, ◌∙◌}
 use Prim.Native.Nat.{◌+◌, ◌*◌}
 use native.Mathlib.Omega.{arith}
@@ -9,20 +8,12 @@ use Rattle.words.specs.IterateLaws.{reached_start, reached_turn, reached_end}
 use Rattle.ring.specs.Polynomial.{add}
 use Rattle.transform.specs.Transform.{multiply_ntts}
 use Rattle.vectors.specs.Vector.{dot}
-use Rattle.words.specs.Part.{part_span, length_span}
+use Rattle.words.specs.Part.{part_span}
 use Rattle.vectors.proofs.dot.Goals as goal
 
 pub loop-j-init : goal.loop-j-init
 loop-j-init c =
     (omega arith, rw (c.clear.ensures ∙ ap₂ replicate c.requires.polynomial refl) reached_start)
-
-pub multiply_add-requires : goal.multiply_add-requires
-multiply_add-requires c =
-    record {
-      sum = omega arith;
-      left = length_span _ 256 _ (c.requires.left c.loop-j.j (omega arith));
-      right = search (rules, length_span);
-    }
 
 pub loop-j-preserved : goal.loop-j-preserved
 loop-j-preserved c =
@@ -35,21 +26,3 @@ loop-j-preserved c =
 pub returns : goal.returns
 unfolding dot
 returns c = reached_end c.loop-j.invariant.1 (omega arith)
-
-pub overflow_mul-x : goal.overflow_mul-x
-overflow_mul-x c = omega (arith, c.requires.left c.loop-j.j (omega arith))
-
-pub overflow_add-x : goal.overflow_add-x
-overflow_add-x c = omega (arith, c.requires.left c.loop-j.j (omega arith))
-
-pub overflow_mul-x-in-loop-j : goal.overflow_mul-x-in-loop-j
-overflow_mul-x-in-loop-j c = omega (arith, c.requires.left c.loop-j.j (omega arith))
-
-pub overflow_add-xe : goal.overflow_add-xe
-overflow_add-xe c = omega (arith, c.requires.left c.loop-j.j (omega arith))
-
-pub offset_bounds-a-x : goal.offset_bounds-a-x
-offset_bounds-a-x c = omega (arith, c.requires.left c.loop-j.j (omega arith))
-
-pub slice_bounds-multiply_add-end : goal.slice_bounds-multiply_add-end
-slice_bounds-multiply_add-end c = omega (arith, c.requires.left c.loop-j.j (omega arith))

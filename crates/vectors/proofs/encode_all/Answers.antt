@@ -7,7 +7,7 @@ use Rattle.words.specs.BoundedLaws.{below-take, below-drop}
 use Rattle.codec.specs.Bytes.{byte_encode}
 use Rattle.words.specs.Part.{length_span}
 use Rattle.vectors.proofs.Concatenated.{concatenated_start, concatenated_fits}
-use Rattle.vectors.proofs.Concatenated.{concatenated_read, concatenated_end}
+use Rattle.vectors.proofs.Concatenated.{concatenated_read}
 use Rattle.vectors.proofs.encode_all.Goals as goal
 
 pub byte_encode-requires : goal.byte_encode-requires
@@ -30,15 +30,3 @@ loop-i-preserved c =
 
 pub loop-i-init : goal.loop-i-init
 loop-i-init c = (refl, concatenated_start (omega arith))
-
-pub overflow_mul-b : goal.overflow_mul-b
-overflow_mul-b c = omega (arith, concatenated_fits c.loop-i.invariant.1 (omega arith))
-
-pub overflow_add-be : goal.overflow_add-be
-overflow_add-be c = omega (arith, concatenated_fits c.loop-i.invariant.1 (omega arith))
-
-pub slice_bounds-byte_encode-end-in-loop-i : goal.slice_bounds-byte_encode-end-in-loop-i
-slice_bounds-byte_encode-end-in-loop-i c = omega (arith, concatenated_fits c.loop-i.invariant.1 (omega arith))
-
-pub returns : goal.returns
-returns c = concatenated_end c.loop-i.invariant.1 (omega arith)

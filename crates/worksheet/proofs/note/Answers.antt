@@ -1,12 +1,13 @@
 -- The three ways through the code are the three cases of `left`: none, the next entry, a later one.
+use Rattle.std.proofs.Common.{rules}
 use Rattle.worksheet.specs.Recording.{note_zero, note_one, note_more}
 use Rattle.worksheet.proofs.note.Goals as goal
 
-pub returns : goal.returns
-returns c = note_more _ _ _ c.if-rec-eq0.false c.if-rec-eq1.false
+pub returns-in-0 : goal.returns-in-0
+returns-in-0 c = note_zero _ _ _ c.in-0.is
 
-pub returns-then-rec-eq0 : goal.returns-then-rec-eq0
-returns-then-rec-eq0 c = note_zero _ _ _ c.if-rec-eq0.true
+pub returns-in-1 : goal.returns-in-1
+returns-in-1 c = note_one _ _ _ c.in-1.is
 
-pub returns-then-rec-eq1 : goal.returns-then-rec-eq1
-returns-then-rec-eq1 c = note_one _ _ _ c.if-rec-eq1.true
+pub returns-in_default : goal.returns-in_default
+returns-in_default c = note_more _ _ _ (search rules) (search rules)

@@ -1,18 +1,13 @@
--- The first i bytes of out are in place, and turn i stores byte i % 2 of element i / 2, which is byte i of them all.
-use mathlib.Core.Path.{sym, ◌∙◌}
-use native.Mathlib.Omega.{arith}
-use Rattle.words.specs.Fill.{filled_start, filled_turn, filled_end}
+-- Place i takes byte i % 2 of element i / 2, which is byte i of them all.
+use Rattle.std.proofs.Common.{rules, ℕ, ap, sym, ◌∙◌}
+use Rattle.words.specs.Tab.{tab}
 use Rattle.words.specs.LittleEndianLaws.{words_to_bytes-tab}
+use Rattle.buffers.specs.LittleEndian.{byte_at}
 use Rattle.buffers.proofs.little_endian.put_coefficients.Goals as goal
 
 pub returns : goal.returns
-returns c = filled_end c.loop-i.invariant.1 (omega arith) ∙ sym (words_to_bytes-tab 2 _)
-
-pub loop-i-init : goal.loop-i-init
-loop-i-init c = (omega arith, filled_start (omega arith))
-
-pub loop-i-preserved : goal.loop-i-preserved
-loop-i-preserved c = (
-  omega arith,
-  filled_turn c.loop-i.invariant.1 (omega arith) c.coefficient_byte.ensures,
-)
+returns c =
+    let bytes = byte_at 2 c.args.f.now in
+    c.tabulate.ensures bytes (λ i y h given. search rules)
+    ∙ ap (λ (n : ℕ). tab n bytes) c.requires
+    ∙ sym (words_to_bytes-tab 2 _)

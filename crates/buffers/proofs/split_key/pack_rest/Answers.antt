@@ -12,4 +12,4 @@ returns c =
     (length_bytes_two 8 a.z0.now a.z1.now ∙ omega (arith, c.requires))
     (omega (arith, c.requires))
     c.pack_words.ensures
-    c.copy_bytes.ensures
+    c.copy_from_slice.ensures.after

@@ -4,5 +4,5 @@ use Rattle.words.specs.Fill.{Mapped}
 use Rattle.buffers.proofs.values.reduce.Given as goal
 
 -- i coefficients reduced
-abbrev pub invariant-loop-i : goal.invariant-loop-i
-invariant-loop-i l = Mapped (λ x. x % 3329) 0 l.initial.f l.i l.f
+abbrev pub invariant-loop-x : goal.invariant-loop-x
+invariant-loop-x l = Mapped (λ x. x % 3329) 0 l.initial.f l.x-index l.f

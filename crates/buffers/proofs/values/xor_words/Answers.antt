@@ -1,16 +1,10 @@
--- The first i words of out are the xors: each turn stores the next one (Filled).
-use mathlib.Core.Path.{refl}
-use native.Mathlib.Omega.{arith}
+-- Place i takes the xor of the words there.
+use Rattle.std.proofs.Common.{rules, ℕ, get_or}
 use Rattle.words.specs.Word.{xor}
-use Rattle.words.specs.Fill.{filled_start, filled_turn, filled_end}
 use Rattle.buffers.proofs.values.xor_words.Goals as goal
 
-pub loop-i-preserved : goal.loop-i-preserved
-unfolding xor
-loop-i-preserved c = (refl, filled_turn c.loop-i.invariant.1 (omega arith) refl)
-
-pub loop-i-init : goal.loop-i-init
-loop-i-init c = (refl, filled_start refl)
-
 pub returns : goal.returns
-returns c = filled_end c.loop-i.invariant.1 (omega arith)
+unfolding xor
+returns c =
+    c.tabulate.ensures (λ (i : ℕ). xor (get_or c.args.a.now i 0) (get_or c.args.b.now i 0))
+    (λ i y h given. search rules)

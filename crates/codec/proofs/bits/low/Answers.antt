@@ -15,12 +15,3 @@ masked acc d h = ap (λ (m : ℕ). bit_and acc (m - 1)) (power d h) ∙ and_mask
 
 pub returns : goal.returns
 returns c = masked c.args.acc c.args.d c.requires
-
-pub overflow_sub-result : goal.overflow_sub-result
-overflow_sub-result c = omega (arith, power c.args.d c.requires, pow_pos c.args.d)
-
-pub overflow_cast-result : goal.overflow_cast-result
-overflow_cast-result c =
-    let d = c.args.d in
-    let acc = c.args.acc in
-    omega (arith, masked acc d c.requires, mod-lt acc (pow_pos d), pow_mono {i = d} {j = 12} c.requires)

@@ -20,8 +20,3 @@ returns c =
     (c.quotient.ensures
     ∙ ap (λ (n : ℕ). (n + 1664) / q) (c.shifted.ensures ∙ omega arith)
     ∙ halves (2 ^ a.d * a.x))
-
-pub overflow_add-shifted : goal.overflow_add-shifted
-overflow_add-shifted c =
-    let a = c.args in
-    omega (arith, shl_lt 16 a.d c.ranges.x.fits, pow_mono {i = 16 + a.d} {j = 27} (omega arith))

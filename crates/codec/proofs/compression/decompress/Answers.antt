@@ -15,12 +15,5 @@ is c =
     (omega (arith, c.wide16.ensures, c.shifted.ensures))
     (pow-add 2 c.args.d 1 ∙ omega arith)
 
-pub overflow_add-wide16 : goal.overflow_add-wide16
-overflow_add-wide16 c = omega (arith, pow_mono {i = c.args.d} {j = 11} c.requires.most)
-
-pub overflow_cast-result : goal.overflow_cast-result
-overflow_cast-result c =
-    omega (arith, is c, decompress_lt c.args.d c.args.y c.requires.most c.requires.below)
-
 pub returns : goal.returns
 returns = is

@@ -3,13 +3,17 @@
 use mathlib.Core.Path.{◌≡◌}
 use Prim.Native.Nat.{◌≤◌, ◌<◌, ◌+◌, ◌-◌}
 use lib.ListN.{length}
-use Rattle.codec.proofs.Repack.{Repacked}
+use Rattle.codec.proofs.Repack.{Repacked, Loaded}
 use Rattle.codec.proofs.encoding.byte_encode.Given as goal
 
--- i numbers read, k bytes written, n bits held
-abbrev pub invariant-loop-k : goal.invariant-loop-k
-invariant-loop-k l = (l.i ≤ 256) × (l.k ≤ length l.out) × (length l.out ≡ length l.initial.out) × (l.n < 8 + l.d)
-    × Repacked l.d 8 l.f l.out l.i l.k l.n l.acc
+-- i numbers read, n bits held
+abbrev pub invariant-loop-byte : goal.invariant-loop-byte
+invariant-loop-byte l = (l.i ≤ length l.f) × (length l.out ≡ length l.initial.out) × (l.n < 8 + l.d)
+    × Repacked l.d 8 l.f l.out l.i l.byte-index l.n l.acc
 
-abbrev pub decreases-loop-k : goal.decreases-loop-k
-decreases-loop-k l = 256 - l.i + (length l.initial.out - l.k)
+abbrev pub invariant-loop-n : goal.invariant-loop-n
+invariant-loop-n l = (l.i ≤ length l.f) × (l.n < 8 + l.d)
+    × Loaded l.d 8 l.f l.initial.i l.initial.n l.initial.acc l.i l.n l.acc
+
+abbrev pub decreases-loop-n : goal.decreases-loop-n
+decreases-loop-n l = 8 - l.n

@@ -1,52 +1,50 @@
 -- Rows 1 and 11 are tested first; behind them the one function, told no step, answers as the other rows. There the
--- count is below the limit, so that one more is a number of 32 bits, and it is raised where the answer's number is 0.
-use mathlib.Core.Path.{refl, sym, ◌∙◌}
-use Prim.Native.Nat.{◌+◌}
+-- count is below the limit, so that one more is a number of 32 bits, and it is raised where none of them refuses.
+use mathlib.Core.Path.{refl}
 use native.Mathlib.Omega.{arith}
-use Rattle.refusals.specs.RefusalLaws.{after_done, after_refused}
-use Rattle.decapsulation_run.specs.Input.{input}
-use Rattle.decapsulation.proofs.Outcome.{wrong_length, limit_reached, decaps_sized, told-decapsulated}
+use Rattle.std.specs.Prelude.{◌+◌}
+use Rattle.refusals.specs.RefusalLaws.{handed_on}
+use Rattle.decapsulation_run.specs.Lent.{input_of}
+use Rattle.decapsulation.proofs.Outcome.{wrong_length, limit_reached, decaps_sized, told-decapsulated, refused_kept}
 use Rattle.decapsulation.proofs.decapsulation.decaps_at.Goals as goal
 
 pub returns-then-not-exact-exact_shares : goal.returns-then-not-exact-exact_shares
 returns-then-not-exact-exact_shares c =
     let a = c.args in
-    let g = input a.s0.now a.s1.now a.z0.now a.z1.now a.public.now a.ct.now a.words.now a.coeffs.now in
-    wrong_length a.e a.p g a.limit a.count.now a.k0.now a.k1.now c.exact_input-exact.ensures
+    wrong_length a.e a.p (input_of a.input.now) a.limit a.count.now a.k0.now a.k1.now c.exact_input-exact.ensures
     (c.exact_shares.ensures a.k0.now a.k1.now refl refl) c.if-not-exact-exact_shares.true
 
 pub returns-then-used-limit : goal.returns-then-used-limit
 returns-then-used-limit c =
     let a = c.args in
-    let g = input a.s0.now a.s1.now a.z0.now a.z1.now a.public.now a.ct.now a.words.now a.coeffs.now in
-    limit_reached a.e a.p g a.limit a.count.now a.k0.now a.k1.now c.exact_input-exact.ensures
+    limit_reached a.e a.p (input_of a.input.now) a.limit a.count.now a.k0.now a.k1.now c.exact_input-exact.ensures
     (c.exact_shares.ensures a.k0.now a.k1.now refl refl) c.if-not-exact-exact_shares.false c.if-used-limit.true
 
-pub decapsulate-answer-requires : goal.decapsulate-answer-requires
-decapsulate-answer-requires c =
+pub decapsulate-requires : goal.decapsulate-requires
+decapsulate-requires c =
     let a = c.args in
-    let g = input a.s0.now a.s1.now a.z0.now a.z1.now a.public.now a.ct.now a.words.now a.coeffs.now in
-    decaps_sized a.e a.p g a.limit a.count.now a.k0.now a.k1.now c.exact_input-exact.ensures
+    decaps_sized a.e a.p (input_of a.input.now) a.limit a.count.now a.k0.now a.k1.now c.exact_input-exact.ensures
     (c.exact_shares.ensures a.k0.now a.k1.now refl refl) c.if-not-exact-exact_shares.false c.requires
 
 -- ---- the count
-pub returns-then-number-eq0 : goal.returns-then-number-eq0
-returns-then-number-eq0 c =
+pub returns-in_err-decapsulate : goal.returns-in_err-decapsulate
+returns-in_err-decapsulate c =
     let a = c.args in
-    let g = input a.s0.now a.s1.now a.z0.now a.z1.now a.public.now a.ct.now a.words.now a.coeffs.now in
-    told-decapsulated a.e a.p g a.limit a.count.now a.k0.now a.k1.now
+    rw (handed_on c.from_residual.result c.from_residual.ensures.1)
+    (rw c.in_err-decapsulate.was at
+    (told-decapsulated a.e a.p (input_of a.input.now) a.limit a.count.now a.k0.now a.k1.now
     c.exact_input-exact.ensures (c.exact_shares.ensures a.k0.now a.k1.now refl refl)
-    c.if-not-exact-exact_shares.false c.if-used-limit.false c.decapsulate-answer.ensures
-    (sym (after_done _ (a.count.now + 1) a.count.now (sym c.number.ensures.value ∙ c.if-number-eq0.true)))
+    c.if-not-exact-exact_shares.false {count' = a.count.now} c.if-used-limit.false c.decapsulate.ensures
+    (refused_kept c.in_err-decapsulate.was a.count.now)))
 
-pub returns-else-number-eq0 : goal.returns-else-number-eq0
-returns-else-number-eq0 c =
+pub returns : goal.returns
+returns c =
     let a = c.args in
-    let g = input a.s0.now a.s1.now a.z0.now a.z1.now a.public.now a.ct.now a.words.now a.coeffs.now in
-    told-decapsulated a.e a.p g a.limit a.count.now a.k0.now a.k1.now
+    rw c.in_ok-decapsulate.was at
+    (told-decapsulated a.e a.p (input_of a.input.now) a.limit a.count.now a.k0.now a.k1.now
     c.exact_input-exact.ensures (c.exact_shares.ensures a.k0.now a.k1.now refl refl)
-    c.if-not-exact-exact_shares.false c.if-used-limit.false c.decapsulate-answer.ensures
-    (sym (after_refused _ (a.count.now + 1) a.count.now (λ z. c.if-number-eq0.false (c.number.ensures.value ∙ z))))
+    c.if-not-exact-exact_shares.false {count' = a.count.now + 1} c.if-used-limit.false c.decapsulate.ensures
+    (rw c.in_ok-decapsulate.was refl))
 
 pub overflow_add-count : goal.overflow_add-count
 overflow_add-count c =

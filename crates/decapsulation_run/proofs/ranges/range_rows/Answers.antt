@@ -1,85 +1,60 @@
 -- The tests are the rows' own, in their order; where all are passed, the code expanded the matrix from rho.
-use mathlib.Core.Path.{◌≡◌, sym, ap, ◌∙◌}
-use mathlib.Core.Bool.{Bool}
-use mathlib.Core.List.{List}
-use Prim.Native.Nat.{ℕ, ◌+◌, ◌-◌, ◌<◌}
+use mathlib.Core.Path.{◌≡◌, refl, sym, ap, ◌∙◌}
+use mathlib.Core.Bool.{Bool, true, false, not}
+use mathlib.Core.List.{List, [], ◌∷◌}
+use Prim.Native.Nat.{ℕ}
 use native.Mathlib.Omega.{arith}
-use lib.ListN.{length, take, drop}
-use Rattle.worksheet.specs.SharedList.{SharedList, shared_list}
-use Rattle.refusals.specs.declared.Answer.{Answer}
-use Rattle.refusals.specs.declared.Answer.TheVariants.{MaskRange, ShareRange, ShortStream}
-use Rattle.refusals.specs.Refusals.{number, answer}
-use Rattle.refusals.specs.RefusalLaws.{refused, passed, no_row}
+use Rattle.std.specs.Prelude.{Err}
+use Rattle.refusals.specs.declared.Refusal.{Refusal}
+use Rattle.refusals.specs.declared.Refusal.TheVariants.{MaskRange, ShareRange, ShortStream}
+use Rattle.refusals.specs.Refusals.{number, row, answer}
+use Rattle.refusals.specs.RefusalLaws.{refusal_number-positive, refused, passed, no_row}
 use Rattle.parameters.specs.declared.Parameters.{Parameters}
-use Rattle.parameters.specs.Lengths.{vector_bytes, ek_bytes}
+use Rattle.sampling.specs.SampleAnswer.{answer_of}
+use Rattle.sampling.specs.SampleLaws.{answered_done}
 use Rattle.kpke.specs.KPke.{matrix_full}
 use Rattle.decapsulation_run.specs.Input.{Input, range_rows}
+use Rattle.decapsulation_run.specs.Lent.{input_of}
 use Rattle.decapsulation_run.specs.InputLaws.{range_passed}
 use Rattle.decapsulation_run.specs.Ranges.{RangesTested}
 use Rattle.decapsulation_run.proofs.Rho.{rho_part, expanded_public}
 use Rattle.decapsulation_run.proofs.ranges.range_rows.Goals as goal
 
--- ---- what is tested, whatever else is lent
-abbrev lent : List ℕ → List ℕ → List ℕ → List ℕ → SharedList → List ℕ → List ℕ → Input
-lent s0 s1 key coeffs z ct words =
-    record {
-      key = record { s = shared_list s0 s1; z = z; public = key };
-      ct = ct;
-      words = words;
-      coeffs = coeffs;
-    }
+refusal : (p : Parameters) (g : Input) (a : List ℕ) (r : Refusal) → answer (range_rows p g) ≡ Err r
+    → RangesTested p g (Err r) a
+refusal p g a r f =
+    record { answer = sym f; matrix = λ e. absurd (omega (arith, ap number e, refusal_number-positive r)) }
 
-refusal : (p : Parameters) (s : SharedList) (key coeffs a : List ℕ) (r : Answer) → 0 < number r
-    → ((z : SharedList) (ct words : List ℕ)
-    → answer
-    (range_rows p (record { key = record { s = s; z = z; public = key }; ct = ct; words = words; coeffs = coeffs }))
-    ≡ r)
-    → RangesTested p s key coeffs r a
-refusal p s key coeffs a r h f =
-    record { answer = λ z ct words. sym (f z ct words); matrix = λ e. absurd (omega (arith, ap number e)) }
-
-full_by : (p : Parameters) (key : List ℕ) {h : ℕ} {b : Bool} → h ≡ vector_bytes p
-    → length key ≡ vector_bytes p + 32 + 32 → b ≡ matrix_full p.k (take (h + 32 - h) (drop h key))
-    → matrix_full p.k (drop (vector_bytes p) (take (ek_bytes p) key)) ≡ b
-full_by p key e l f = ap (matrix_full p.k) (sym (rho_part key e l)) ∙ sym f
+-- row 7, as `expand` answers
+row7 : (b : Bool) → answer (row (not b) ShortStream ∷ []) ≡ answer_of b
+row7 true = passed ShortStream _ refl no_row
+row7 false = refused ShortStream _ refl
 
 -- ---- refusals, and the matrix
 pub returns-then-not-reduced : goal.returns-then-not-reduced
 returns-then-not-reduced c =
-    refusal _ _ _ _ _ MaskRange (omega arith)
-    (λ z ct words. refused MaskRange _ (sym c.reduced.ensures ∙ c.if-not-reduced.true))
+    refusal _ _ _ MaskRange (refused MaskRange _ (sym c.reduced.ensures ∙ c.if-not-reduced.true))
 
 pub returns-then-not-both_reduced : goal.returns-then-not-both_reduced
 returns-then-not-both_reduced c =
-    refusal _ _ _ _ _ ShareRange (omega arith)
-    (λ z ct words.
-    passed MaskRange _ (sym c.reduced.ensures ∙ c.if-not-reduced.false)
+    refusal _ _ _ ShareRange
+    (passed MaskRange _ (sym c.reduced.ensures ∙ c.if-not-reduced.false)
     (refused ShareRange _ (sym c.both_reduced.ensures ∙ c.if-not-both_reduced.true)))
-
-pub returns-then-not-expand : goal.returns-then-not-expand
-returns-then-not-expand c =
-    let a = c.args in
-    refusal _ _ _ _ _ ShortStream (omega arith)
-    (λ z ct words.
-    range_passed a.p (lent a.s0.now a.s1.now a.public.now a.coeffs.now z ct words)
-    (sym c.reduced.ensures ∙ c.if-not-reduced.false) (sym c.both_reduced.ensures ∙ c.if-not-both_reduced.false)
-    (refused ShortStream _
-    (full_by a.p a.public.now c.vector_bytes-rho.ensures c.requires.public c.expand.ensures.answer
-    ∙ c.if-not-expand.true)))
 
 pub returns : goal.returns
 returns c =
-    let a = c.args in
+    let p = c.args.p in
+    let key = c.args.input.now.key.public.now in
+    let h = c.vector_bytes-rho.ensures in
     record {
-      answer = λ z ct words.
-          sym
-          (range_passed a.p (lent a.s0.now a.s1.now a.public.now a.coeffs.now z ct words)
-          (sym c.reduced.ensures ∙ c.if-not-reduced.false) (sym c.both_reduced.ensures ∙ c.if-not-both_reduced.false)
-          (passed ShortStream _
-          (full_by a.p a.public.now c.vector_bytes-rho.ensures c.requires.public c.expand.ensures.answer
-          ∙ c.if-not-expand.false)
-          no_row));
+      answer =
+          c.expand.ensures.answer
+          ∙ sym
+          (range_passed p (input_of c.args.input.now)
+          (sym c.reduced.ensures ∙ c.if-not-reduced.false)
+          (sym c.both_reduced.ensures ∙ c.if-not-both_reduced.false)
+          (row7 _ ∙ ap (λ (l : List ℕ). answer_of (matrix_full p.k l)) (sym (rho_part key h c.requires.public))));
       matrix = λ e.
-          expanded_public a.public.now c.vector_bytes-rho.ensures c.requires.public a.p.k _
-          c.expand.result c.expand.ensures.answer c.if-not-expand.false c.expand.ensures.holds;
+          let t = answered_done _ (sym c.expand.ensures.answer ∙ e) in
+          expanded_public key h c.requires.public p.k _ t (c.expand.ensures.holds t);
     }

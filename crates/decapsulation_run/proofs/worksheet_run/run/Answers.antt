@@ -47,7 +47,7 @@ ending-requires c =
       z = record { long0 = k.z0; long1 = k.z1 };
       ct = c.requires.input.ct;
       words =
-          length_rest _ _ c.args.ws.now
+          length_rest _ _ c.args.input.now.words.now
           (omega (arith, masks c.args.e c.args.p c.requires.input.words, c.compared_words-w.ensures.value));
       out = c.requires.out;
     }
@@ -55,10 +55,11 @@ ending-requires c =
 pub returns : goal.returns
 unfolding worksheet strip_coeffs
 returns c =
-    let rest = drop (encrypt_coeffs c.args.p) c.args.cs.now in
+    let rest = drop (encrypt_coeffs c.args.p) c.args.input.now.coeffs.now in
     rw (words_of c.args.e c.args.p)
     (bind _ (c.compared-b.ensures.ran _)
-    (part_from c.args.ws.now c.compared_words-w.ensures.value (ending_words c.args.e c.args.p) (c.ending.ensures rest)))
+    (part_from c.args.input.now.words.now c.compared_words-w.ensures.value (ending_words c.args.e c.args.p)
+    (c.ending.ensures rest)))
 
 pub slice_bounds-ending-end : goal.slice_bounds-ending-end
 slice_bounds-ending-end c = omega (arith, c.compared-b.auto.g0)

@@ -1,40 +1,26 @@
--- The first rate / 8 lanes take a lane of the block each; the block has no more, so that the other lanes take zeros.
-use Prim.Native.Nat.{ℕ, ◌/◌, ◌%◌, ◌≤◌}
-use mathlib.Core.Path.{◌≡◌, sym}
-use mathlib.Core.List.{List}
+-- The first lanes take a lane of the block each; the block has no more, so that the other lanes take zeros.
 use borrow.Author.Rules.{rules}
-use native.Mathlib.Omega.{arith}
-use lib.ListN.{get_or}
 use Rattle.words.specs.Word.{xor}
-use Rattle.words.specs.WordLaws.{xor_zero}
-use Rattle.words.specs.Fill.{replaced_start, replaced_turn, replaced_stop}
-use Rattle.fips202.specs.Sponge.{mixed}
-use Rattle.fips202.specs.Lanes.{lane_of_past}
-use Rattle.fips202.proofs.Absorbing.{lane_part}
-use Rattle.fips202.proofs.absorb.mix_block.Invariants.{lanes_of}
+use Rattle.fips202.proofs.Mixing.{mixing_start, mixing_turn, mixing_end}
 use Rattle.fips202.proofs.absorb.mix_block.Goals as goal
 
--- past the block nothing is added
-lane_past : (rate : ℕ) (p s : List ℕ) (k : ℕ) → rate % 8 ≡ 0 → rate / 8 ≤ k → get_or s k 0 ≡ lanes_of rate p s k
-lane_past rate p s k d h = rw (lane_of_past rate p k d h) (sym (xor_zero (get_or s k 0)))
+pub loop-j-init : goal.loop-j-init
+loop-j-init c =
+    let chunks = c.chunks_exact.ensures in
+    rw (
+      c.into_iter-j-iterator.ensures.into_iter_gives,
+      c.enumerate-j-items.ensures.source,
+      c.enumerate-j-items.ensures.count,
+    )
+    (mixing_start chunks.size chunks.rest (search rules))
 
 pub loop-j-preserved : goal.loop-j-preserved
 unfolding xor
 loop-j-preserved c =
-    let a = c.args in
-    let j = c.loop-j.j in
-    let mixed = c.loop-j.invariant.0 in (
-      replaced_turn mixed (omega arith)
-          (rw (mixed.rest j (omega arith), lane_part a.rate a.p.now j (search rules) c.load.ensures)),
-      search rules,
-    )
+    let steps = c.in-Some.ensures.steps in
+    let chunk = steps.0 in
+    rw steps.1
+    (mixing_turn c.loop-j.invariant c.in-Some.lane.now c.requires.0 steps.2 chunk.0 chunk.1.0 chunk.1.1 c.load.ensures)
 
 pub returns : goal.returns
-unfolding mixed
-returns c =
-    let a = c.args in
-    replaced_stop c.loop-j.invariant.0
-    (λ k h. lane_past a.rate a.p.now a.s.lanes k (search rules) (omega arith))
-
-pub loop-j-init : goal.loop-j-init
-loop-j-init c = (replaced_start (search rules), search rules)
+returns c = mixing_end c.loop-j.invariant c.requires.1 c.in-None.ensures.steps.0.1.0

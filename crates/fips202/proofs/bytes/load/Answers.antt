@@ -1,8 +1,8 @@
--- Eight bytes read one by one are the whole slice, since it has eight.
+-- Eight bytes, the lowest first, are the number that from_le_bytes makes of them, and the slice has no others.
 use Prim.Native.Nat.{ℕ}
-use mathlib.Core.Path.{◌≡◌, refl, sym, ap, ◌∙◌}
+use mathlib.Core.Path.{◌≡◌, refl, sym, ap}
 use mathlib.Core.List.{List}
-use borrow.Author.Rules.{rules}
+use native.Mathlib.Omega.{arith}
 use lib.ListN.{get_or, length}
 use Rattle.words.specs.Tab.{tab}
 use Rattle.words.specs.TabLaws.{tab_of}
@@ -13,5 +13,5 @@ value-of-eight : (p : List ℕ) → length p ≡ 8 → value 256 (tab 8 (λ k. g
 value-of-eight p h = ap (value 256) (sym (tab_of 0 p 8 h (λ i _. refl)))
 
 pub returns : goal.returns
-unfolding tab
-returns c = c.word.ensures ∙ value-of-eight _ (search rules)
+unfolding tab value
+returns c = omega (arith, c.from_le_bytes.ensures, value-of-eight c.args.p.now c.requires)

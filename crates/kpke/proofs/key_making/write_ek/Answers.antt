@@ -11,7 +11,7 @@ pub returns : goal.returns
 returns c =
     let s = c.args in
     two_parts s.ek.now (384 * s.k) (length_encoded 12 s.k _) (omega arith) c.encode_all.ensures
-    c.copy_bytes.ensures
+    c.copy_from_slice.ensures.after
 
 pub encode_all-requires : goal.encode_all-requires
 encode_all-requires c = search (rules, below_byte_encode12)

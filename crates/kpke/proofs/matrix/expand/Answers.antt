@@ -1,18 +1,20 @@
 -- Turn i writes row i where the first i rows end if its streams are full, and says no where one is not: so yes means
 -- that all k rows are in place.
 use borrow.Author.Rules.{rules}
-use mathlib.Core.Path.{refl}
+use mathlib.Core.Path.{refl, sym, ◌∙◌}
 use native.Mathlib.Omega.{arith}
 use Rattle.kpke.specs.KPke.{matrix_full}
+use Rattle.refusals.specs.RefusalLaws.{handed_on}
 use Rattle.words.specs.Part.{length_span}
 use Rattle.vectors.proofs.Concatenated.{concatenated_fits}
 use Rattle.kpke.proofs.Sampled.{sampled_start, sampled_turn, sampled_stop, sampled_end}
 use Rattle.kpke.proofs.matrix.expand.Goals as goal
 
-pub returns-then-not-expand_row : goal.returns-then-not-expand_row
+pub returns-in_err-expand_row : goal.returns-in_err-expand_row
 unfolding matrix_full
-returns-then-not-expand_row c =
-    sampled_stop _ _ _ c.loop-i.i (omega arith) c.expand_row.ensures.answer c.if-not-expand_row.true
+returns-in_err-expand_row c =
+    let e = sym c.in_err-expand_row.was ∙ c.expand_row.ensures.answer in
+    rw (handed_on c.from_residual.result c.from_residual.ensures.1) (sampled_stop _ _ _ c.loop-i.i (omega arith) e)
 
 pub returns : goal.returns
 unfolding matrix_full
@@ -37,4 +39,4 @@ pub expand_row-requires : goal.expand_row-requires
 expand_row-requires c = search (rules, length_span, concatenated_fits)
 
 pub loop-i-preserved : goal.loop-i-preserved
-loop-i-preserved c = (refl, search (rules, sampled_turn))
+loop-i-preserved c = (refl, search (rules, sampled_turn, c.in_ok-expand_row.was))

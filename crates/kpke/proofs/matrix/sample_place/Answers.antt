@@ -2,4 +2,4 @@
 use Rattle.kpke.proofs.matrix.sample_place.Goals as goal
 
 pub returns : goal.returns
-returns c = record { answer = cc; holds = λ t. let e = c.fill_ntt.ensures.holds t in cc }
+returns c = rw (← c.xof.ensures) c.fill_ntt.ensures

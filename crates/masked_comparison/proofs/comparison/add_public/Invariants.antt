@@ -12,7 +12,7 @@ use Rattle.masked_comparison.proofs.comparison.add_public.Given as goal
 
 -- j words added, of share 0; share 1 is any list w1
 abbrev pub invariant-loop-j : goal.invariant-loop-j
-invariant-loop-j l = (l.j-end ≡ length l.c) × (l.j ≤ l.j-end) × (length l.w0 ≡ length l.initial.w0)
+invariant-loop-j l = (l.j ≤ length l.c) × (length l.w0 ≡ length l.initial.w0)
     × ((k : ℕ) → l.j ≤ k → get_or l.w0 k 0 ≡ get_or l.initial.w0 k 0)
     × ((w1 ws cs : List ℕ)
     → Ran (add_public l.j (λ k. get_or l.c k 0) (shared_at (shared_list l.initial.w0 w1))) l.initial.rec ws cs

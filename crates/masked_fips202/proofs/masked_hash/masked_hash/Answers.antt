@@ -4,10 +4,14 @@ use mathlib.Core.Bool.{Bool}
 use Prim.Native.Nat.{ℕ}
 use borrow.Author.Tests.{eq-eqb, ne_eqb, eqb-true}
 use lib.Dec.{eqb}
+use lib.ListN.{length}
+use mathlib.Core.List.{[]}
+use native.Mathlib.Nat.{le_of_eq}
 use Rattle.refusals.specs.Refusals.{answer, sized}
 use Rattle.worksheet.specs.SharedList.{SharedList}
 use Rattle.masked_sponge.specs.MaskedSponge.{hash_mask_words}
 use Rattle.masked_fips202.specs.MaskedCalls.{hash_answer}
+use Rattle.masked_fips202.proofs.MaskedHash.{hash_value}
 use Rattle.masked_fips202.proofs.masked_hash.masked_hash.Goals as goal
 
 -- ---- facts
@@ -40,14 +44,17 @@ masked_sponge-requires c =
       sponge = c.requires;
       inputs = c.if-n-in1.false;
       outputs = c.if-d-out1.false;
-      drawn = eqb-true _ _ (counted _ _ _ c.enough.ensures c.permutations.ensures ∙ c.if-not-enough.false);
+      masks = le_of_eq (sym
+          (eqb-true _ _ (counted _ _ _ c.enough.ensures c.permutations.ensures ∙ c.if-not-enough.false)));
     }
 
 pub returns : goal.returns
 unfolding hash_answer answer sized
 returns c =
     let e = counted _ _ _ c.enough.ensures c.permutations.ensures ∙ c.if-not-enough.false in
-    let h = c.masked_sponge.ensures in
+    let a = c.args in
+    let h =
+    hash_value a.rate a.suffix a.in0.now a.in1.now (length a.out0.now) (c.masked_sponge.ensures []) in
     record {
       answer = rw (eq-eqb _ _ c.if-n-in1.false, eq-eqb _ _ c.if-d-out1.false, e);
       out0 = ap (λ (z : SharedList). z.s0) h;

@@ -1,12 +1,13 @@
 -- SHA3-512 is the sponge with a rate of 72 bytes and eight words of output.
 use native.Mathlib.Omega.{arith}
+use Rattle.masked_sponge.specs.MaskedSponge.{masked_sponge}
 use Rattle.masked_fips202.specs.MaskedWords.{masked_sha3_512_words, sha3_512_mask_words}
 use Rattle.masked_fips202.specs.MaskedWordsLaws.{sha3_512_fits}
 use Rattle.masked_fips202.proofs.masked_words.masked_sha3_512_words.Goals as goal
 
-pub sponge_words-requires : goal.sponge_words-requires
+pub masked_sponge-requires : goal.masked_sponge-requires
 unfolding sha3_512_mask_words
-sponge_words-requires c =
+masked_sponge-requires c =
     record {
       sponge = sha3_512_fits;
       inputs = c.requires.inputs;
@@ -15,6 +16,6 @@ sponge_words-requires c =
     }
 
 pub returns : goal.returns
-unfolding masked_sha3_512_words sha3_512_mask_words
+unfolding masked_sha3_512_words sha3_512_mask_words masked_sponge
 returns c cs =
-    rw c.requires.long0 at (c.sponge_words.ensures cs)
+    rw c.requires.long0 at (c.masked_sponge.ensures cs)

@@ -25,7 +25,7 @@ returns c cs =
     let ran2 = part_words ws 10 5 (c.chi_row-r2.ensures cs) in
     let ran3 = part_words ws 15 5 (c.chi_row-r3.ensures cs) in
     let ran4 = part_words ws 20 5 (c.chi_row-r4.ensures cs) in
-    rw (masked_chi_rows_lem, c.whole-s.ensures, c.whole-t.ensures)
+    rw (masked_chi_rows_lem, c.from_rows-s0.ensures, c.from_rows-s1.ensures)
     (bind _ (rows_ran c.row_at.ensures c.row_at-2.ensures ran0)
     (bind _ (rows_ran c.row_at-3.ensures c.row_at-4.ensures ran1)
     (bind _ (rows_ran c.row_at-5.ensures c.row_at-6.ensures ran2)

@@ -1,20 +1,14 @@
--- Dropping 13 of d + 13 planes leaves those from place 13 on, which the turns copy in order.
+-- Dropping 13 of d + 13 planes leaves those from place 13 on, which are copied.
+use Prim.Native.Nat.{◌+◌, ◌-◌}
+use mathlib.Core.Path.{◌≡◌}
 use native.Mathlib.Omega.{arith}
-use lib.ListN.{length-set}
-use Rattle.masked_polynomials.proofs.Compressed.{copied_start, copied_turn, copied_end}
+use Rattle.worksheet.specs.SharedList.{shared_list}
+use Rattle.masked_polynomials.proofs.Compressed.{copied}
 use Rattle.masked_polynomials.proofs.groups.top_planes.Goals as goal
 
-pub loop-j-preserved : goal.loop-j-preserved
-loop-j-preserved c =
-    let l = c.loop-j in (
-      omega arith,
-      simp length-set (omega arith),
-      simp length-set (omega arith),
-      copied_turn l.invariant.3 (omega arith) (omega arith),
-    )
-
-pub loop-j-init : goal.loop-j-init
-loop-j-init c = (omega arith, omega arith, omega arith, copied_start)
-
 pub returns : goal.returns
-returns c = copied_end c.loop-j.invariant.3 _ (omega arith)
+returns c =
+    let a = c.args in
+    let e : 13 + a.d - 13 ≡ a.d = omega arith in
+    copied 13 a.d (shared_list a.p.s0 a.p.s1) (rw e at c.copy_from_slice.ensures.after)
+    (rw e at c.copy_from_slice-2.ensures.after)

@@ -13,8 +13,8 @@ loop-j-preserved c =
     let j = c.loop-j.j in
     mixing_turn c.loop-j.invariant c.loop-j-test.true
     (ap₂ shares
-    (lane_part a.rate a.p.now j c.loop-j-test.true c.load.ensures)
-    (lane_part a.rate a.q.now j c.loop-j-test.true c.load-in-loop-j.ensures))
+    (lane_part a.rate a.p0.now j c.loop-j-test.true c.load.ensures)
+    (lane_part a.rate a.p1.now j c.loop-j-test.true c.load-in-loop-j.ensures))
     c.masked_xor-o.ensures
 
 pub loop-j-init : goal.loop-j-init

@@ -9,8 +9,9 @@ use Rattle.masked_sponge.proofs.absorb.mix_lanes.Given as goal
 -- j lanes are mixed
 abbrev pub invariant-loop-j : goal.invariant-loop-j
 invariant-loop-j l =
-    Mixing (l.rate / 8) (shared_lane (take l.rate l.p) (take l.rate l.q))
-    (shared_list l.initial.s0.lanes l.initial.s1.lanes) l.j l.initial.rec l.rec l.s0.lanes l.s1.lanes
+    Mixing (l.rate / 8) (shared_lane (take l.rate l.p0) (take l.rate l.p1))
+    (shared_list l.initial.value.s0.lanes l.initial.value.s1.lanes) l.j l.initial.rec l.rec l.value.s0.lanes
+    l.value.s1.lanes
 
 abbrev pub decreases-loop-j : goal.decreases-loop-j
 decreases-loop-j l = l.rate / 8 - l.j

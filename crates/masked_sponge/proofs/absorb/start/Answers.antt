@@ -1,15 +1,10 @@
--- Lane i is mask i of the strip, and one state serves as both shares, since both take the same masks.
-use mathlib.Core.Path.{refl}
-use borrow.Author.Rules.{rules}
-use Rattle.words.specs.Fill.{filled_start, filled_turn, filled_end}
+-- The lanes are the first 25 masks of the strip, and one state serves as both shares, since both take the same masks.
+use Rattle.std.proofs.lemmas.List.{get_or-take}
+use Rattle.words.specs.TabLaws.{tab_of}
 use Rattle.masked_sponge.proofs.MaskedLanes.{start-draws}
 use Rattle.masked_sponge.proofs.absorb.start.Goals as goal
 
-pub loop-i-init : goal.loop-i-init
-loop-i-init c = filled_start (search rules)
-
-pub loop-i-preserved : goal.loop-i-preserved
-loop-i-preserved c = filled_turn c.loop-i.invariant (search rules) refl
-
 pub returns : goal.returns
-returns c = start-draws (filled_end c.loop-i.invariant (search rules))
+returns c =
+    let copied = c.copy_from_slice.ensures in
+    start-draws (tab_of 0 _ 25 copied.len (λ i h. rw copied.after (get_or-take 25 _ i 0 h)))

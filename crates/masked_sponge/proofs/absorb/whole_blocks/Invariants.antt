@@ -16,8 +16,8 @@ abbrev pub invariant-loop-i : goal.invariant-loop-i
 invariant-loop-i l = (l.i ≤ length l.in0 / l.rate) × (l.i * l.rate ≤ length l.in0)
     × ((cs : List ℕ)
     → Ran (loop l.i (λ i. take_in (l.rate / 8) (shared_block l.rate l.in0 l.in1 i))
-    (shared_list l.initial.s0.lanes l.initial.s1.lanes)) l.initial.rec l.ws cs
-    (shared_list l.s0.lanes l.s1.lanes) l.rec (drop (keccak_p_words * l.i) l.ws) cs)
+    (shared_list l.initial.o.value.s0.lanes l.initial.o.value.s1.lanes)) l.initial.o.rec l.ws cs
+    (shared_list l.o.value.s0.lanes l.o.value.s1.lanes) l.o.rec (drop (keccak_p_words * l.i) l.ws) cs)
 
 abbrev pub decreases-loop-i : goal.decreases-loop-i
 decreases-loop-i l = length l.in0 / l.rate - l.i

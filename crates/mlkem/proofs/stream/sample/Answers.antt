@@ -6,8 +6,7 @@ use mathlib.Core.List.{List, [], ◌∷◌}
 use Prim.Native.Nat.{ℕ}
 use lib.ListN.{length}
 use Rattle.refusals.specs.Same.{same}
-use native.Mathlib.Omega.{arith}
-use Rattle.refusals.specs.declared.Answer.TheVariants.{WrongLength}
+use Rattle.refusals.specs.declared.Refusal.TheVariants.{WrongLength}
 use Rattle.refusals.specs.Refusals.{lent}
 use Rattle.refusals.specs.RefusalLaws.{LengthsTested, lengths_tested, row1_refused, row1_sized, row1_exact}
 use Rattle.mlkem.specs.Calls.{sample_answer}
@@ -26,7 +25,7 @@ unfolding sample_answer
 returns-then-not-exact c =
     let s = c.args in
     let r = row1 s.stream.now s.out.now c.exact.ensures in
-    sample_refused WrongLength (omega arith) (row1_refused r _ (ap not c.if-not-exact.true))
+    sample_refused WrongLength (row1_refused r _ (ap not c.if-not-exact.true))
 
 pub sample_ntt-requires : goal.sample_ntt-requires
 sample_ntt-requires c =
@@ -34,16 +33,9 @@ sample_ntt-requires c =
     let e = row1_exact (row1 s.stream.now s.out.now c.exact.ensures) (ap not c.if-not-exact.false) in
     (e.0, e.1.0)
 
-pub returns-in-Full : goal.returns-in-Full
-returns-in-Full c =
+pub returns : goal.returns
+returns c =
     let s = c.args in
     let r = row1 s.stream.now s.out.now c.exact.ensures in
     let n = c.sample_ntt.ensures in
-    stream-sampled c.in-Full.is (row1_sized r (ap not c.if-not-exact.false)) n.value n.f_after
-
-pub returns-in-Short : goal.returns-in-Short
-returns-in-Short c =
-    let s = c.args in
-    let r = row1 s.stream.now s.out.now c.exact.ensures in
-    let n = c.sample_ntt.ensures in
-    stream-sampled c.in-Short.is (row1_sized r (ap not c.if-not-exact.false)) n.value n.f_after
+    stream-sampled (row1_sized r (ap not c.if-not-exact.false)) n.value n.f_after

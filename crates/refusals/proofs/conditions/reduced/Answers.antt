@@ -2,7 +2,7 @@
 use mathlib.Core.Path.{◌≡◌, refl, sym, ap, ◌∙◌}
 use mathlib.Core.Bool.{Bool, true, false, ◌&&◌}
 use mathlib.Core.List.{List, [], ◌∷◌, ◌++◌}
-use Prim.Native.Nat.{ℕ, ◌+◌, ◌-◌, ◌<◌}
+use Prim.Native.Nat.{ℕ, ◌+◌, ◌<◌}
 use native.Mathlib.Numerals.{add-one}
 use native.Mathlib.Omega.{arith}
 use lib.Dec.{ltb}
@@ -40,12 +40,12 @@ tested-turn {f} {all} {i} t h =
     }
 
 -- ---- facts
-pub loop-i-init : goal.loop-i-init
+pub loop-x-init : goal.loop-x-init
 unfolding reduced
-loop-i-init c = (refl, record { within = omega arith; is = refl })
+loop-x-init c = record { within = omega arith; is = refl }
+
+pub loop-x-preserved : goal.loop-x-preserved
+loop-x-preserved c = tested-turn c.loop-x.invariant (omega arith)
 
 pub returns : goal.returns
-returns c = let l = c.loop-i in l.invariant.1.is ∙ ap reduced (take_all l.i _ (omega arith))
-
-pub loop-i-preserved : goal.loop-i-preserved
-loop-i-preserved c = (refl, tested-turn c.loop-i.invariant.1 (omega arith))
+returns c = let l = c.loop-x in l.invariant.is ∙ ap reduced (take_all l.x-index _ (omega arith))

@@ -2,7 +2,7 @@
 use mathlib.Core.Path.{◌≡◌}
 use mathlib.Core.Bool.{Bool}
 use mathlib.Core.List.{List}
-use Prim.Native.Nat.{ℕ, ◌-◌, ◌≤◌}
+use Prim.Native.Nat.{ℕ, ◌≤◌}
 use lib.ListN.{length, take}
 use Rattle.refusals.specs.Reduced.{reduced}
 use Rattle.refusals.proofs.conditions.reduced.Given as goal
@@ -13,8 +13,5 @@ pub record Tested (f : List ℕ) (all : Bool) (i : ℕ) : Type 0 where
   pub within : i ≤ length f
   pub is : all ≡ reduced (take i f)
 
-abbrev pub invariant-loop-i : goal.invariant-loop-i
-invariant-loop-i l = (l.i-end ≡ length l.f) × Tested l.f l.all l.i
-
-abbrev pub decreases-loop-i : goal.decreases-loop-i
-decreases-loop-i l = length l.f - l.i
+abbrev pub invariant-loop-x : goal.invariant-loop-x
+invariant-loop-x l = Tested l.f l.all l.x-index

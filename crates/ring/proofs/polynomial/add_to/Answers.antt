@@ -1,5 +1,5 @@
 -- Turn by turn one coefficient of f becomes the sum's; the others are still as they were.
-use Rattle.std.proofs.Common.{ℕ, ◌+◌, ◌-◌, ◌%◌, get_or, refl, ap, ◌∙◌, arith}
+use Rattle.std.proofs.Common.{ℕ, ◌+◌, ◌%◌, get_or, refl, ap, ◌∙◌, arith}
 use Rattle.words.specs.Fill.{replaced_start, replaced_turn, replaced_end}
 use Rattle.words.specs.Residue.{q}
 use Rattle.ring.specs.Polynomial.{add}

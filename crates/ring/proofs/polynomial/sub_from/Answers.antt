@@ -1,5 +1,5 @@
 -- Turn by turn one coefficient of f becomes the difference's; that g's is reduced first changes nothing modulo q.
-use Rattle.std.proofs.Common.{◌-◌, get_or, refl, ◌∙◌, ap₂, arith}
+use Rattle.std.proofs.Common.{get_or, refl, ◌∙◌, ap₂, arith}
 use Rattle.words.specs.Fill.{replaced_start, replaced_turn, replaced_end}
 use Rattle.ring.specs.Polynomial.{minus, sub}
 use Rattle.ring.specs.Sum.{minus_mod}

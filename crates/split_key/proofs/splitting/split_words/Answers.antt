@@ -1,11 +1,10 @@
--- Turn i puts mask i into z0, and its xor with word i of z into z1, so that four turns make both shares.
-use mathlib.Core.Path.{refl, sym, ap, ap₂, ◌∙◌}
+-- The masks are copied into z0, and turn i puts the xor of word i of z with mask i into z1: so both shares are made.
+use mathlib.Core.Path.{ap, ap₂, ◌∙◌}
 use Prim.Native.Nat.{ℕ, ◌*◌}
 use native.Mathlib.Omega.{arith}
 use lib.ListN.{get_or}
 use Rattle.words.specs.Word.{xor}
 use Rattle.words.specs.Numeral.{value}
-use Rattle.words.specs.TabLaws.{tab_of}
 use Rattle.words.specs.Fill.{filled_start, filled_turn, filled_end}
 use Rattle.worksheet.specs.SharedList.{shared_list}
 use Rattle.words.specs.Part.{part_span, length_span}
@@ -19,16 +18,11 @@ unfolding xor
 loop-i-preserved c =
     let s = c.args in
     let i = c.loop-i.i in
-    let v = c.load.ensures ∙ ap (value 256) (part_span (8 * i) 8 s.z.now) in (
-      filled_turn c.loop-i.invariant.0 (omega arith) refl,
-      filled_turn c.loop-i.invariant.1 (omega arith) (ap (λ (x : ℕ). xor x (get_or s.mask_words.now i 0)) v),
-    )
+    let v = c.load.ensures ∙ ap (value 256) (part_span (8 * i) 8 s.z.now) in
+    filled_turn c.loop-i.invariant (omega arith) (ap (λ (x : ℕ). xor x (get_or s.mask_words.now i 0)) v)
 
 pub returns : goal.returns
-returns c =
-    let whole = tab_of 0 c.args.mask_words.now 4 c.requires.masks (λ i g. refl) in
-    ap₂ shared_list (filled_end c.loop-i.invariant.0 (omega arith) ∙ sym whole)
-    (filled_end c.loop-i.invariant.1 (omega arith))
+returns c = ap₂ shared_list c.copy_from_slice.ensures.after (filled_end c.loop-i.invariant (omega arith))
 
 pub loop-i-init : goal.loop-i-init
-loop-i-init c = (filled_start (omega arith), filled_start (omega arith))
+loop-i-init c = filled_start (omega arith)

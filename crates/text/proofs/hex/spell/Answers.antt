@@ -1,15 +1,11 @@
--- Place i takes digit i, so that after the last turn all digits are there.
-use Rattle.std.proofs.Common.{arith}
-use Rattle.words.specs.Fill.{filled_start, filled_turn, filled_end}
-use Rattle.text.specs.Hex.{hex}
+-- Place i takes digit i, and there are as many places as digits.
+use Rattle.std.proofs.Common.{rules, ℕ, ap, ◌∙◌}
+use Rattle.words.specs.Tab.{tab}
+use Rattle.text.specs.Hex.{hex, digit_at}
 use Rattle.text.proofs.hex.spell.Goals as goal
-
-pub loop-i-init : goal.loop-i-init
-loop-i-init c = filled_start c.requires
-
-pub loop-i-preserved : goal.loop-i-preserved
-loop-i-preserved c = filled_turn c.loop-i.invariant (omega arith) c.digit.ensures
 
 pub returns : goal.returns
 unfolding hex
-returns c = filled_end c.loop-i.invariant (omega arith)
+returns c =
+    let digit = digit_at c.args.b.now in
+    c.tabulate.ensures digit (λ i y h given. search rules) ∙ ap (λ (n : ℕ). tab n digit) c.requires

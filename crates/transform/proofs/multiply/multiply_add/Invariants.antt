@@ -8,7 +8,7 @@ use Rattle.transform.proofs.multiply.multiply_add.Given as goal
 
 -- i pairs added
 abbrev pub invariant-loop-i : goal.invariant-loop-i
-invariant-loop-i l = (l.gammas ≡ tab 128 gamma) × Added l.f l.g l.initial.s l.i l.s
+invariant-loop-i l = (l.z-items ≡ tab 128 gamma) × Added l.f l.g l.initial.s l.i l.s
 
 abbrev pub decreases-loop-i : goal.decreases-loop-i
 decreases-loop-i l = 128 - l.i

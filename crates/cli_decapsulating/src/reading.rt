@@ -1,0 +1,27 @@
+// What decapsulation and trace are given, from files.
+use cli_support::desk::Desk;
+use cli_support::inputs::read_exact;
+use cli_support::messages::Told;
+use cli_support::sets::Sizes;
+use cli_support::split_file::SplitKey;
+use cli_support::strip_file::Strip;
+
+// The ciphertext is in room for the largest set's.
+#[derive(Drop)]
+pub struct Inputs {
+    pub key: SplitKey,
+    pub ct: [u8; 1568],
+    pub strip: Strip,
+}
+
+impl Inputs {
+    // The files of arguments 3, 4 and 5.
+    pub fn read(desk: &impl Desk, set: Sizes) -> Result<Self, Told> {
+        let key = SplitKey::read(desk, 3, set)?;
+        let mut ct = [0u8; 1568];
+        read_exact(desk, 4, &mut ct[..set.ct])?;
+        let mut strip = Strip::zeros(set);
+        strip.read(desk, 5)?;
+        Ok(Inputs { key, ct, strip })
+    }
+}
