@@ -13,7 +13,7 @@ use buffers::values;
 pub struct Masks {
     set: Sizes,
     coeffs: [u16; 1024],
-    pub words: [u64; 4],
+    words: [u64; 4],
 }
 
 impl Masks {
@@ -51,7 +51,10 @@ impl Masks {
         values::reduce(&mut self.coeffs[..m]);
     }
 
-    pub fn coeffs(&self) -> &[u16] {
-        &self.coeffs[..self.set.coefficients]
+    pub fn lent(&self) -> split_key::Masks<'_> {
+        split_key::Masks {
+            coeffs: &self.coeffs[..self.set.coefficients],
+            words: &self.words,
+        }
     }
 }
