@@ -2,7 +2,7 @@
 use native.Mathlib.Omega.{arith}
 use Rattle.words.specs.Overwrite.{two_parts}
 use Rattle.words.specs.NumeralLaws.{length_digits}
-use Rattle.buffers.proofs.key_state.pack_uses.Goals as goal
+use Rattle.cli_support.proofs.state_packing.pack_uses.Goals as goal
 
 pub returns : goal.returns
 returns c =

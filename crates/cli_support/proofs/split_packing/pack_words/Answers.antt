@@ -2,7 +2,7 @@
 use native.Mathlib.Omega.{arith}
 use Rattle.words.specs.Overwrite.{two_parts}
 use Rattle.words.specs.LittleEndianLaws.{length-words_to_bytes}
-use Rattle.buffers.proofs.split_key.pack_words.Goals as goal
+use Rattle.cli_support.proofs.split_packing.pack_words.Goals as goal
 
 pub returns : goal.returns
 returns c =
