@@ -37,6 +37,7 @@ impl Masks {
     }
 
     pub fn read(&mut self, desk: &impl Desk, i: usize) -> Result<(), Told> {
+        // Room for the largest set's file, as there is no heap.
         let mut b = [0u8; 2080];
         let n = 2 * self.set.coefficients + 32;
         let file: &mut [u8] = &mut b[..n];
@@ -45,7 +46,7 @@ impl Masks {
         Ok(())
     }
 
-    // The coefficients modulo q.
+    // The coefficients modulo q. One line for masks and for a strip, over parts of different structs.
     pub fn reduce(&mut self) {
         let m = self.set.coefficients;
         values::reduce(&mut self.coeffs[..m]);

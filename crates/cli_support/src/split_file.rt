@@ -81,6 +81,7 @@ impl SplitKey {
     }
 
     pub fn read(desk: &impl Desk, i: usize, set: Sizes) -> Result<Self, Told> {
+        // Room for the largest set's file, as there is no heap.
         let mut b = [0u8; 5768];
         let n = state_bytes(set.k);
         let file: &mut [u8] = &mut b[..n];
@@ -90,6 +91,7 @@ impl SplitKey {
 
     // To a file of its own.
     pub fn write(&self, desk: &impl Desk, i: usize) -> Result<(), Told> {
+        // Room for the largest set's file, as there is no heap.
         let mut b = [0u8; 5768];
         let n = state_bytes(self.set.k);
         let file: &mut [u8] = &mut b[..n];
@@ -97,8 +99,9 @@ impl SplitKey {
         write_secret(desk, i, file)
     }
 
-    // In place of the file that was read.
+    // In place of the file that was read: as write, but for the call that hands the bytes on.
     pub fn replace(&self, desk: &impl Desk, i: usize) -> Result<(), Told> {
+        // Room for the largest set's file, as there is no heap.
         let mut b = [0u8; 5768];
         let n = state_bytes(self.set.k);
         let file: &mut [u8] = &mut b[..n];

@@ -114,6 +114,7 @@ pub fn encrypt(p: Parameters, a: &[u16], ek: &[u8], m: &[u8], r: &[u8], ct: &mut
     requires { EncryptInput p a.now ek.now m.now r.now ct.old }
     ensures { ct.new ≡ encrypt_of p ek.now m.now r.now }
 {
+    // Rooms for the highest rank, as there is no heap.
     let mut t = [0u16; 1024];
     let mut y = [0u16; 1024];
     let mut u = [0u16; 1024];

@@ -14,7 +14,8 @@ use ring::add_to;
 use transform::ntt;
 use vectors::{dot, encode_all};
 
-// Line 18 at row i, t-hat[i], for the matrix A-hat in a and the secret s-hat in s; e is row i of e-hat.
+// Line 18 at row i, t-hat[i], for the matrix A-hat in a and the secret s-hat in s; e is row i of e-hat. A sum of
+// transforms, where encryption's first_part transforms the product back: so their vectors are two definitions.
 fn public_polynomial(
     a: &[u16],
     s: &[u16],
@@ -94,6 +95,7 @@ pub fn write_keys(p: Parameters, a: &[u16], rho: &[u8], sigma: &[u8], ek: &mut [
     requires { PkeKeysInput p a.now rho.now sigma.now ek.old dk.old }
     ensures { PkeKeysWritten p rho.now sigma.now ek.new dk.new }
 {
+    // Rooms for the highest rank, as there is no heap.
     let mut s = [0u16; 1024];
     let mut t = [0u16; 1024];
     let n = 256 * p.k;

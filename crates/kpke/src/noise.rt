@@ -23,6 +23,7 @@ pub fn noise(seed: &[u8], eta: u32, n: usize, f: &mut [u16])
     requires { NoiseInput seed.now eta n f.old }
     ensures { f.new ≡ noise_of eta seed.now n }
 {
+    // Room for the largest eta, as there is no heap.
     let mut b = [0u8; 192];
     let e = 64 * (eta as usize);
     noise_by(seed, eta, n, &mut b[0..e], f);

@@ -102,6 +102,7 @@ pub fn uv_in_place(a: &[u16], t: &[u16], n: &mut [u16], mu: &[u16], k: usize)
         ≡ uv_pass k (places_of k a.now) (parts 256 t.now) (parts 256 n.old)
         mu.now }
 {
+    // Room for the highest rank, as there is no heap.
     let mut uv = [0u16; 1280];
     let e = 256 * (k + 1);
     uv_over(a, t, n, mu, k, &mut uv[0..e]);
