@@ -11,6 +11,7 @@ ghost use Rattle.kpke.specs.Lent.{RowInput, EkInput};
 use crate::noise::{noise, transformed_noise};
 use parameters::Parameters;
 use ring::add_to;
+use slices::write_parts;
 use transform::ntt;
 use vectors::{dot, encode_all};
 
@@ -41,7 +42,7 @@ fn public_polynomial(
     add_to(f, &e);
 }
 
-// Line 18, t-hat. By part: what is written through `chunks_exact_mut` isn't known to a proof in the end.
+// Line 18, t-hat.
 fn public_vector(a: &[u16], s: &[u16], sigma: &[u8], eta: u32, k: usize, t: &mut [u16])
     requires { RowInput a.now s.now sigma.now eta k × (length t.old ≡ 256 * k) }
     ensures { t.new
@@ -53,11 +54,12 @@ fn public_vector(a: &[u16], s: &[u16], sigma: &[u8], eta: u32, k: usize, t: &mut
         (parts 256 s.now)
         (λ j. ntt_of (noise_of eta sigma.now (k + j)))) }
 {
-    for i in 0..k {
-        let b = 256 * i;
-        let e = b + 256;
-        public_polynomial(a, s, sigma, eta, k, i, &mut t[b..e]);
-    }
+    write_parts(
+        t,
+        256,
+        k,
+        |i, f| public_polynomial(a, s, sigma, eta, k, i, f),
+    );
 }
 
 // Line 19, ek: t-hat encoded, then rho.

@@ -3,8 +3,9 @@
 // copy_from_slice, which promises the same.
 #![tactic(auto)]
 
-ghost use Rattle.std.specs.Prelude.{◌++◌, ◌≡◌, ◌+◌, ◌<◌, ℕ, length};
+ghost use Rattle.std.specs.Prelude.{List, ◌++◌, ◌≡◌, ◌+◌, ◌*◌, ◌<◌, ◌≤◌, ℕ, length};
 ghost use Rattle.words.specs.Tab.{tab};
+ghost use Rattle.slices.specs.Parts.{parts, concat};
 
 pub fn copy_bytes(s: &[u8], out: &mut [u8])
     requires { length s.now ≡ length out.old }
@@ -39,5 +40,28 @@ pub fn tabulate<T: Copy, F: Fn(usize) -> T>(out: &mut [T], f: F)
 {
     for (i, x) in out.iter_mut().enumerate() {
         *x = f(i);
+    }
+}
+
+// Part i, of n elements.
+pub fn part<T: Copy>(s: &[T], n: usize, i: usize) -> &[T]
+    requires { n * i + n ≤ length s.now }
+    ensures value { result.now ≡ parts n s.now i }
+    ensures long { length result.now ≡ n }
+{
+    &s[n * i..n * i + n]
+}
+
+// Each of the k parts of n elements of out is written by f, which is told its number: where f turns part i into v(i),
+// out becomes v(0) || v(1) || ..
+pub fn write_parts<T: Copy, F: Fn(usize, &mut [T])>(out: &mut [T], n: usize, k: usize, f: F)
+    requires long { length out.old ≡ n * k }
+    requires takes { (i : ℕ) (part : _) → i < k → length part.now ≡ n → F.pre f i part }
+    ensures { (v : ℕ → List T)
+        → ((i : ℕ) (part left : _) → i < k → part.now ≡ parts n out.old i → F.post f i part tt left → left.now ≡ v i)
+        → out.new ≡ concat k v }
+{
+    for i in 0..k {
+        f(i, &mut out[n * i..n * i + n]);
     }
 }

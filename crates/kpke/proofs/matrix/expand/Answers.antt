@@ -6,7 +6,7 @@ use native.Mathlib.Omega.{arith}
 use Rattle.kpke.specs.KPke.{matrix_full}
 use Rattle.refusals.specs.RefusalLaws.{handed_on}
 use Rattle.words.specs.Part.{length_span}
-use Rattle.vectors.proofs.Concatenated.{concatenated_fits}
+use Rattle.slices.proofs.Concatenated.{concatenated_fits}
 use Rattle.kpke.proofs.Sampled.{sampled_start, sampled_turn, sampled_stop, sampled_end}
 use Rattle.kpke.proofs.matrix.expand.Goals as goal
 
