@@ -1,7 +1,7 @@
 -- A loop that samples parts 0, 1, .., k - 1, part i where p i holds: it stops at the first i where p fails, or has
 -- written all k parts.
 use mathlib.Core.Path.{◌≡◌, sym, ap, ◌∙◌}
-use mathlib.Core.Bool.{Bool, true, false}
+use mathlib.Core.Bool.{Bool, true}
 use mathlib.Core.List.{List, ◌++◌}
 use Prim.Native.Nat.{ℕ, ◌+◌, ◌-◌, ◌*◌, ◌<◌, ◌≤◌}
 use lib.ListN.{length, take, drop}

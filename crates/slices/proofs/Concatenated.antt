@@ -1,5 +1,5 @@
 -- A loop that writes the k parts of n elements of a slice, one after the other.
-use Rattle.std.specs.Prelude.{◌≡◌, List, ◌++◌, ℕ, zero, suc, ◌+◌, ◌-◌, ◌*◌, ◌<◌, ◌≤◌, length, take, drop}
+use Rattle.std.specs.Prelude.{◌≡◌, List, ◌++◌, ℕ, ◌+◌, ◌-◌, ◌*◌, ◌<◌, ◌≤◌, length, take, drop}
 use Rattle.std.proofs.Common.{sym, ap, ◌∙◌, mul-zero, mul-suc, add-one, arith, length-append}
 use Rattle.words.specs.Part.{length_part, part_fits}
 use Rattle.words.specs.Overwrite.{

@@ -53,7 +53,8 @@ pub fn part<T: Copy>(s: &[T], n: usize, i: usize) -> &[T]
 }
 
 // Each of the k parts of n elements of out is written by f, which is told its number: where f turns part i into v(i),
-// out becomes v(0) || v(1) || ..
+// out becomes v(0) || v(1) || ..  By number: what is written through `chunks_exact_mut` isn't known to a proof in the
+// end.
 pub fn write_parts<T: Copy, F: Fn(usize, &mut [T])>(out: &mut [T], n: usize, k: usize, f: F)
     requires long { length out.old ≡ n * k }
     requires takes { (i : ℕ) (part : _) → i < k → length part.now ≡ n → F.pre f i part }

@@ -2,7 +2,8 @@
 -- polynomials one after the other.
 use Rattle.std.specs.Prelude.{List, ℕ, replicate}
 use Rattle.words.specs.Iterate.{iterate}
-pub use Rattle.slices.specs.Parts.{parts, concat}
+pub use Rattle.slices.specs.Parts.{parts}
+unfoldable pub use Rattle.slices.specs.Parts.{concat}
 use Rattle.codec.specs.Bytes.{byte_decode}
 use Rattle.ring.specs.Polynomial.{add}
 use Rattle.transform.specs.Transform.{multiply_ntts}

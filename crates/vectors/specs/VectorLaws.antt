@@ -14,8 +14,7 @@ use Rattle.codec.specs.Bytes.{byte_decode, byte_decode12}
 use Rattle.codec.specs.BytesLaws.{length-byte_decode}
 use Rattle.ring.specs.Polynomial.{add}
 use Rattle.transform.specs.Transform.{multiply_ntts}
-use Rattle.slices.specs.Parts.{parts, concat}
-use Rattle.vectors.specs.Vector.{coefficients, dot}
+use Rattle.vectors.specs.Vector.{parts, concat, coefficients, dot}
 
 -- each of the k parts has n elements
 pub record Each (n k : ℕ) (f : ℕ → List ℕ) : Type 0 where

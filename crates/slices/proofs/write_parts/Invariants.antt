@@ -1,5 +1,5 @@
 -- Turn i gives f the part i, which no earlier turn has touched, so that k turns write each part once.
-use Rattle.std.proofs.Common.{◌≡◌, List, ℕ, ◌<◌, ◌≤◌, ◌*◌, length}
+use Rattle.std.proofs.Common.{◌≡◌, ℕ, ◌<◌, ◌*◌, length}
 use Rattle.slices.specs.Parts.{parts}
 use Rattle.slices.proofs.Concatenated.{Concatenated}
 use Rattle.slices.proofs.write_parts.Given as goal
