@@ -100,7 +100,7 @@ fn set_odd(b: &mut [u8], at: usize, v: u32) -> Outcome {
     first.and(set(b, place(at, 2), low_byte(v / 16)))
 }
 
-// Element i of the string that begins at a place.
+// Element i of the string that begins at a place; the one place that goes by the width.
 fn set_element(b: &mut [u8], width: Width, at: usize, i: usize, v: u32) -> Outcome {
     let j = i % 65536;
     match width {
