@@ -1,6 +1,6 @@
 -- Turn i samples part i where the first i parts end if there is enough for it, and says no where there isn't: so yes
 -- means that all k parts are in place.
-use Rattle.std.proofs.Common.{◌≡◌, ◌-◌, ◌≤◌, ◌<◌, ◌+◌, ◌*◌, sym, ◌∙◌, arith, length, take, drop}
+use Rattle.std.proofs.Common.{◌≡◌, ◌-◌, ◌<◌, ◌+◌, ◌*◌, sym, ◌∙◌, arith, length, take, drop}
 use Rattle.words.specs.Part.{length_span, part_fits}
 use Rattle.refusals.specs.RefusalLaws.{handed_on}
 use Rattle.kpke.proofs.Sampled.{sampled_start, sampled_turn, sampled_stop, sampled_end}

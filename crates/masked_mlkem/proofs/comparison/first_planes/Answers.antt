@@ -11,7 +11,7 @@ use Rattle.masked_mlkem.proofs.comparison.first_planes.Goals as goal
 pub returns : goal.returns
 returns c =
     let d = c.args.d in
-    let written : c.write_parts.new.out
-    ≡ concat c.args.k (λ i. planes_of d (byte_decode d (parts (32 * d) c.args.c.now i))) =
+    let b = c.args.c.now in
+    let written : c.write_parts.new.out ≡ concat c.args.k (λ i. planes_of d (byte_decode d (parts (32 * d) b i))) =
     search rules in
     written ∙ sym (flatten-tab c.args.k _)
