@@ -2,7 +2,7 @@
 ghost use Rattle.std.specs.Prelude.{◌≡◌, ◌+◌, ◌*◌, ◌/◌, ◌%◌, ◌^◌, ◌≤◌};
 ghost use Rattle.codec.specs.Lent.{AboveInput};
 
-// Functions of their own, as docs/shares.md lists what is done with a share.
+// A line over std's From, as the next: docs/shares.md names both.
 pub fn wide16(x: u16) -> u32
     ensures { result ≡ x }
 {

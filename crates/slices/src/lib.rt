@@ -1,12 +1,12 @@
-// Copies from slices to a slice of the same length, and FIPS 203's a || b (section 2.3). A share is moved by functions
-// that docs/shares.md lists: so the two copies of one are functions, by type, and what is public is copied by std's
-// copy_from_slice, which promises the same.
+// Copies from slices to a slice of the same length, FIPS 203's a || b (section 2.3), and slices made place by place or
+// part by part.
 #![tactic(auto)]
 
 ghost use Rattle.std.specs.Prelude.{List, ◌++◌, ◌≡◌, ◌+◌, ◌*◌, ◌<◌, ◌≤◌, ℕ, length};
 ghost use Rattle.words.specs.Tab.{tab};
 ghost use Rattle.slices.specs.Parts.{parts, concat};
 
+// A line over std's copy_from_slice, as the next: docs/shares.md names both.
 pub fn copy_bytes(s: &[u8], out: &mut [u8])
     requires { length s.now ≡ length out.old }
     ensures { out.new ≡ s.now }

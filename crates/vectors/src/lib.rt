@@ -20,8 +20,7 @@ pub fn ntt_all(v: &mut [u16], k: usize)
     write_parts(v, 256, k, |_, f| ntt(f));
 }
 
-// The polynomial 0, from which dot's sum starts (2.4.7). A function, as docs/shares.md lists what a share is written
-// by.
+// The polynomial 0, from which dot's sum starts (2.4.7). A line over std's fill: docs/shares.md names it.
 pub fn clear(f: &mut [u16])
     ensures { f.new ≡ replicate (length f.old) 0 }
 {
