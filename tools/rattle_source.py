@@ -17,9 +17,10 @@ STRING = re.compile(r'"(?:[^"\\\n]|\\.)*"')
 # what the program asks of the runtime: files, streams and arguments
 OUTSIDE = re.compile(r"^pub trait \w+[^{;]*\{|^impl \w+ for HostRuntime \{", re.M)
 # methods of std that neither decide nor index by what the elements are
-LENGTHS, COPIES = {"len", "is_empty"}, {"copy_from_slice", "fill", "split_at", "split_at_mut", "map"}
+LENGTHS, COPIES = {"len", "is_empty"}, {"copy_from_slice", "fill", "split_at", "split_at_mut"}
 ITEMS = {"iter", "iter_mut", "enumerate", "zip", "rev", "take", "skip", "step_by", "chunks", "chunks_exact", "copied"}
-FOLLOWED = LENGTHS | COPIES | ITEMS | {"unwrap", "remainder", "rotate_left", "saturating_sub", "to_le_bytes"}
+OPERATIONS = {"rotate_left", "saturating_sub"}  # which compute, as an operator does
+FOLLOWED = LENGTHS | COPIES | ITEMS | OPERATIONS | {"unwrap", "remainder", "to_le_bytes"}
 NUMBERS = {"u8", "u16", "u32", "u64", "usize"}  # types whose functions are std's
 LEVELS = [["||"], ["&&"], ["==", "!=", "<", ">", "<=", ">="], ["|"], ["^"], ["&"], ["<<", ">>"], ["+", "-"], ["*", "/", "%"]]
 

@@ -1,4 +1,1 @@
 pub mod LittleEndian
-pub mod Split
-pub mod SplitLaws
-pub mod State

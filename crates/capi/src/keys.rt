@@ -9,7 +9,7 @@ ghost use Rattle.worksheet.specs.SharedList.{shared_list};
 
 use crate::refusal;
 use parameters::Edition;
-use split_key::{KeyStateMut, SharesMut};
+use split_key::{KeyStateMut, Masks, SharesMut};
 
 // SampleNTT (FIPS 203, algorithm 7).
 #[unsafe(no_mangle)]
@@ -124,6 +124,10 @@ pub extern "C" fn tifo_import(
         (split_key s0.new s1.new z0.new z1.new public.new)
         limit_out.new count_out.new) }
 {
+    let masks = Masks {
+        coeffs: mask_coeffs,
+        words: mask_words,
+    };
     let mut state = KeyStateMut {
         s0,
         s1,
@@ -133,7 +137,7 @@ pub extern "C" fn tifo_import(
         limit: limit_out,
         count: count_out,
     };
-    refusal(split_key_import::import(rank, dk, mask_coeffs, mask_words, limit, &mut state))
+    refusal(split_key_import::import(rank, dk, &masks, limit, &mut state))
 }
 
 // Fresh shares of the same key, and the count 0.
@@ -154,6 +158,10 @@ pub extern "C" fn tifo_refresh(
         (shared_list s0.new s1.new) (shared_list z0.new z1.new)
         count.new }
 {
+    let masks = Masks {
+        coeffs: mask_coeffs,
+        words: mask_words,
+    };
     let mut shares = SharesMut { s0, s1, z0, z1 };
-    refusal(split_key_refresh::refresh(rank, mask_coeffs, mask_words, &mut shares, count))
+    refusal(split_key_refresh::refresh(rank, &masks, &mut shares, count))
 }

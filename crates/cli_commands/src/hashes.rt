@@ -47,6 +47,7 @@ impl Hash {
 // The most bytes that are read, and that SHAKE gives out.
 const MOST: usize = 1048576;
 
+// Room for as many, as there is no heap.
 fn zeros() -> [u8; MOST]
     ensures { 1048576 ≡ length result }
 {

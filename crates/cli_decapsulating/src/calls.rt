@@ -16,13 +16,7 @@ pub struct Shares {
 
 fn input<'a>(key: &'a SplitKey, ct: &'a [u8], strip: &'a Strip) -> Input<'a> {
     Input {
-        key: decapsulation::SplitKey {
-            s0: key.s0(),
-            s1: key.s1(),
-            z0: &key.z0,
-            z1: &key.z1,
-            public: key.public(),
-        },
+        key: key.lent(),
         ct,
         words: strip.words(),
         coeffs: strip.coeffs(),

@@ -2,7 +2,6 @@
 #![tactic(auto)]
 
 use crate::reading::Inputs;
-use buffers::split_key::pack_words;
 use cli_support::arguments;
 use cli_support::arguments::{Path, path_at};
 use cli_support::desk::Desk;
@@ -10,6 +9,7 @@ use cli_support::messages::{Told, failed};
 use cli_support::outputs::{differ_at, give_up, open_secret, put};
 use cli_support::sets::Sizes;
 use cli_support::split_file::SplitKey;
+use cli_support::split_packing::pack_words;
 use cli_support::strip_file::Strip;
 
 pub mod calls; // the calls, on a split key

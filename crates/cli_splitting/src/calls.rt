@@ -19,8 +19,7 @@ pub fn import(
     let answer = split_key_import::import(
         set.rank(),
         dk,
-        masks.coeffs(),
-        &masks.words,
+        &masks.lent(),
         limit,
         &mut KeyStateMut {
             s0: &mut key.s0[..set.coefficients],
@@ -41,8 +40,7 @@ pub fn refresh(desk: &impl Desk, mut key: SplitKey, masks: &Masks) -> Result<Spl
     let set = key.set;
     let answer = split_key_refresh::refresh(
         set.rank(),
-        masks.coeffs(),
-        &masks.words,
+        &masks.lent(),
         &mut SharesMut {
             s0: &mut key.s0[..set.coefficients],
             s1: &mut key.s1[..set.coefficients],

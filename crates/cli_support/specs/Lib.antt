@@ -1,2 +1,5 @@
 pub mod StripFile
 pub mod Bounded
+pub mod Split
+pub mod SplitLaws
+pub mod State

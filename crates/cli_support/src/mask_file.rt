@@ -13,7 +13,7 @@ use buffers::values;
 pub struct Masks {
     set: Sizes,
     coeffs: [u16; 1024],
-    pub words: [u64; 4],
+    words: [u64; 4],
 }
 
 impl Masks {
@@ -37,6 +37,7 @@ impl Masks {
     }
 
     pub fn read(&mut self, desk: &impl Desk, i: usize) -> Result<(), Told> {
+        // Room for the largest set's file, as there is no heap.
         let mut b = [0u8; 2080];
         let n = 2 * self.set.coefficients + 32;
         let file: &mut [u8] = &mut b[..n];
@@ -45,13 +46,16 @@ impl Masks {
         Ok(())
     }
 
-    // The coefficients modulo q.
+    // The coefficients modulo q. One line for masks and for a strip, over parts of different structs.
     pub fn reduce(&mut self) {
         let m = self.set.coefficients;
         values::reduce(&mut self.coeffs[..m]);
     }
 
-    pub fn coeffs(&self) -> &[u16] {
-        &self.coeffs[..self.set.coefficients]
+    pub fn lent(&self) -> split_key::Masks<'_> {
+        split_key::Masks {
+            coeffs: &self.coeffs[..self.set.coefficients],
+            words: &self.words,
+        }
     }
 }

@@ -31,6 +31,7 @@ fn without_number(text: &str) -> &str {
 
 // A call on what is named failed with this error.
 pub fn failed(desk: &impl Desk, what: &[u8], error: io::Error) -> Told {
+    // Room for an error's text, as there is no heap.
     let mut room = [0u8; 256];
     let mut out = Cursor::new(&mut room[..]);
     let _ = write!(out, "{error}");

@@ -51,6 +51,7 @@ fn replace(desk: &impl Desk, path: &[u8], name: &mut [u8], bytes: &[u8]) -> Resu
 pub fn replace_secret(desk: &impl Desk, i: usize, bytes: &[u8]) -> Result<(), Told> {
     let path = path_at(desk, i)?;
     let path = path.bytes();
+    // Room for the longest path and the ending, as there is no heap.
     let mut room = [0u8; 4103];
     let n = path.len() + 7;
     let name: &mut [u8] = &mut room[..n];

@@ -1,6 +1,8 @@
 // The file of a split key, with its use limit and the count of its uses.
-ghost use Rattle.std.specs.Prelude.{◌≡◌, ◌*◌, ◌+◌, length};
-ghost use Rattle.buffers.specs.State.{state_length};
+ghost use Rattle.std.specs.Prelude.{◌≡◌, length};
+ghost use Rattle.split_key.specs.Lent.{split_key_of};
+ghost use Rattle.cli_support.specs.Split.{Sized};
+ghost use Rattle.cli_support.specs.State.{state_length};
 
 use crate::desk::Desk;
 use crate::inputs::read_exact;
@@ -8,7 +10,8 @@ use crate::messages::Told;
 use crate::outputs::write_secret;
 use crate::replacement::replace_secret;
 use crate::sets::Sizes;
-use buffers::key_state::{pack_state, state_bytes, unpack_state};
+use crate::state_packing::{pack_state, state_bytes, unpack_state};
+use split_key::KeyStateMut;
 
 // Of a set's size, in room for the largest.
 #[derive(Drop)]
@@ -39,61 +42,46 @@ impl SplitKey {
         }
     }
 
-    pub fn s0(&self) -> &[u16]
-        ensures { length result.now ≡ 256 * self.now.set.k }
+    // To be read.
+    pub fn lent(&self) -> split_key::SplitKey<'_>
+        ensures { Sized self.now.set.k (split_key_of result) }
     {
-        &self.s0[..self.set.coefficients]
-    }
-
-    pub fn s1(&self) -> &[u16]
-        ensures { length result.now ≡ 256 * self.now.set.k }
-    {
-        &self.s1[..self.set.coefficients]
-    }
-
-    // The public key and h.
-    pub fn public(&self) -> &[u8]
-        ensures { length result.now ≡ 384 * self.now.set.k + 64 }
-    {
-        &self.public[..self.set.public]
+        split_key::SplitKey {
+            s0: &self.s0[..self.set.coefficients],
+            s1: &self.s1[..self.set.coefficients],
+            z0: &self.z0,
+            z1: &self.z1,
+            public: &self.public[..self.set.public],
+        }
     }
 
     // To the file's bytes.
     fn pack(&self, file: &mut [u8])
         requires { length file.old ≡ state_length self.now.set.k }
     {
-        pack_state(
-            self.set.k,
-            self.s0(),
-            self.s1(),
-            &self.z0,
-            &self.z1,
-            self.public(),
-            self.limit,
-            self.count,
-            file,
-        );
+        pack_state(self.set.k, &self.lent(), self.limit, self.count, file);
     }
 
     fn of_bytes(set: Sizes, file: &[u8]) -> Self
         requires { length file.now ≡ state_length set.k }
     {
         let mut key = SplitKey::zeros(set);
-        unpack_state(
-            set.k,
-            file,
-            &mut key.s0[..set.coefficients],
-            &mut key.s1[..set.coefficients],
-            &mut key.z0,
-            &mut key.z1,
-            &mut key.public[..set.public],
-            &mut key.limit,
-            &mut key.count,
-        );
+        // Not lent by a method: a part of an array behind `&mut self` isn't proved to be handed out.
+        let mut state = KeyStateMut {
+            s0: &mut key.s0[..set.coefficients],
+            s1: &mut key.s1[..set.coefficients],
+            z0: &mut key.z0,
+            z1: &mut key.z1,
+            public: &mut key.public[..set.public],
+            limit: &mut key.limit,
+            count: &mut key.count,
+        };
+        unpack_state(set.k, file, &mut state);
         key
     }
 
     pub fn read(desk: &impl Desk, i: usize, set: Sizes) -> Result<Self, Told> {
+        // Room for the largest set's file, as there is no heap.
         let mut b = [0u8; 5768];
         let n = state_bytes(set.k);
         let file: &mut [u8] = &mut b[..n];
@@ -103,6 +91,7 @@ impl SplitKey {
 
     // To a file of its own.
     pub fn write(&self, desk: &impl Desk, i: usize) -> Result<(), Told> {
+        // Room for the largest set's file, as there is no heap.
         let mut b = [0u8; 5768];
         let n = state_bytes(self.set.k);
         let file: &mut [u8] = &mut b[..n];
@@ -110,8 +99,9 @@ impl SplitKey {
         write_secret(desk, i, file)
     }
 
-    // In place of the file that was read.
+    // In place of the file that was read: as write, but for the call that hands the bytes on.
     pub fn replace(&self, desk: &impl Desk, i: usize) -> Result<(), Told> {
+        // Room for the largest set's file, as there is no heap.
         let mut b = [0u8; 5768];
         let n = state_bytes(self.set.k);
         let file: &mut [u8] = &mut b[..n];

@@ -9,7 +9,7 @@ use crate::sets::Sizes;
 use buffers::little_endian::{get_coefficients, get_words};
 use buffers::values;
 
-// A file of the largest set.
+// A file of the largest set, as there is no heap.
 fn zeros() -> [u8; 140480]
     ensures { 140480 ≡ length result }
 {
@@ -57,7 +57,7 @@ impl Strip {
         Ok(())
     }
 
-    // The coefficients modulo q.
+    // The coefficients modulo q. One line for masks and for a strip, over parts of different structs.
     pub fn reduce(&mut self) {
         let n = self.set.coeffs;
         values::reduce(&mut self.coeffs[..n]);

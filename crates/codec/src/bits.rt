@@ -2,16 +2,17 @@
 ghost use Rattle.std.specs.Prelude.{◌≡◌, ◌+◌, ◌*◌, ◌/◌, ◌%◌, ◌^◌, ◌≤◌};
 ghost use Rattle.codec.specs.Lent.{AboveInput};
 
+// A line over std's From, as the next: docs/shares.md names both.
 pub fn wide16(x: u16) -> u32
     ensures { result ≡ x }
 {
-    x as u32
+    u32::from(x)
 }
 
 pub fn wide8(x: u8) -> u32
     ensures { result ≡ x }
 {
-    x as u32
+    u32::from(x)
 }
 
 // x above the n bits of acc

@@ -91,6 +91,7 @@ fn reencryption_check(
         result.rec (drop (encrypt_words p + stage8_words p) ws.now) (drop (encrypt_coeffs p) cs.now))
         result.value }
 {
+    // Rooms for the longest ciphertext, as there is no heap.
     let mut planes0 = [0u64; 196];
     let mut planes1 = [0u64; 196];
     let n = word_count(p);

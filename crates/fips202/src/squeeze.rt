@@ -6,7 +6,7 @@ ghost use Rattle.fips202.specs.Sponge.{byte_of, squeezed};
 use crate::bytes;
 use keccak::state::State;
 
-// The first bytes of the state.
+// The first bytes of the state, by way of all 200.
 pub fn extract(s: State, out: &mut [u8])
     requires { length out.old ≤ 200 }
     ensures { out.new ≡ tab (length out.old) (byte_of s.lanes) }

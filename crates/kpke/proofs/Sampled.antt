@@ -1,7 +1,7 @@
 -- A loop that samples parts 0, 1, .., k - 1, part i where p i holds: it stops at the first i where p fails, or has
 -- written all k parts.
 use mathlib.Core.Path.{◌≡◌, sym, ap, ◌∙◌}
-use mathlib.Core.Bool.{Bool, true, false}
+use mathlib.Core.Bool.{Bool, true}
 use mathlib.Core.List.{List, ◌++◌}
 use Prim.Native.Nat.{ℕ, ◌+◌, ◌-◌, ◌*◌, ◌<◌, ◌≤◌}
 use lib.ListN.{length, take, drop}
@@ -15,7 +15,7 @@ use Rattle.sampling.specs.SampleLaws.{answered_done, answered_err}
 use Rattle.sampling.specs.Results.{Sampling}
 use Rattle.words.specs.Walk.{Walked, walked_start, walked_turn, walked-every, every-false}
 use Rattle.vectors.specs.Vector.{concat}
-use Rattle.vectors.proofs.Concatenated.{Concatenated, concatenated_start, concatenated_turn, concatenated_end}
+use Rattle.slices.proofs.Concatenated.{Concatenated, concatenated_start, concatenated_turn, concatenated_end}
 
 -- p holds at the first i of k places, and the first i parts are those of f
 pub record Sampled (n k : ℕ) (p : ℕ → Bool) (f : ℕ → List ℕ) (l₀ : List ℕ) (i : ℕ) (l : List ℕ) : Type 0 where

@@ -11,6 +11,7 @@ use crate::noise::{noise, transformed_noise};
 use codec::{byte_decode, byte_encode, compress_all, decompress_all};
 use parameters::{Parameters, vector_bytes};
 use ring::add_to;
+use slices::write_parts;
 use transform::inverse_ntt;
 use vectors::{decode12_all, dot, encode_all};
 
@@ -27,17 +28,13 @@ fn first_part(a: &[u16], y: &[u16], r: &[u8], eta: u32, k: usize, i: usize, f: &
     add_to(f, &e1);
 }
 
-// Line 19, u. By part: what is written through `chunks_exact_mut` isn't known to a proof in the end.
+// Line 19, u.
 fn first_parts(a: &[u16], y: &[u16], r: &[u8], eta: u32, k: usize, u: &mut [u16])
     requires { RowInput a.now y.now r.now eta k × (length u.old ≡ 256 * k) }
     ensures { u.new
         ≡ concat k (first_part k eta (places_of k a.now) (parts 256 y.now) r.now) }
 {
-    for i in 0..k {
-        let s = 256 * i;
-        let e = s + 256;
-        first_part(a, y, r, eta, k, i, &mut u[s..e]);
-    }
+    write_parts(u, 256, k, |i, f| first_part(a, y, r, eta, k, i, f));
 }
 
 // Line 20, the polynomial mu of the message m.
@@ -114,6 +111,7 @@ pub fn encrypt(p: Parameters, a: &[u16], ek: &[u8], m: &[u8], r: &[u8], ct: &mut
     requires { EncryptInput p a.now ek.now m.now r.now ct.old }
     ensures { ct.new ≡ encrypt_of p ek.now m.now r.now }
 {
+    // Rooms for the highest rank, as there is no heap.
     let mut t = [0u16; 1024];
     let mut y = [0u16; 1024];
     let mut u = [0u16; 1024];

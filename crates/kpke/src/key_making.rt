@@ -11,10 +11,12 @@ ghost use Rattle.kpke.specs.Lent.{RowInput, EkInput};
 use crate::noise::{noise, transformed_noise};
 use parameters::Parameters;
 use ring::add_to;
+use slices::write_parts;
 use transform::ntt;
 use vectors::{dot, encode_all};
 
-// Line 18 at row i, t-hat[i], for the matrix A-hat in a and the secret s-hat in s; e is row i of e-hat.
+// Line 18 at row i, t-hat[i], for the matrix A-hat in a and the secret s-hat in s; e is row i of e-hat. A sum of
+// transforms, where encryption's first_part transforms the product back: so their vectors are two definitions.
 fn public_polynomial(
     a: &[u16],
     s: &[u16],
@@ -40,7 +42,7 @@ fn public_polynomial(
     add_to(f, &e);
 }
 
-// Line 18, t-hat. By part: what is written through `chunks_exact_mut` isn't known to a proof in the end.
+// Line 18, t-hat.
 fn public_vector(a: &[u16], s: &[u16], sigma: &[u8], eta: u32, k: usize, t: &mut [u16])
     requires { RowInput a.now s.now sigma.now eta k × (length t.old ≡ 256 * k) }
     ensures { t.new
@@ -52,11 +54,12 @@ fn public_vector(a: &[u16], s: &[u16], sigma: &[u8], eta: u32, k: usize, t: &mut
         (parts 256 s.now)
         (λ j. ntt_of (noise_of eta sigma.now (k + j)))) }
 {
-    for i in 0..k {
-        let b = 256 * i;
-        let e = b + 256;
-        public_polynomial(a, s, sigma, eta, k, i, &mut t[b..e]);
-    }
+    write_parts(
+        t,
+        256,
+        k,
+        |i, f| public_polynomial(a, s, sigma, eta, k, i, f),
+    );
 }
 
 // Line 19, ek: t-hat encoded, then rho.
@@ -94,6 +97,7 @@ pub fn write_keys(p: Parameters, a: &[u16], rho: &[u8], sigma: &[u8], ek: &mut [
     requires { PkeKeysInput p a.now rho.now sigma.now ek.old dk.old }
     ensures { PkeKeysWritten p rho.now sigma.now ek.new dk.new }
 {
+    // Rooms for the highest rank, as there is no heap.
     let mut s = [0u16; 1024];
     let mut t = [0u16; 1024];
     let n = 256 * p.k;

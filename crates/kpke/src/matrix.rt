@@ -1,6 +1,6 @@
 // The matrix A-hat (FIPS 203, algorithm 13, lines 3 to 7, and algorithm 14, lines 4 to 8), its rows one after the other
 // in one slice.
-ghost use Rattle.std.specs.Prelude.{◌≡◌, ◌*◌, ◌<◌, length};
+ghost use Rattle.std.specs.Prelude.{◌≡◌, Bool, List, ℕ, ◌*◌, ◌<◌, length};
 ghost use Rattle.words.specs.Table.{every};
 ghost use Rattle.sampling.specs.Sample.{full};
 ghost use Rattle.sampling.specs.Results.{Sampling};
@@ -23,7 +23,29 @@ fn sample_place(rho: &[u8], i: u8, j: u8, f: &mut [u16]) -> Answer
     fill_ntt(&s, f)
 }
 
-// Row i of A-hat. By part: what is written through `chunks_exact_mut` isn't known to a proof in the end.
+// Each of the k parts of n elements of a is sampled by f, which is told its number, up to the first that is refused:
+// where f makes part i v(i) if enough(i), a becomes v(0) || v(1) || .. if there is enough for all. By number, as
+// `write_parts`, which can't stop.
+fn sample_parts<F: Fn(usize, &mut [u16]) -> Answer>(
+    a: &mut [u16],
+    n: usize,
+    k: usize,
+    f: F,
+) -> Answer
+    requires long { length a.old ≡ n * k }
+    requires takes { (i : ℕ) (part : _) → i < k → length part.now ≡ n → F.pre f i part }
+    ensures { (enough : ℕ → Bool) (v : ℕ → List ℕ)
+        → ((i : ℕ) (part left : _) (r : _) → i < k → length part.now ≡ n → F.post f i part r left
+        → Sampling (enough i) (v i) r left.now)
+        → Sampling (every k enough) (concat k v) result a.new }
+{
+    for i in 0..k {
+        f(i, &mut a[n * i..n * i + n])?;
+    }
+    Ok(())
+}
+
+// Row i of A-hat.
 fn expand_row(rho: &[u8], k: usize, i: usize, a: &mut [u16]) -> Answer
     requires { ExpandInput rho.now k (256 * k) a.old × (i < 256) }
     ensures { Sampling
@@ -32,15 +54,10 @@ fn expand_row(rho: &[u8], k: usize, i: usize, a: &mut [u16]) -> Answer
         result
         a.new }
 {
-    for j in 0..k {
-        let s = 256 * j;
-        let e = s + 256;
-        sample_place(rho, i as u8, j as u8, &mut a[s..e])?;
-    }
-    Ok(())
+    sample_parts(a, 256, k, |j, f| sample_place(rho, i as u8, j as u8, f))
 }
 
-// A-hat: a then holds the matrix, unless a stream yields fewer than 256 coefficients. By part, as a row.
+// A-hat: a then holds the matrix, unless a stream yields fewer than 256 coefficients.
 pub fn expand(rho: &[u8], k: usize, a: &mut [u16]) -> Answer
     requires { ExpandInput rho.now k (256 * k * k) a.old }
     ensures { Sampling
@@ -49,11 +66,5 @@ pub fn expand(rho: &[u8], k: usize, a: &mut [u16]) -> Answer
         result
         a.new }
 {
-    let n = 256 * k;
-    for i in 0..k {
-        let s = n * i;
-        let e = s + n;
-        expand_row(rho, k, i, &mut a[s..e])?;
-    }
-    Ok(())
+    sample_parts(a, 256 * k, k, |i, row| expand_row(rho, k, i, row))
 }

@@ -7,6 +7,7 @@ ghost use Rattle.kpke.specs.Lent.{NoiseSeed, NoiseInput};
 
 use hash_functions::prf;
 use sampling::sample_poly_cbd;
+use slices::write_parts;
 use vectors::ntt_all;
 
 // SamplePolyCBD_eta of PRF_eta(seed, n); b is where the bytes go.
@@ -23,22 +24,18 @@ pub fn noise(seed: &[u8], eta: u32, n: usize, f: &mut [u16])
     requires { NoiseInput seed.now eta n f.old }
     ensures { f.new ≡ noise_of eta seed.now n }
 {
+    // Room for the largest eta, as there is no heap.
     let mut b = [0u8; 192];
     let e = 64 * (eta as usize);
     noise_by(seed, eta, n, &mut b[0..e], f);
 }
 
-// Noise n, n + 1, .., n + k - 1: a vector. By part: what is written through `chunks_exact_mut` isn't known to a proof
-// in the end.
+// Noise n, n + 1, .., n + k - 1: a vector.
 pub fn noise_all(seed: &[u8], eta: u32, n: usize, k: usize, v: &mut [u16])
     requires { NoiseSeed seed.now eta × (n + k ≤ 256) × (length v.old ≡ 256 * k) }
     ensures { v.new ≡ concat k (λ i. noise_of eta seed.now (n + i)) }
 {
-    for i in 0..k {
-        let a = 256 * i;
-        let e = a + 256;
-        noise(seed, eta, n + i, &mut v[a..e]);
-    }
+    write_parts(v, 256, k, |i, f| noise(seed, eta, n + i, f));
 }
 
 // The transforms of noise 0, 1, .., k - 1: s-hat of algorithm 13, line 16, and y-hat of algorithm 14, line 18.

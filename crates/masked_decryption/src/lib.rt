@@ -23,6 +23,7 @@ use masked_polynomials::groups::compress_groups;
 use masked_polynomials::passes::enter_both;
 use parameters::Parameters;
 use ring::sub_from;
+use slices::{part, write_parts};
 use transform::inverse_ntt;
 use vectors::{clear, dot, ntt_all};
 use worksheet::Recorder;
@@ -42,14 +43,7 @@ fn decoded_all(b: &[u8], d: u32, k: usize, u: &mut [u16])
     ensures { u.new ≡ concat k (λ i. map (decompress d) (byte_decode d (parts (32 * d) b.now i))) }
 {
     let n = 32 * (d as usize);
-    // By place, as the definition's parts are: 32 d bytes here, 256 coefficients there.
-    for i in 0..k {
-        let a = 256 * i;
-        let e = a + 256;
-        let s = n * i;
-        let se = s + n;
-        decoded(&b[s..se], d, &mut u[a..e]);
-    }
+    write_parts(u, 256, k, |i, f| decoded(part(b, n, i), d, f));
 }
 
 // The transforms of the polynomials that the ciphertext's first part holds.

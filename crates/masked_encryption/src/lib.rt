@@ -112,6 +112,7 @@ pub fn masked_encrypt(
 {
     let mut mu0 = [0u16; 256];
     let mut mu1 = [0u16; 256];
+    // Rooms for the highest rank, as there is no heap.
     let mut n0 = [0u16; 2304];
     let mut n1 = [0u16; 2304];
     let n = 256 * (2 * p.k + 1);

@@ -59,6 +59,7 @@ pub fn stage6(
         rec (256 * (p.k + 1)) (polynomials (p.k + 1))
         (shared_list (take (256 * (p.k + 1)) n0.new) (take (256 * (p.k + 1)) n1.new)) result }
 {
+    // Room for the highest rank, as there is no heap.
     let mut t = [0u16; 1024];
     let n = 256 * p.k;
     reencrypt(rec, p, a, ek, n0, n1, mu0, mu1, &mut t[0..n])

@@ -9,7 +9,7 @@ ghost use Rattle.masked_encryption_passes.specs.Passes.{u_pass, v_pass, uv_pass}
 ghost use Rattle.masked_encryption_passes.specs.Lent.{RowsInput, LastInput, PassesInput, ShareInput, PassInput};
 
 use ring::add_to;
-use slices::copy_coefficients;
+use slices::{copy_coefficients, part, write_parts};
 use transform::inverse_ntt;
 use vectors::{dot, ntt_all};
 
@@ -23,18 +23,14 @@ fn u_pass(a: &[u16], y: &[u16], e1: &[u16], k: usize, i: usize, u: &mut [u16])
     add_to(u, e1);
 }
 
-// The rows. By part: what is written through `chunks_exact_mut` isn't known to a proof in the end.
+// The rows.
 fn u_passes(a: &[u16], y: &[u16], e1: &[u16], k: usize, u: &mut [u16])
     requires { RowsInput k 0 k a.now y.now e1.now u.old }
     ensures { u.new
         ≡ concat k (λ i.
         u_pass k (places_of k a.now) (parts 256 y.now) (parts 256 e1.now i) i) }
 {
-    for i in 0..k {
-        let s = 256 * i;
-        let e = s + 256;
-        u_pass(a, y, &e1[s..e], k, i, &mut u[s..e]);
-    }
+    write_parts(u, 256, k, |i, f| u_pass(a, y, part(e1, 256, i), k, i, f));
 }
 
 fn v_pass(t: &[u16], y: &[u16], e2: &[u16], mu: &[u16], k: usize, v: &mut [u16])
@@ -102,6 +98,7 @@ pub fn uv_in_place(a: &[u16], t: &[u16], n: &mut [u16], mu: &[u16], k: usize)
         ≡ uv_pass k (places_of k a.now) (parts 256 t.now) (parts 256 n.old)
         mu.now }
 {
+    // Room for the highest rank, as there is no heap.
     let mut uv = [0u16; 1280];
     let e = 256 * (k + 1);
     uv_over(a, t, n, mu, k, &mut uv[0..e]);

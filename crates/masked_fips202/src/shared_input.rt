@@ -15,6 +15,7 @@ pub fn words_to_bytes(w: &[u64], out: &mut [u8])
     }
 }
 
+// A line over std's fill: docs/shares.md names it.
 pub fn zero_bytes(out: &mut [u8])
     ensures { out.new ≡ replicate (length out.old) 0 }
 {

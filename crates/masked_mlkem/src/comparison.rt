@@ -17,6 +17,7 @@ use codec::byte_decode;
 use masked_comparison::comparison::{add_public, all_zero};
 use parameters::Parameters;
 use planes::coefficient_planes;
+use slices::{part, write_parts};
 use stages::mask_counts::word_count;
 use worksheet::{Entered, Recorder, Shares};
 
@@ -25,14 +26,12 @@ fn group_planes(f: &[u16], d: usize, out: &mut [u64])
     requires { PlanesInput d f.now out.old }
     ensures { out.new ≡ planes_of d f.now }
 {
-    // By place, as the definition's parts are: 64 numbers here, d planes there.
-    for g in 0..4 {
-        let a = 64 * g;
-        let ae = a + 64;
-        let o = d * g;
-        let oe = o + d;
-        coefficient_planes(&f[a..ae], d, &mut out[o..oe]);
-    }
+    write_parts(
+        out,
+        d,
+        4,
+        |g, planes| coefficient_planes(&f[64 * g..64 * g + 64], d, planes),
+    );
 }
 
 // Of an encoded polynomial.
@@ -53,14 +52,12 @@ fn first_planes(c: &[u8], d: u32, k: usize, out: &mut [u64])
 {
     let n = 32 * (d as usize);
     let m = 4 * (d as usize);
-    // By place, as the definition's parts are: 32 d bytes here, 4 d planes there.
-    for i in 0..k {
-        let a = n * i;
-        let ae = a + n;
-        let o = m * i;
-        let oe = o + m;
-        encoded_planes(&c[a..ae], d, &mut out[o..oe]);
-    }
+    write_parts(
+        out,
+        m,
+        k,
+        |i, planes| encoded_planes(part(c, n, i), d, planes),
+    );
 }
 
 // The ciphertext's own planes, which are public.

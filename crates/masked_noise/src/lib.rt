@@ -170,6 +170,7 @@ fn noise_poly(
         rec ws.now cs.now (shared_list f0.new f1.new)
         result (drop (noise_words eta) ws.now) (drop (noise_coeffs eta) cs.now) }
 {
+    // Rooms for the largest eta, as there is no heap.
     let mut o0 = [0u64; 24];
     let mut o1 = [0u64; 24];
     let m = 8 * eta;

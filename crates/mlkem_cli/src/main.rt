@@ -30,6 +30,7 @@ fn run_named(desk: &impl Desk, call: Call) -> Result<(), Told> {
     run_call(desk, call, set)
 }
 
+// The one place that goes by the command.
 fn run(desk: &impl Desk, command: Command) -> Result<(), Told> {
     match command {
         Command::Help => {

@@ -19,7 +19,8 @@ use refusals::conditions::reduced;
 use refusals::{Answer, Refusal, exact};
 use vectors::decode_all;
 
-// FIPS 203, section 7.2, the modulus check: each coefficient of an encoded vector is below q. They go to t.
+// FIPS 203, section 7.2, the modulus check: each coefficient of an encoded vector is below q. They go to t,
+// which is room: the answer is the test's, and says nothing of whether t was written.
 fn vector_reduced_in(b: &[u8], k: usize, t: &mut [u16]) -> bool
     requires { (length b.now ≡ 384 * k) × (length t.old ≡ 256 * k) }
     ensures { result ≡ reduced_of (coefficients k b.now) }
@@ -33,6 +34,7 @@ fn vector_reduced(b: &[u8], k: usize) -> bool
     requires { (k ≤ 4) × (length b.now ≡ 384 * k) }
     ensures { result ≡ reduced_of (coefficients k b.now) }
 {
+    // Room for the highest rank, as there is no heap.
     let mut t = [0u16; 1024];
     let n = 256 * k;
     vector_reduced_in(b, k, &mut t[0..n])
@@ -113,7 +115,7 @@ fn encaps_in(
     Ok(())
 }
 
-// Row 1 passed.
+// Row 1 passed. Key making's keygen_sized makes the same room, for another call with other contracts.
 fn encaps_sized(
     e: Edition,
     p: Parameters,
@@ -134,6 +136,7 @@ fn encaps_sized(
         ct.new
         k.new }
 {
+    // Room for the highest rank, as there is no heap.
     let mut a = [0u16; 4096];
     let n = 256 * p.k * p.k;
     encaps_in(e, p, ek, m, &mut a[0..n], ct, k)

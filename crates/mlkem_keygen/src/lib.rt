@@ -66,7 +66,7 @@ fn keygen_in(
     Ok(())
 }
 
-// Row 1 passed.
+// Row 1 passed. Encapsulation's encaps_sized makes the same room, for another call with other contracts.
 fn keygen_sized(
     e: Edition,
     p: Parameters,
@@ -87,6 +87,7 @@ fn keygen_sized(
         ek.new
         dk.new }
 {
+    // Room for the highest rank, as there is no heap.
     let mut a = [0u16; 4096];
     let n = 256 * p.k * p.k;
     keygen_in(e, p, d, z, &mut a[0..n], ek, dk)

@@ -8,7 +8,8 @@ use Rattle.refusals.specs.declared.Refusal.TheVariants.{NoSuchRank}
 use Rattle.refusals.specs.Refusals.{Answer, refusal_number, number}
 use Rattle.refusals.specs.RefusalLaws.{handed_on}
 use Rattle.parameters.specs.declared.Parameters.{Parameters}
-use Rattle.parameters.specs.Ranks.{is_rank, of_rank, set_of}
+use Rattle.parameters.specs.Ranks.{is_rank, of_rank}
+use Rattle.parameters.specs.RankSet.{set_of}
 use Rattle.parameters.specs.Fits.{Fits}
 use Rattle.parameters.specs.FitsLaws.{fits-of_rank}
 use Rattle.parameters.specs.ByRank.{ByRank}

@@ -1,5 +1,6 @@
 pub mod Sets
 pub mod Ranks
+pub mod RankSet
 pub mod RankLaws
 pub mod ByRank
 pub mod ByRankLaws

@@ -3,7 +3,8 @@
 #![tactic(auto)]
 
 ghost use Rattle.std.specs.Prelude.{◌≡◌};
-ghost use Rattle.parameters.specs.Ranks.{is_rank, of_rank, set_of};
+ghost use Rattle.parameters.specs.Ranks.{is_rank, of_rank};
+ghost use Rattle.parameters.specs.RankSet.{set_of};
 ghost use Rattle.parameters.specs.Lengths.{vector_bytes, ek_bytes, dk_bytes, ct_bytes};
 ghost use Rattle.parameters.specs.Fits.{Fits};
 

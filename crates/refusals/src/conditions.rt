@@ -23,7 +23,7 @@ pub fn both_reduced(f: &[u16], g: &[u16]) -> bool
     first & second
 }
 
-// Two strings of one length are equal.
+// Two strings of one length are equal. By the definition, where `==` would say it in other words.
 pub fn same(a: &[u8], b: &[u8]) -> bool
     requires { length a.now ≡ length b.now }
     ensures { result ≡ same_of a.now b.now }

@@ -22,7 +22,7 @@ pub enum Refusal {
     LimitReached = 11,
 }
 
-// A call is carried out, or refused and nothing changed.
+// What is carried out, or refused. What a refused call leaves, its contract says.
 pub type Answer = Result<(), Refusal>;
 
 // 0 where the call is carried out.
@@ -36,7 +36,8 @@ pub fn number(answer: Answer) -> u64
     }
 }
 
-// Row 1: the lengths that the lent buffers have are those that they must have.
+// Row 1: the lengths that the lent buffers have are those that they must have. By the definition, where `==` would say it
+// in other words.
 pub fn exact(has: &[usize], wants: &[usize]) -> bool
     requires { length has.now ≡ length wants.now }
     ensures { result ≡ same has.now wants.now }

@@ -1,11 +1,12 @@
-// Copies from slices to a slice of the same length, and FIPS 203's a || b (section 2.3). A share is moved by functions
-// that docs/shares.md lists: so the two copies of one are functions, by type, and what is public is copied by std's
-// copy_from_slice, which promises the same.
+// Copies from slices to a slice of the same length, FIPS 203's a || b (section 2.3), and slices made place by place or
+// part by part.
 #![tactic(auto)]
 
-ghost use Rattle.std.specs.Prelude.{◌++◌, ◌≡◌, ◌+◌, ◌<◌, ℕ, length};
+ghost use Rattle.std.specs.Prelude.{List, ◌++◌, ◌≡◌, ◌+◌, ◌*◌, ◌<◌, ◌≤◌, ℕ, length};
 ghost use Rattle.words.specs.Tab.{tab};
+ghost use Rattle.slices.specs.Parts.{parts, concat};
 
+// A line over std's copy_from_slice, as the next: docs/shares.md names both.
 pub fn copy_bytes(s: &[u8], out: &mut [u8])
     requires { length s.now ≡ length out.old }
     ensures { out.new ≡ s.now }
@@ -39,5 +40,29 @@ pub fn tabulate<T: Copy, F: Fn(usize) -> T>(out: &mut [T], f: F)
 {
     for (i, x) in out.iter_mut().enumerate() {
         *x = f(i);
+    }
+}
+
+// Part i, of n elements.
+pub fn part<T: Copy>(s: &[T], n: usize, i: usize) -> &[T]
+    requires { n * i + n ≤ length s.now }
+    ensures value { result.now ≡ parts n s.now i }
+    ensures long { length result.now ≡ n }
+{
+    &s[n * i..n * i + n]
+}
+
+// Each of the k parts of n elements of out is written by f, which is told its number: where f turns part i into v(i),
+// out becomes v(0) || v(1) || ..  By number: what is written through `chunks_exact_mut` isn't known to a proof in the
+// end.
+pub fn write_parts<T: Copy, F: Fn(usize, &mut [T])>(out: &mut [T], n: usize, k: usize, f: F)
+    requires long { length out.old ≡ n * k }
+    requires takes { (i : ℕ) (part : _) → i < k → length part.now ≡ n → F.pre f i part }
+    ensures { (v : ℕ → List T)
+        → ((i : ℕ) (part left : _) → i < k → part.now ≡ parts n out.old i → F.post f i part tt left → left.now ≡ v i)
+        → out.new ≡ concat k v }
+{
+    for i in 0..k {
+        f(i, &mut out[n * i..n * i + n]);
     }
 }

@@ -1,6 +1,6 @@
 // A split key: what it is, what import and refreshing answer and leave, and laws about these, in specs/; the split key
-// as it is lent, the use limits that are accepted, and the parts of a split key made of a key's. split_key_import and
-// split_key_refresh have the calls.
+// and the masks as they are lent, the use limits that are accepted, and the parts of a split key made of a key's.
+// split_key_import and split_key_refresh have the calls.
 #![tactic(auto)]
 
 ghost use Rattle.std.specs.Prelude.{◌≡◌};
@@ -19,6 +19,13 @@ pub struct SplitKey<'a> {
     pub z0: &'a [u64],
     pub z1: &'a [u64],
     pub public: &'a [u8],
+}
+
+// Masks as they are lent to import and to refreshing: for the secret's coefficients, and for the words of z.
+#[derive(Clone, Copy)]
+pub struct Masks<'a> {
+    pub coeffs: &'a [u16],
+    pub words: &'a [u64],
 }
 
 // Document 02, ask 5: the use limits that are accepted.

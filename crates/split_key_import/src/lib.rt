@@ -18,7 +18,7 @@ use parameters::{Parameters, dk_bytes, ek_bytes, vector_bytes};
 use refusals::conditions::{reduced, same};
 use refusals::{Answer, Refusal, exact};
 use split_key::splitting::{copy_public, split_coefficients, split_words};
-use split_key::{KeyStateMut, is_limit};
+use split_key::{KeyStateMut, Masks, is_limit};
 
 // Section 7.3, the hash check: h is the public key's hash.
 fn hash_matches(p: Parameters, dk: &[u8]) -> bool
@@ -34,24 +34,17 @@ fn hash_matches(p: Parameters, dk: &[u8]) -> bool
 }
 
 // The split key, not yet used.
-fn write_split(
-    p: Parameters,
-    dk: &[u8],
-    mask_coeffs: &[u16],
-    mask_words: &[u64],
-    limit: u32,
-    state: &mut KeyStateMut,
-)
+fn write_split(p: Parameters, dk: &[u8], masks: &Masks, limit: u32, state: &mut KeyStateMut)
     requires { Fits p
-        × ImportSized p dk.now mask_coeffs.now mask_words.now (key_lent state.old) }
+        × ImportSized p dk.now masks.now.coeffs.now masks.now.words.now (key_lent state.old) }
     ensures kept { StateStaysLent state.old state.new }
-    ensures imported { state_lent state.new ≡ imported_state p dk.now mask_coeffs.now mask_words.now limit }
+    ensures imported { state_lent state.new ≡ imported_state p dk.now masks.now.coeffs.now masks.now.words.now limit }
 {
     let n = vector_bytes(p);
     let z = n + ek_bytes(p) + 32;
     let e = z + 32;
-    split_coefficients(&dk[0..n], p.k, mask_coeffs, state.s0, state.s1);
-    split_words(&dk[z..e], mask_words, state.z0, state.z1);
+    split_coefficients(&dk[0..n], p.k, masks.coeffs, state.s0, state.s1);
+    split_words(&dk[z..e], masks.words, state.z0, state.z1);
     copy_public(dk, n, z, state.public);
     *state.limit = limit;
     *state.count = 0;
@@ -61,15 +54,14 @@ fn write_split(
 fn import_sized(
     p: Parameters,
     dk: &[u8],
-    mask_coeffs: &[u16],
-    mask_words: &[u64],
+    masks: &Masks,
     limit: u32,
     state: &mut KeyStateMut,
 ) -> Answer
     requires { Fits p
-        × ImportSized p dk.now mask_coeffs.now mask_words.now (key_lent state.old) }
+        × ImportSized p dk.now masks.now.coeffs.now masks.now.words.now (key_lent state.old) }
     ensures kept { StateStaysLent state.old state.new }
-    ensures imported { Imported p dk.now mask_coeffs.now mask_words.now limit
+    ensures imported { Imported p dk.now masks.now.coeffs.now masks.now.words.now limit
         (state_lent state.old) (number result) (state_lent state.new) }
 {
     if !hash_matches(p, dk) {
@@ -78,33 +70,26 @@ fn import_sized(
     if !is_limit(limit) {
         return Err(Refusal::LimitRange);
     }
-    if !reduced(mask_coeffs) {
+    if !reduced(masks.coeffs) {
         return Err(Refusal::MaskRange);
     }
-    write_split(p, dk, mask_coeffs, mask_words, limit, state);
+    write_split(p, dk, masks, limit, state);
     Ok(())
 }
 
 // Import for a parameter set.
-fn import_at(
-    p: Parameters,
-    dk: &[u8],
-    mask_coeffs: &[u16],
-    mask_words: &[u64],
-    limit: u32,
-    state: &mut KeyStateMut,
-) -> Answer
+fn import_at(p: Parameters, dk: &[u8], masks: &Masks, limit: u32, state: &mut KeyStateMut) -> Answer
     requires { Fits p }
     ensures kept { StateStaysLent state.old state.new }
-    ensures imported { Imported p dk.now mask_coeffs.now mask_words.now limit
+    ensures imported { Imported p dk.now masks.now.coeffs.now masks.now.words.now limit
         (state_lent state.old) (number result) (state_lent state.new) }
 {
     let n = 256 * p.k;
     let m = ek_bytes(p) + 32;
     let has = [
         dk.len(),
-        mask_coeffs.len(),
-        mask_words.len(),
+        masks.coeffs.len(),
+        masks.words.len(),
         state.s0.len(),
         state.s1.len(),
         state.z0.len(),
@@ -115,28 +100,14 @@ fn import_at(
     if !exact(&has, &wants) {
         return Err(Refusal::WrongLength);
     }
-    import_sized(p, dk, mask_coeffs, mask_words, limit, state)
+    import_sized(p, dk, masks, limit, state)
 }
 
 // Import for the parameter set of a rank.
-pub fn import(
-    rank: u32,
-    dk: &[u8],
-    mask_coeffs: &[u16],
-    mask_words: &[u64],
-    limit: u32,
-    state: &mut KeyStateMut,
-) -> Answer
+pub fn import(rank: u32, dk: &[u8], masks: &Masks, limit: u32, state: &mut KeyStateMut) -> Answer
     ensures kept { StateStaysLent state.old state.new }
-    ensures imported { ImportedBy rank dk.now mask_coeffs.now mask_words.now limit
+    ensures imported { ImportedBy rank dk.now masks.now.coeffs.now masks.now.words.now limit
         (state_lent state.old) (number result) (state_lent state.new) }
 {
-    import_at(
-        Parameters::try_from(rank)?,
-        dk,
-        mask_coeffs,
-        mask_words,
-        limit,
-        state,
-    )
+    import_at(Parameters::try_from(rank)?, dk, masks, limit, state)
 }

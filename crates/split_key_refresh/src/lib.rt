@@ -14,7 +14,7 @@ use parameters::Parameters;
 use refusals::conditions::{both_reduced, reduced};
 use refusals::{Answer, Refusal, exact};
 use ring::{add_to, sub_from};
-use split_key::SharesMut;
+use split_key::{Masks, SharesMut};
 
 // z becomes z xor the masks.
 fn xor_words(z: &mut [u64], masks: &[u64])
@@ -26,17 +26,17 @@ fn xor_words(z: &mut [u64], masks: &[u64])
     }
 }
 
-fn move_shares(mask_coeffs: &[u16], mask_words: &[u64], shares: &mut SharesMut)
-    requires { RefreshSized (length mask_coeffs.now) mask_coeffs.now mask_words.now
+fn move_shares(masks: &Masks, shares: &mut SharesMut)
+    requires { RefreshSized (length masks.now.coeffs.now) masks.now.coeffs.now masks.now.words.now
         (s_lent shares.old) (z_lent shares.old) }
     ensures kept { SharesStayLent shares.old shares.new }
-    ensures s1_after { s_lent shares.new ≡ fresh_coeffs (s_lent shares.old) mask_coeffs.now }
-    ensures z1_after { z_lent shares.new ≡ fresh_words (z_lent shares.old) mask_words.now }
+    ensures s1_after { s_lent shares.new ≡ fresh_coeffs (s_lent shares.old) masks.now.coeffs.now }
+    ensures z1_after { z_lent shares.new ≡ fresh_words (z_lent shares.old) masks.now.words.now }
 {
-    add_to(shares.s0, mask_coeffs);
-    sub_from(shares.s1, mask_coeffs);
-    xor_words(shares.z0, mask_words);
-    xor_words(shares.z1, mask_words);
+    add_to(shares.s0, masks.coeffs);
+    sub_from(shares.s1, masks.coeffs);
+    xor_words(shares.z0, masks.words);
+    xor_words(shares.z1, masks.words);
 }
 
 // The coefficients of both shares are below q.
@@ -47,23 +47,17 @@ fn are_reduced(shares: &SharesMut) -> bool
 }
 
 // Refreshing for a parameter set.
-fn refresh_at(
-    p: Parameters,
-    mask_coeffs: &[u16],
-    mask_words: &[u64],
-    shares: &mut SharesMut,
-    count: &mut u32,
-) -> Answer
+fn refresh_at(p: Parameters, masks: &Masks, shares: &mut SharesMut, count: &mut u32) -> Answer
     requires { Fits p }
     ensures kept { SharesStayLent shares.old shares.new }
-    ensures refreshed { Refreshed p mask_coeffs.now mask_words.now
+    ensures refreshed { Refreshed p masks.now.coeffs.now masks.now.words.now
         (s_lent shares.old) (z_lent shares.old) count.old (number result)
         (s_lent shares.new) (z_lent shares.new) count.new }
 {
     let n = 256 * p.k;
     let has = [
-        mask_coeffs.len(),
-        mask_words.len(),
+        masks.coeffs.len(),
+        masks.words.len(),
         shares.s0.len(),
         shares.s1.len(),
         shares.z0.len(),
@@ -73,35 +67,23 @@ fn refresh_at(
     if !exact(&has, &wants) {
         return Err(Refusal::WrongLength);
     }
-    if !reduced(mask_coeffs) {
+    if !reduced(masks.coeffs) {
         return Err(Refusal::MaskRange);
     }
     if !are_reduced(shares) {
         return Err(Refusal::ShareRange);
     }
-    move_shares(mask_coeffs, mask_words, shares);
+    move_shares(masks, shares);
     *count = 0;
     Ok(())
 }
 
 // Refreshing for the parameter set of a rank.
-pub fn refresh(
-    rank: u32,
-    mask_coeffs: &[u16],
-    mask_words: &[u64],
-    shares: &mut SharesMut,
-    count: &mut u32,
-) -> Answer
+pub fn refresh(rank: u32, masks: &Masks, shares: &mut SharesMut, count: &mut u32) -> Answer
     ensures kept { SharesStayLent shares.old shares.new }
-    ensures refreshed { RefreshedBy rank mask_coeffs.now mask_words.now
+    ensures refreshed { RefreshedBy rank masks.now.coeffs.now masks.now.words.now
         (s_lent shares.old) (z_lent shares.old) count.old (number result)
         (s_lent shares.new) (z_lent shares.new) count.new }
 {
-    refresh_at(
-        Parameters::try_from(rank)?,
-        mask_coeffs,
-        mask_words,
-        shares,
-        count,
-    )
+    refresh_at(Parameters::try_from(rank)?, masks, shares, count)
 }

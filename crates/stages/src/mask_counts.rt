@@ -44,6 +44,7 @@ pub fn stage5_words(p: Parameters) -> usize
     noise_sum(p.k, noise_words(p.eta1), noise_words(p.eta2))
 }
 
+// Noise's sum, of coefficients; stage 7's is a ciphertext's, of words.
 pub fn stage5_coeffs(p: Parameters) -> usize
     requires { Fits p }
     ensures value { result ≡ stage5_coeffs p }

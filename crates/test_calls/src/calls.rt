@@ -38,7 +38,7 @@ impl TryFrom<u32> for Call {
 }
 
 impl Call {
-    // The number of its answer.
+    // The number of its answer; the one place that goes by the call.
     fn answer(self, r: Record, m: &Memory, left: &mut Left) -> u64 {
         match self {
             Call::Keygen => keys::keygen(r, m, left),

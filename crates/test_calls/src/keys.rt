@@ -16,7 +16,7 @@ pub(crate) fn keygen(r: Record, m: &Memory, left: &mut Left) -> u64 {
     ))
 }
 
-// ct and k; edition and rank, ek, m.
+// ct and k; edition and rank, ek, m. The same operands as keygen's, in another call.
 pub(crate) fn encaps(r: Record, m: &Memory, left: &mut Left) -> u64 {
     number(mlkem_encaps::encaps(
         r.edition(9),

@@ -2,7 +2,7 @@
 // 8.
 use crate::left::Left;
 use refusals::number;
-use split_key::{KeyStateMut, SharesMut};
+use split_key::{KeyStateMut, Masks, SharesMut};
 use test_memory::memory::{Memory, element};
 use test_memory::record::Record;
 
@@ -18,8 +18,10 @@ pub(crate) fn import(r: Record, m: &Memory, left: &mut Left) -> u64 {
     let answer = number(split_key_import::import(
         r.high(9),
         r.lent(10, &m.bytes),
-        r.lent(11, &m.coefficients),
-        r.lent(12, &m.words),
+        &Masks {
+            coeffs: r.lent(11, &m.coefficients),
+            words: r.lent(12, &m.words),
+        },
         r.low(9),
         &mut KeyStateMut {
             s0: r.taken(3, &m.coefficients, &mut left.c0),
@@ -41,8 +43,10 @@ pub(crate) fn refresh(r: Record, m: &Memory, left: &mut Left) -> u64 {
     let mut count = number_of(r, 8, m);
     let answer = number(split_key_refresh::refresh(
         r.high(9),
-        r.lent(10, &m.coefficients),
-        r.lent(11, &m.words),
+        &Masks {
+            coeffs: r.lent(10, &m.coefficients),
+            words: r.lent(11, &m.words),
+        },
         &mut SharesMut {
             s0: r.taken(3, &m.coefficients, &mut left.c0),
             s1: r.taken(4, &m.coefficients, &mut left.c1),

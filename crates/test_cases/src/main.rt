@@ -56,7 +56,7 @@ fn read_name(input: &mut File) -> Result<Name, Damaged> {
     Ok(name)
 }
 
-// Records have 262,144 bytes at most.
+// Records have 262,144 bytes at most, for which there is room, as there is no heap.
 fn read_case(input: &mut File, memory: &mut Memory) -> Result<Outcome, Damaged> {
     let mut buffer = [0u8; 262144];
     let n = read_length(input, 262144)?;

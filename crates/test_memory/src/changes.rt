@@ -2,7 +2,7 @@
 use crate::elements::Element;
 use crate::failure::{Failure, Outcome};
 use crate::hashes::HashFunction;
-use crate::memory::{Memory, element, load, part, part_mut, place, set, store, whole_part};
+use crate::memory::{Memory, element, load, part, part_mut, place, set, store};
 use crate::record::Record;
 use buffers::values::reduce;
 
@@ -100,7 +100,7 @@ fn set_odd(b: &mut [u8], at: usize, v: u32) -> Outcome {
     first.and(set(b, place(at, 2), low_byte(v / 16)))
 }
 
-// Element i of the string that begins at a place.
+// Element i of the string that begins at a place; the one place that goes by the width.
 fn set_element(b: &mut [u8], width: Width, at: usize, i: usize, v: u32) -> Outcome {
     let j = i % 65536;
     match width {
@@ -132,7 +132,11 @@ pub(crate) fn squeeze(r: Record, m: &mut Memory) -> Outcome {
 fn load_elements<T: Element>(r: Record, bytes: &[u8], memory: &mut [T]) -> Outcome {
     let out = part_mut(memory, r.start(0), r.count(0))?;
     let length = T::BYTES.checked_mul(out.len()).ok_or(Failure::Outside)?;
-    T::get(whole_part(bytes, r.start(1), length)?, out);
+    let source = part(bytes, r.start(1), length);
+    if source.len() != length {
+        return Err(Failure::Outside);
+    }
+    T::get(source, out);
     Ok(())
 }
 

@@ -22,7 +22,7 @@ impl From<u32> for HashFunction {
 }
 
 impl HashFunction {
-    // The number of its answer; the SHAKEs refuse nothing.
+    // The number of its answer; the SHAKEs refuse nothing. The one place that goes by the hash.
     pub fn digest(self, message: &[u8], out: &mut [u8]) -> u64 {
         match self {
             HashFunction::Sha3_256 => number(fips202::sha3_256(message, out)),

@@ -51,6 +51,7 @@ impl TryFrom<u32> for Kind {
 }
 
 impl Kind {
+    // The one place that goes by the kind.
     pub fn carry_out(self, r: Record, m: &mut Memory) -> Outcome {
         match self {
             Kind::Write => changes::write(r, m),

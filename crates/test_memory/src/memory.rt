@@ -37,13 +37,6 @@ pub fn part<T>(s: &[T], at: usize, n: usize) -> &[T]
     rest.get(..n).unwrap_or(rest)
 }
 
-pub fn whole_part<T>(s: &[T], at: usize, n: usize) -> Result<&[T], Failure>
-    ensures { IfOk result (λ p. length p.now ≡ n) }
-{
-    let rest = s.get(at..).ok_or(Failure::Outside)?;
-    rest.get(..n).ok_or(Failure::Outside)
-}
-
 pub fn part_mut<T>(s: &mut [T], at: usize, n: usize) -> Result<&mut [T], Failure>
     ensures { IfOk result (λ p. length p.now ≡ n) }
 {

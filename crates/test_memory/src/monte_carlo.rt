@@ -43,6 +43,7 @@ fn length_at(m: &Memory, at: usize) -> usize
 }
 
 pub(crate) fn chain(r: Record, m: &mut Memory) -> Outcome {
+    // Room for the longest output, as there is no heap.
     let mut out = [0u8; 250];
     let state = r.start(2);
     let last = length_at(m, state);

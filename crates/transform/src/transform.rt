@@ -69,8 +69,8 @@ impl Direction for Inverse {
     }
 }
 
-// lines 7 to 11: the len pairs from start on. By place: what is written through two halves zipped isn't known to a proof
-// in the end.
+// lines 7 to 11: the len pairs from start on. By place: what is written through two halves zipped isn't known to a
+// proof in the end.
 fn block_at<D: Direction>(f: &mut [u16], z: u16, len: usize, start: usize)
     requires { (start + 2 * len ≤ length f.old) × (z < q) }
     ensures { f.new ≡ pairs D.pair z len start f.old }

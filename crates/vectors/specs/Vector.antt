@@ -1,19 +1,12 @@
 -- FIPS 203, sections 2.4.6 and 2.4.7: vectors of polynomials. A vector is a function of its index, or one list with its
 -- polynomials one after the other.
-use Rattle.std.specs.Prelude.{List, [], ◌++◌, ℕ, zero, suc, ◌*◌, take, drop, replicate}
+use Rattle.std.specs.Prelude.{List, ℕ, replicate}
 use Rattle.words.specs.Iterate.{iterate}
+pub use Rattle.slices.specs.Parts.{parts}
+unfoldable pub use Rattle.slices.specs.Parts.{concat}
 use Rattle.codec.specs.Bytes.{byte_decode}
 use Rattle.ring.specs.Polynomial.{add}
 use Rattle.transform.specs.Transform.{multiply_ntts}
-
--- the k parts of n elements of a list
-abbrev pub parts : ℕ → List ℕ → ℕ → List ℕ
-parts n l i = take n (drop (n * i) l)
-
--- f 0, f 1, .., f (k - 1), one after the other
-unfoldable pub concat : ℕ → (ℕ → List ℕ) → List ℕ
-concat zero f = []
-concat (suc k) f = concat k f ++ f k
 
 -- the coefficients that an encoded vector holds, as they stand: ByteDecode_12 (algorithm 6) before it reduces them,
 -- what the modulus check of section 7.2 looks at

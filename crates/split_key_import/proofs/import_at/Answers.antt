@@ -30,7 +30,7 @@ unfolding import_answer
 returns-then-not-exact-clause-imported c =
     let s = c.args in
     let key = key_lent s.state.now in
-    let sizes = row1 s.p s.dk.now s.mask_coeffs.now s.mask_words.now key in
+    let sizes = row1 s.p s.dk.now s.masks.now.coeffs.now s.masks.now.words.now key in
     let tested = sizes c.dk_bytes.ensures c.ek_bytes-m.ensures c.exact.ensures in
     import_refused s.p WrongLength _ _ _ _ _ (row1_refused tested _ (ap not c.if-not-exact.true))
 
@@ -38,7 +38,7 @@ pub import_sized-requires : goal.import_sized-requires
 import_sized-requires c =
     let s = c.args in
     let key = key_lent s.state.now in
-    let sizes = row1 s.p s.dk.now s.mask_coeffs.now s.mask_words.now key in
+    let sizes = row1 s.p s.dk.now s.masks.now.coeffs.now s.masks.now.words.now key in
     let tested = sizes c.dk_bytes.ensures c.ek_bytes-m.ensures c.exact.ensures in
     let e = row1_exact tested (ap not c.if-not-exact.false) in
     let k = e.1.1.1 in (

@@ -40,7 +40,7 @@ returns-clause-imported c =
     let i = c.args in
     let n = c.vector_bytes-n in
     let m = c.ek_bytes.ensures in
-    let w = i.mask_words.now in
+    let w = i.masks.now.words.now in
     let split-z : List ℕ → SharedList = λ l. shared_list w (tab 4 (λ i. xor (lane_of l i) (get_or w i 0))) in
     let secret : n.result - 0 ≡ vector_bytes i.p = omega (arith, n.ensures) in
     ap (λ (key : SplitKey). key_state key i.limit 0)

@@ -3,7 +3,7 @@ use mathlib.Core.Path.{refl, ◌∙◌}
 use Prim.Native.Nat.{◌*◌}
 use native.Mathlib.Omega.{arith}
 use Rattle.words.specs.Part.{length_span}
-use Rattle.vectors.proofs.Concatenated.{concatenated_start, concatenated_turn, concatenated_end}
+use Rattle.slices.proofs.Concatenated.{concatenated_start, concatenated_turn, concatenated_end}
 use Rattle.masked_fips202.proofs.SharedInput.{bytes_concat}
 use Rattle.masked_fips202.proofs.shared_input.words_to_bytes.Goals as goal
 

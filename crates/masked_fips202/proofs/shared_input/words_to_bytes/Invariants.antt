@@ -2,7 +2,7 @@
 use mathlib.Core.Path.{◌≡◌}
 use lib.ListN.{length, get_or}
 use Rattle.words.specs.Numeral.{digits}
-use Rattle.vectors.proofs.Concatenated.{Concatenated}
+use Rattle.slices.proofs.Concatenated.{Concatenated}
 use Rattle.masked_fips202.proofs.shared_input.words_to_bytes.Given as goal
 
 -- i words written
