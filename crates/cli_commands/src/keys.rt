@@ -12,6 +12,7 @@ pub fn keygen(desk: &impl Desk, set: Sizes) -> Result<(), Told> {
     let mut z = [0u8; 32];
     read_exact(desk, 3, &mut d)?;
     read_exact(desk, 4, &mut z)?;
+    // Rooms for the largest set, as there is no heap.
     let mut ek = [0u8; 1568];
     let mut dk = [0u8; 3168];
     let ek: &mut [u8] = &mut ek[..set.ek];
@@ -23,11 +24,13 @@ pub fn keygen(desk: &impl Desk, set: Sizes) -> Result<(), Told> {
 
 // mlkem encaps SET EK M CT K
 pub fn encaps(desk: &impl Desk, set: Sizes) -> Result<(), Told> {
+    // Room for the largest set, as there is no heap.
     let mut ek = [0u8; 1568];
     let mut m = [0u8; 32];
     let ek: &mut [u8] = &mut ek[..set.ek];
     read_exact(desk, 3, ek)?;
     read_exact(desk, 4, &mut m)?;
+    // Room for the largest set, as there is no heap.
     let mut ct = [0u8; 1568];
     let mut k = [0u8; 32];
     let ct: &mut [u8] = &mut ct[..set.ct];

@@ -18,6 +18,7 @@ impl Inputs {
     // The files of arguments 3, 4 and 5.
     pub fn read(desk: &impl Desk, set: Sizes) -> Result<Self, Told> {
         let key = SplitKey::read(desk, 3, set)?;
+        // Room for the largest set, as there is no heap.
         let mut ct = [0u8; 1568];
         read_exact(desk, 4, &mut ct[..set.ct])?;
         let mut strip = Strip::zeros(set);

@@ -29,6 +29,7 @@ fn encapsulate(
     requires { (length dk.old ≡ set.dk) × (length ct.old ≡ set.ct) }
 {
     let e = set.edition;
+    // Room for the largest set, as there is no heap.
     let mut ek = [0u8; 1568];
     let mut secret = [0u8; 32];
     let ek: &mut [u8] = &mut ek[..set.ek];
@@ -41,6 +42,7 @@ fn encapsulate(
 }
 
 pub fn run_key(desk: &impl Desk, set: Sizes, drawn: &Drawn) -> Result<(), Told> {
+    // Rooms for the largest set, as there is no heap.
     let mut dk = [0u8; 3168];
     let mut ct = [0u8; 1568];
     let dk: &mut [u8] = &mut dk[..set.dk];

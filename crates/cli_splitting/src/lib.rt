@@ -14,6 +14,7 @@ pub mod calls; // the calls, on a split key
 // mlkem import SET DK MASKS LIMIT SPLIT
 pub fn import(desk: &impl Desk, set: Sizes) -> Result<(), Told> {
     let limit = arguments::number(desk, 5, u32::MAX as u64)? as u32;
+    // Room for the largest set, as there is no heap.
     let mut dk = [0u8; 3168];
     let dk: &mut [u8] = &mut dk[..set.dk];
     let mut masks = Masks::zeros(set);

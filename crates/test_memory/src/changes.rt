@@ -43,6 +43,7 @@ pub(crate) fn copy(r: Record, m: &mut Memory) -> Outcome {
     let t = element(&m.words, r.count(1));
     let to = place_at(r.start(0), r.low(1), t);
     let from = place_at(r.start(2), r.high(2), t);
+    // Room for the longest, as there is no heap.
     let mut held = [0u8; 4096];
     load(&m.bytes, from, &mut held);
     store(r.first(0, &held), &mut m.bytes, to)
@@ -51,6 +52,7 @@ pub(crate) fn copy(r: Record, m: &mut Memory) -> Outcome {
 // ---- JOIN: a buffer, another
 
 pub(crate) fn join(r: Record, m: &mut Memory) -> Outcome {
+    // Room for the longest, as there is no heap.
     let mut both = [0u8; 4096];
     load(r.lent(0, &m.bytes), 0, &mut both);
     for (x, y) in both.iter_mut().zip(part(&m.bytes, r.start(1), r.count(0))) {
@@ -121,6 +123,7 @@ pub(crate) fn set_in_string(r: Record, m: &mut Memory) -> Outcome {
 // ---- SQUEEZE: a buffer, the hash, the message
 
 pub(crate) fn squeeze(r: Record, m: &mut Memory) -> Outcome {
+    // Room for the longest, as there is no heap.
     let mut buffer = [0u8; 170000];
     let out = r.first_mut(0, &mut buffer);
     HashFunction::from(r.low(1)).digest(r.lent(2, &m.bytes), out);
@@ -186,6 +189,7 @@ pub(crate) fn count(r: Record, m: &mut Memory) -> Outcome {
 // ---- ABSORB: a digest, a buffer
 
 pub(crate) fn absorb(r: Record, m: &mut Memory) -> Outcome {
+    // Room for the longest, as there is no heap.
     let mut feed = [0u8; 16032];
     let mut digest = [0u8; 32];
     let at = r.start(0);
