@@ -31,9 +31,6 @@ pub record Repacked (a b : ℕ) (s t : List ℕ) (i k n acc : ℕ) : Type 0 wher
 pub record Loaded (a b : ℕ) (s : List ℕ) (i₀ n₀ acc₀ i n acc : ℕ) : Type 0 where
   pub keeps : (t : List ℕ) (k : ℕ) → Repacked a b s t i₀ k n₀ acc₀ → Repacked a b s t i k n acc
 
-pub loaded_start : {a b i n acc : ℕ} {s : List ℕ} → Loaded a b s i n acc i n acc
-loaded_start = record { keeps = λ t k r. r }
-
 pub repacked_start : (a b : ℕ) (s t : List ℕ) → Repacked a b s t 0 0 0 0
 unfolding bits_of digits
 repacked_start a b s t = record { room = omega arith; count = omega arith; below = below_nil (pow_pos b); same = refl }

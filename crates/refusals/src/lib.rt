@@ -36,8 +36,8 @@ pub fn number(answer: Answer) -> u64
     }
 }
 
-// Row 1: the lengths that the lent buffers have are those that they must have. By the definition, where `==` would say it
-// in other words.
+// Row 1: the lengths that the lent buffers have are those that they must have. By the definition, where `==` would say
+// it in other words.
 pub fn exact(has: &[usize], wants: &[usize]) -> bool
     requires { length has.now ≡ length wants.now }
     ensures { result ≡ same has.now wants.now }

@@ -9,7 +9,3 @@ pub use hex::print_hex;
 pub fn print(rt: &impl Print, text: &[u8]) {
     let _ = rt.write_all(text);
 }
-
-pub fn print_decimal(rt: &impl Print, n: u64) {
-    let _ = rt.print(n);
-}
