@@ -6,8 +6,9 @@ A tree is a tuple: ("num", text), ("name", n), ("path", text), ("call", path, ar
 iterator, block), ("while", condition, block), ("if", condition, block, block), ("match", x, arms), ("return", x), ("block", items), which a `loop` is too.
 The names are those of a pattern, in a list. What isn't read by these forms is an error.
 
-A method, and an operator on a struct, is followed by the type of what it is called on, as far as parameters, fields and results tell it; a function of a
-type parameter's trait is each of the trait's types'.
+A method, and `^` on a struct, is followed by the type of what it is called on, as far as parameters, fields and results tell it; a function of a
+type parameter's trait is each of the trait's types'. What is called and is no crate's function is the library's.
+Another operator's impl is an error.
 """
 import re
 
@@ -16,12 +17,6 @@ CONTRACT = re.compile(r"\b(?:requires|ensures)(?:\s+\w+)?\s*\{")
 STRING = re.compile(r'"(?:[^"\\\n]|\\.)*"')
 # what the program asks of the runtime: files, streams and arguments
 OUTSIDE = re.compile(r"^pub trait \w+[^{;]*\{|^impl \w+ for HostRuntime \{", re.M)
-# methods of std that neither decide nor index by what the elements are
-LENGTHS, COPIES = {"len", "is_empty"}, {"copy_from_slice", "fill", "split_at", "split_at_mut"}
-ITEMS = {"iter", "iter_mut", "enumerate", "zip", "rev", "take", "skip", "step_by", "chunks", "chunks_exact", "copied"}
-OPERATIONS = {"rotate_left", "saturating_sub"}  # which compute, as an operator does
-FOLLOWED = LENGTHS | COPIES | ITEMS | OPERATIONS | {"unwrap", "remainder", "to_le_bytes"}
-NUMBERS = {"u8", "u16", "u32", "u64", "usize"}  # types whose functions are std's
 LEVELS = [["||"], ["&&"], ["==", "!=", "<", ">", "<=", ">="], ["|"], ["^"], ["&"], ["<<", ">>"], ["+", "-"], ["*", "/", "%"]]
 
 
@@ -67,6 +62,7 @@ class Function:
         self.owner, self.bounds = owner, bounds  # the type of a method; a type parameter -> its trait
         self.path = "::".join([crate] + module + ([owner] if owner else []) + [name])
         self.start, self.body, self.calls = None, None, []  # calls: (path, arguments)
+        self.library = []  # what it calls of the library, a method with a dot before it, and functions that it names and doesn't call: (name, tree)
 
 
 class Parser:
@@ -112,8 +108,10 @@ class Parser:
         return "".join(out).replace("mut", "mut ")
 
     def pattern(self, *ends):
-        """The names that a pattern binds, in order."""
-        return [t for t in re.findall(r"[a-z_]\w*", self.typed(*ends).replace("mut ", " ")) if t not in ("ref", "mut")]
+        """The names that a pattern binds, in order; a struct's fields aren't among what is read."""
+        if "{" in (text := self.typed(*ends).replace("mut ", " ")):
+            raise SystemExit(f"{self.where}: a pattern of a struct isn't read: {text}")
+        return [t for t in re.findall(r"[a-z_]\w*", text) if t not in ("ref", "mut")]
 
     def listed(self, end, item):
         items = []
@@ -350,6 +348,8 @@ class Source:
             parser.take(">")
         head = parser.typed("{").replace("for", " for ", 1) if token == "impl" else parser.typed("{")
         trait, _, owner = head.rpartition(" for ")
+        if re.match(r"(Add|Sub|Mul|Div|Rem|Neg|Not|BitAnd|BitOr|Shl|Shr|Index|Deref|\w*Assign)", last(trait)):
+            raise SystemExit(f"{parser.where}: the operator {last(trait)} isn't followed")
         if trait:
             self.traits.setdefault(last(trait), set()).add(last(owner))
         parser.take("{")
@@ -371,13 +371,17 @@ class Source:
             while parser.next() in ("&", "mut"):
                 parser.take()
             param = parser.take()
-            params.append((param, parser.typed(",", ")") if parser.skip(":") else owner or "Self"))
+            if param != "self":
+                parser.take(":")
+            params.append((param, parser.typed(",", ")") if param != "self" else owner or "Self"))
             parser.skip(",")
         result = parser.until("{", ";") if parser.skip("->") else ""
         if parser.skip(";"):
             return
         f = Function(crate, module, owner, name, params, owner if result == "Self" else result, bounds)
         f.start = parser, parser.at
+        if f.path in self.functions or name in self.methods.get(owner, {}):
+            raise SystemExit(f"{parser.where}: {f.path} stands twice")
         if owner is not None:
             self.functions[f.path] = f
         if owner:
@@ -430,7 +434,7 @@ class Source:
             types = self.traits.get(f.bounds[first], ()) if first in f.bounds else [f.owner if first == "Self" else last(first)]
             found = [self.methods[t][name] for t in sorted(types) if t and name in self.methods.get(t, {})]
             to = self.resolve(f, x[1])
-            return found or [to] * (to in self.functions)
+            return found if found and len(found) == len(types) else [to] * (to in self.functions)
         name = x[2] if x[0] == "method" else {"^": "bitxor"}.get(x[1]) if x[0] == "bin" else None
         to = name and self.methods.get(last(self.kind(f, x[1] if x[0] == "method" else x[2])), {}).get(name)
         return [to] if to else []
@@ -443,20 +447,19 @@ class Source:
             f.body = parser.block()
             f.kinds = dict(f.params)
             handed = set(f.kinds)  # a closure among them is followed where it is made
+            here = self.names["::".join([f.crate] + f.module)].keys() - handed - {n for x in nodes(f.body) if x[0] in ("let", "for", "closure") for n in x[1]}
             for node in nodes(f.body):
                 if node[0] == "let" and len(node[1]) == 1:
                     f.kinds[node[1][0]] = self.kind(f, node[2])
+                if node[0] == "path" or node[0] == "name" and node[1] in here:
+                    to = self.resolve(f, node[1])
+                    f.library += [(to, node)] * (to in self.functions or to.split("::")[-1][0].islower())
                 if node[0] not in ("call", "method", "bin") or node[0] == "call" and node[1] in handed:
                     continue
                 found = self.called(f, node)
                 f.calls += [(to, node[2] if node[0] == "call" else [node[1]] + node[3] if node[0] == "method" else list(node[2:])) for to in found]
-                if node[0] == "call" and not found:
-                    to = self.resolve(f, node[1])
-                    of = "::".join(to.split("::")[:-1])
-                    if to not in ("Ok", "Err", "Some") and not to.startswith("std::") and of not in NUMBERS and to not in self.types and of not in self.types:
-                        raise SystemExit(f"{path}: {node[1]} is called, and no crate has it")
-                if node[0] == "method" and not found and node[2] not in FOLLOWED:
-                    raise SystemExit(f"{path}: the method {node[2]} isn't followed")
+                if node[0] != "bin" and not found:
+                    f.library.append((self.resolve(f, node[1]) if node[0] == "call" else "." + node[2], node))
         return f
 
     def below(self, path):

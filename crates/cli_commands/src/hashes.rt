@@ -78,14 +78,26 @@ fn print_hash(desk: &impl Desk, hash: Hash, out: &mut [u8]) -> Result<(), Told> 
     print_hex(desk, out).map_err(|e| messages::failed(desk, b"standard output", e))
 }
 
-// A digest, or as many bytes as argument 3 says.
-//
-// mlkem sha3-256 FILE, mlkem sha3-512 FILE, mlkem shake128 FILE LENGTH, mlkem shake256 FILE LENGTH
-pub fn run(desk: &impl Desk, hash: Hash) -> Result<(), Told> {
-    let n = match hash.digest_bytes() {
-        Some(n) => n,
-        None => arguments::number(desk, 3, MOST as u64)? as usize,
-    };
+// A digest of n bytes.
+fn print_digest(desk: &impl Desk, hash: Hash, n: usize) -> Result<(), Told>
+    requires { n ≤ 64 }
+{
+    let mut out = [0u8; 64];
+    print_hash(desk, hash, &mut out[..n])
+}
+
+// As many bytes as argument 3 says.
+fn print_some(desk: &impl Desk, hash: Hash) -> Result<(), Told> {
+    let n = arguments::number(desk, 3, MOST as u64)? as usize;
     let mut out = zeros();
     print_hash(desk, hash, &mut out[..n])
+}
+
+// mlkem sha3-256 FILE, mlkem sha3-512 FILE, mlkem shake128 FILE LENGTH, mlkem shake256 FILE LENGTH
+#[inline(never)] // so that its rooms are on no other command's stack
+pub fn run(desk: &impl Desk, hash: Hash) -> Result<(), Told> {
+    match hash.digest_bytes() {
+        Some(n) => print_digest(desk, hash, n),
+        None => print_some(desk, hash),
+    }
 }

@@ -49,17 +49,21 @@ fn write_shares(
 }
 
 // mlkem decaps SET SPLIT CT STRIP SHARES
+#[inline(never)] // so that its rooms are on no other command's stack
 pub fn decaps(desk: &impl Desk, set: Sizes) -> Result<(), Told> {
     differ_at(desk, 3, 6)?;
-    let Inputs { mut key, ct, strip } = Inputs::read(desk, set)?;
+    let mut strip = Strip::zeros(set);
+    let Inputs { mut key, ct } = Inputs::read(desk, set, &mut strip)?;
     let path = path_at(desk, 6)?;
     write_shares(desk, &path, &mut key, &ct[..set.ct], &strip)
 }
 
 // mlkem trace SET SPLIT CT STRIP STEP
+#[inline(never)] // as decaps
 pub fn trace(desk: &impl Desk, set: Sizes) -> Result<(), Told> {
     let step = arguments::number(desk, 6, u64::MAX)?;
-    let Inputs { key, ct, strip } = Inputs::read(desk, set)?;
+    let mut strip = Strip::zeros(set);
+    let Inputs { key, ct } = Inputs::read(desk, set, &mut strip)?;
     let value = calls::trace(desk, &key, &ct[..set.ct], &strip, step)?;
     let _ = desk.print(value);
     desk.write_all(b"\n")

@@ -29,20 +29,19 @@ impl Drawn {
     {
         let strip_at = 512 * set.k + 128;
         let fresh_at = strip_at + 8 * set.words + 2 * set.coeffs;
-        let mut masks = Masks::zeros(set);
-        let mut strip = Strip::zeros(set);
-        let mut fresh = Masks::zeros(set);
-        masks.unpack(&draws[96..strip_at]);
-        masks.reduce();
-        strip.unpack(&draws[strip_at..fresh_at]);
-        strip.reduce();
-        fresh.unpack(&draws[fresh_at..]);
-        fresh.reduce();
-        Drawn {
+        // Made before they are filled, so that none is moved.
+        let mut drawn = Drawn {
             seeds: seeds_of(draws),
-            masks,
-            strip,
-            fresh,
-        }
+            masks: Masks::zeros(set),
+            strip: Strip::zeros(set),
+            fresh: Masks::zeros(set),
+        };
+        drawn.masks.unpack(&draws[96..strip_at]);
+        drawn.masks.reduce();
+        drawn.strip.unpack(&draws[strip_at..fresh_at]);
+        drawn.strip.reduce();
+        drawn.fresh.unpack(&draws[fresh_at..]);
+        drawn.fresh.reduce();
+        drawn
     }
 }

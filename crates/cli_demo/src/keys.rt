@@ -12,9 +12,9 @@ use cli_support::sets::Sizes;
 fn print_encapsulated(desk: &impl Desk, ek: &[u8], dk: &[u8], ct: &[u8], secret: &[u8])
     requires { (16 ≤ length ek.now) × (16 ≤ length dk.now) × (16 ≤ length ct.now) }
 {
-    print_start(desk, "public key", ek);
-    print_start(desk, "decapsulation key", dk);
-    print_start(desk, "ciphertext", ct);
+    print_start(desk, b"public key", ek);
+    print_start(desk, b"decapsulation key", dk);
+    print_start(desk, b"ciphertext", ct);
     print_bytes(desk, b"encapsulation's K: ", secret);
 }
 

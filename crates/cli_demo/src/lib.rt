@@ -41,6 +41,7 @@ fn room() -> [u8; 144736]
 }
 
 // mlkem demo SET
+#[inline(never)] // so that its rooms are on no other command's stack
 pub fn demo(desk: &impl Desk, set: Sizes) -> Result<(), Told> {
     let mut draws = room();
     let n = 1024 * set.k + 160 + (8 * set.words + 2 * set.coeffs);

@@ -9,10 +9,11 @@ pub fn print_bytes(rt: &impl Print, name: &[u8], b: &[u8]) {
 }
 
 // Its length and its first 16 bytes.
-pub fn print_start(rt: &impl Print, name: &str, b: &[u8])
+pub fn print_start(rt: &impl Print, name: &[u8], b: &[u8])
     requires { 16 ≤ length b.now }
 {
-    let _ = print!(rt; "{name}, {} bytes, begins ", b.len());
+    print(rt, name);
+    let _ = print!(rt; ", {} bytes, begins ", b.len());
     let _ = print_hex(rt, &b[..16]);
 }
 

@@ -6,17 +6,20 @@ ghost use Rattle.fips202.specs.Sponge.{byte_of, squeezed};
 use crate::bytes;
 use keccak::state::State;
 
-// The first bytes of the state, by way of all 200.
+// The first bytes of the state, whole lanes first, each to its place alone. By place: what is written through
+// `chunks_mut` isn't known to a proof in the end.
 pub fn extract(s: State, out: &mut [u8])
     requires { length out.old ≤ 200 }
     ensures { out.new ≡ tab (length out.old) (byte_of s.lanes) }
 {
-    let mut b = [0u8; 200];
-    for (j, lane) in s.lanes.iter().enumerate() {
-        let a = 8 * j;
-        bytes::store(*lane, &mut b[a..a + 8]);
+    let n = out.len();
+    let whole = n / 8;
+    for j in 0..whole {
+        bytes::store(s.lanes[j], &mut out[8 * j..8 * j + 8]);
     }
-    out.copy_from_slice(&b[..out.len()]);
+    for i in 8 * whole..n {
+        out[i] = bytes::byte(s.lanes[i / 8], i % 8);
+    }
 }
 
 // Steps 7 to 10: a block of output, and a permutation while more than a block is wanted. By place: what is written

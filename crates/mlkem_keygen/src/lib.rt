@@ -14,6 +14,7 @@ use kpke::matrix::expand;
 use mlkem::seeds;
 use parameters::{Edition, Parameters, dk_bytes, ek_bytes, vector_bytes};
 use refusals::{Answer, Refusal, exact};
+use slices::copy_bytes;
 
 // Algorithm 16, line 3, what follows K-PKE's key: ek || H(ek) || z.
 fn write_rest(ek: &[u8], z: &[u8], rest: &mut [u8])
@@ -22,9 +23,9 @@ fn write_rest(ek: &[u8], z: &[u8], rest: &mut [u8])
 {
     let h = ek.len();
     let e = h + 32;
-    rest[0..h].copy_from_slice(ek);
+    copy_bytes(ek, &mut rest[0..h]);
     hash_h(ek, &mut rest[h..e]);
-    rest[e..].copy_from_slice(z);
+    copy_bytes(z, &mut rest[e..]);
 }
 
 // Algorithm 16, lines 1 to 3, for the matrix A-hat in a and the seeds rho || sigma in g that K-PKE's keys come from.

@@ -6,19 +6,24 @@ ghost use Rattle.std.specs.Prelude.{List, ◌++◌, ◌≡◌, ◌+◌, ◌*◌,
 ghost use Rattle.words.specs.Tab.{tab};
 ghost use Rattle.slices.specs.Parts.{parts, concat};
 
-// A line over std's copy_from_slice, as the next: docs/shares.md names both.
+// A loop, as the next: std's copy_from_slice is a memmove where the compiler can't tell source and target apart, and
+// the library for C is to need no more than memcpy and memset from outside. docs/shares.md names both.
 pub fn copy_bytes(s: &[u8], out: &mut [u8])
     requires { length s.now ≡ length out.old }
     ensures { out.new ≡ s.now }
 {
-    out.copy_from_slice(s);
+    for (i, x) in out.iter_mut().enumerate() {
+        *x = s[i];
+    }
 }
 
 pub fn copy_coefficients(s: &[u16], out: &mut [u16])
     requires { length s.now ≡ length out.old }
     ensures { out.new ≡ s.now }
 {
-    out.copy_from_slice(s);
+    for (i, x) in out.iter_mut().enumerate() {
+        *x = s[i];
+    }
 }
 
 // s || t.

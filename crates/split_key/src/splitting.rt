@@ -11,6 +11,7 @@ ghost use Rattle.split_key.specs.Sized.{SharingInput};
 
 use fips202::bytes::load;
 use ring::sub_from;
+use slices::{copy_bytes, copy_coefficients, tabulate};
 use vectors::decode_all;
 
 // The shares of the coefficients that b encodes.
@@ -21,7 +22,7 @@ pub fn split_coefficients(b: &[u8], k: usize, mask_coeffs: &[u16], s0: &mut [u16
         mask_coeffs.now
         (sub (coefficients k b.now) mask_coeffs.now) }
 {
-    s0.copy_from_slice(mask_coeffs);
+    copy_coefficients(mask_coeffs, s0);
     decode_all(b, k, s1);
     sub_from(s1, mask_coeffs);
 }
@@ -34,7 +35,7 @@ pub fn split_words(z: &[u8], mask_words: &[u64], z0: &mut [u64], z1: &mut [u64])
         mask_words.now
         (tab 4 (λ i. xor (lane_of z.now i) (get_or mask_words.now i 0))) }
 {
-    z0.copy_from_slice(mask_words);
+    tabulate(z0, |i| mask_words[i]);
     for (i, word) in z1.iter_mut().enumerate() {
         *word = load(&z[8 * i..8 * i + 8]) ^ mask_words[i];
     }
@@ -45,5 +46,5 @@ pub fn copy_public(dk: &[u8], s: usize, e: usize, public: &mut [u8])
     requires { (s ≤ e) × (e ≤ length dk.now) × (length public.old ≡ e - s) }
     ensures { public.new ≡ take (e - s) (drop s dk.now) }
 {
-    public.copy_from_slice(&dk[s..e]);
+    copy_bytes(&dk[s..e], public);
 }

@@ -16,7 +16,7 @@ returns c =
     let d = length-append ek (sha3_256 ek) in
     let w = length_sha3_256 ek in
     let rest = overwritten_start {l = s.rest.now} in
-    let o₁ = overwritten_part rest 0 (length ek) refl (omega arith) (omega arith) c.copy_from_slice.ensures.after in
+    let o₁ = overwritten_part rest 0 (length ek) refl (omega arith) (omega arith) c.copy_bytes.ensures in
     let o₂ = overwritten_part o₁ (length ek) (length ek + 32) refl (omega arith) (omega arith) c.hash_h.ensures in
-    overwritten_last o₂ (length ek + 32) (omega arith) (omega arith) c.copy_from_slice-2.ensures.after
+    overwritten_last o₂ (length ek + 32) (omega arith) (omega arith) c.copy_bytes-2.ensures
     ∙ append_assoc ek (sha3_256 ek) s.z.now
