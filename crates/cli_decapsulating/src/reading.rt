@@ -6,7 +6,7 @@ use cli_support::sets::Sizes;
 use cli_support::split_file::SplitKey;
 use cli_support::strip_file::Strip;
 
-// The ciphertext is in room for the largest set's. The strip, the largest of the three by far, is read where it lies.
+// The ciphertext is in room for the largest set's. The strip, far larger than both, is read where it lies.
 #[derive(Drop)]
 pub struct Inputs {
     pub key: SplitKey,

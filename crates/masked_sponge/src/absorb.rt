@@ -103,8 +103,8 @@ fn whole_blocks(
     o
 }
 
-// The padded message, of which in0 and in1 are the shares, with 25 masks and 600 for each block. Its calls are borders of
-// stages in bench/stages.py.
+// The padded message, of which in0 and in1 are the shares, with 25 masks and 600 for each block. Its calls are borders
+// of stages in bench/stages.py.
 #[inline(never)]
 pub fn masked_absorb(
     rec: Recorder,

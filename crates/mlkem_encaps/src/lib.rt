@@ -115,7 +115,9 @@ fn encaps_in(
     Ok(())
 }
 
-// Row 1 passed. Key making's keygen_sized makes the same room, for another call with other contracts.
+// Row 1 passed. Key making's keygen_sized makes the same room, for another call with other contracts. Not inlined, so
+// that a call that is refused before doesn't have the room.
+#[inline(never)]
 fn encaps_sized(
     e: Edition,
     p: Parameters,
